@@ -1,0 +1,226 @@
+-- Demand 3 from bytes to bytes: one claim about a whole history of calls on a store's area and a whole list of arrivals at a mirror's. Assumes nothing.
+use mathlib.Core.Path.{_≡_, refl, sym, _∙_, ap, subst}
+use mathlib.Core.Bool.{Bool, true, false, _&&_}
+use mathlib.Core.List.{List, [], _∷_, map, List·Memᴰ}
+use mathlib.Core.Option.{Option, some}
+use Prim.Native.Nat.{ℕ, zero, suc, _^_, _≤_, _<_}
+use native.Mathlib.Omega.{arith}
+use lib.Dec.{eqb}
+use lib.ListN.{length, getD, take, length-map}
+use Rattle.model.specs.Base.{all, isSome}
+use Rattle.model.specs.Schema.{Schema, Database}
+use Rattle.model.specs.SchemaText.{readSchema}
+use Rattle.model.specs.Records.{Change, end, acts, Record, numbered, mark, numberFrom, encode, decode}
+use Rattle.model.specs.Mirror.{Mirror, fresh, step, through, numberOf, heardOf, highest, something}
+use Rattle.model.specs.Refusals.{isRefusal}
+use Rattle.model.specs.Areas.{Store, storeBytes, encodeStore, storeOf, tablesOf, tablesIn, mirrorBytes, encodeMirror, storeGood}
+use Rattle.model.specs.Calls.{Started, startAs, storeStart, mirrorStart, Progress, mirrorProgress}
+use Rattle.model.specs.Histories.{StoreCall, ofBytes, areaAfterAll, recordsOf, sentOf, changeIn, made, endsCommit, heardAll, Arrivals, heardNumbers}
+use Rattle.model.specs.History.{State, empty, Call, finally, changes, records, written}
+use Rattle.model.specs.Demand3 as OnStates
+use Rattle.model.specs.Demands.{Follows, Keeps, Demand3}
+use Rattle.model.specs.declared.Answer.the-variants.{Accepted, WrongLength, BadSchema, Applied}
+use Rattle.model.proofs.Tests.{clash}
+use Rattle.model.proofs.Lists.{all-take}
+use Rattle.model.proofs.TextUtf8.{by-test}
+use Rattle.model.proofs.Bytes.{Fits, Wide, decode-encode}
+use Rattle.model.proofs.Past.{past-chain, past-room, Told, tellMark, tell, told, unmap}
+use Rattle.model.proofs.Commits.{last-is}
+use Rattle.model.proofs.Demand3 as OfStates
+use Rattle.model.proofs.Demand3.{good-empty}
+use Rattle.model.proofs.SchemaLaws.{read-sane}
+use Rattle.model.proofs.Lengths.{AllFit, chain-fit, fit-wide}
+use Rattle.model.proofs.Areas.{store-of-encode, mirror-of-encode}
+use Rattle.model.proofs.Demand1.{look}
+use Rattle.model.proofs.States.{MirrorFine, mirror-whole, fresh-fine, store-whole, start-fine}
+use Rattle.model.proofs.StoreCalls.{storeAt, callOf, calls-keep}
+use Rattle.model.proofs.StoreHistory.{Lifted, lifted, said-changes, said-length, record-at, ends-same, map-take}
+use Rattle.model.proofs.MirrorArrivals.{mirrorAt, progress-is, arrivals-take, answer-at, area-at, good-at, came}
+
+-- ── a started store and a started mirror ──
+start-is : (bytes : ℕ) (area schema made : List ℕ) → startAs bytes area schema made .answer ≡ Accepted → (isSome (readSchema schema) ≡ true) × (startAs bytes area schema made .area ≡ made)
+start-is bytes area schema made =
+    by-test Right (eqb (length area) bytes) (λ e. by-test Right (isSome (readSchema schema)) (λ f h. (f, refl)) (λ f h. absurd (wrong h))) (λ e h. absurd (longer h))
+  where
+    Right : Started → Type 0
+    Right x = x .answer ≡ Accepted → (isSome (readSchema schema) ≡ true) × (x .area ≡ made)
+
+    wrong : BadSchema ≡ Accepted → ⊥
+    wrong z = let y : _≡_ {A = ℕ} 0 1 = cc in omega arith
+
+    longer : WrongLength ≡ Accepted → ⊥
+    longer z = let y : _≡_ {A = ℕ} 0 1 = cc in omega arith
+
+store-start : (old schema : List ℕ) (run : ℕ) → storeStart old schema run .answer ≡ Accepted
+    → (isSome (readSchema schema) ≡ true) × (storeStart old schema run .area ≡ encodeStore (storeAt schema run empty))
+unfolding storeStart
+store-start old schema run h = start-is storeBytes old schema (encodeStore (storeAt schema run empty)) h
+
+mirror-start : (old schema : List ℕ) (run : ℕ) → mirrorStart old schema run .answer ≡ Accepted → mirrorStart old schema run .area ≡ encodeMirror (mirrorAt schema run fresh)
+unfolding mirrorStart
+mirror-start old schema run h = start-is mirrorBytes old schema (encodeMirror (mirrorAt schema run fresh)) h .1
+
+fit-at : (es : List Change) (j : ℕ) → AllFit es → j < length es → Fits (getD es j end)
+fit-at [] j f h = absurd (omega arith)
+fit-at (e ∷ es) zero f h = f .0
+fit-at (e ∷ es) (suc j) f h = fit-at es j (f .1) (omega arith)
+
+carried : (l : Record) → Wide l → numberOf (some l) < 256 ^ 4 → numberOf (decode (encode l)) < 256 ^ 4
+carried l w h = rw (decode-encode l w) h
+
+same-some : {A : Type 0} (x y : A) (o : Option A) → o ≡ some x → o ≡ some y → x ≡ y
+same-some x y o p q = cc
+
+-- ── the history ──
+module _ (schema : List ℕ) (run : ℕ) (d : Database) (read : readSchema schema ≡ some d) (short : run < 256 ^ 4) (calls : List StoreCall) (bytes : all ofBytes calls ≡ true) where
+  abbrev s : Schema
+  s = d .tables
+
+  abbrev same : tablesIn schema ≡ s
+  same = ap tablesOf read
+
+  abbrev area : List ℕ
+  area = encodeStore (storeAt schema run empty)
+
+  abbrev history : List Call
+  history = map (callOf d) calls
+
+  abbrev R : List Change
+  R = changes s run empty history
+
+  abbrev recs : List (List ℕ)
+  recs = recordsOf area calls
+
+  start : storeGood (storeAt schema run empty) ≡ true
+  start = store-whole (storeAt schema run empty) (start-fine run schema short (ap isSome read))
+
+  keeps : OnStates.Keeps s history
+  keeps = calls-keep d (read-sane schema d read) calls bytes
+
+  all-fit : AllFit R
+  all-fit = chain-fit s R [] (finally s run empty history .rows) (past-chain s run empty history keeps (good-empty s))
+
+  few : length R ≤ 4294967295
+  few = omega (arith, past-room s run empty history (omega arith))
+
+  up-to : (j : ℕ) → Lifted schema run d empty (take j calls)
+  up-to j = lifted schema run d read empty (start) (take j calls) (all-take ofBytes j calls bytes)
+
+  all-calls : Lifted schema run d empty calls
+  all-calls = lifted schema run d read empty (start) calls bytes
+
+  records-are : recs ≡ map encode (numberFrom run 0 R)
+  records-are = all-calls .records
+
+  changes-are : map changeIn recs ≡ R
+  changes-are = ap (map changeIn) records-are ∙ said-changes run 0 R (fit-wide run 0 R short (omega (arith, few)) all-fit)
+
+  count : length recs ≡ length R
+  count = ap length records-are ∙ said-length run 0 R
+
+  -- the store after so many calls
+  abbrev after : ℕ → State
+  after j = finally s run empty (map (callOf d) (take j calls))
+
+  after-is : (j : ℕ) → finally s run empty (take j history) ≡ after j
+  after-is j = ap (finally s run empty) (sym (map-take (callOf d) j calls))
+
+  store-after : (j : ℕ) → storeOf (areaAfterAll area (take j calls)) ≡ some (storeAt schema run (after j))
+  store-after j = ap storeOf (up-to j .area) ∙ store-of-encode (storeAt schema run (after j)) (up-to j .good)
+
+  history-keeps : Keeps schema run area calls
+  history-keeps = record {
+    inOrder = λ j. (
+      storeAt schema run (after j),
+      store-after j,
+      refl,
+      refl,
+      last-is s run empty (map (callOf d) (take j calls)) ∙ omega (arith, said-length run 0 (changes s run empty (map (callOf d) (take j calls))), ap length (up-to j .records)),
+    );
+    laid = records-are ∙ ap (λ (es : List Change). map encode (numberFrom run 0 es)) (sym changes-are);
+  }
+
+  -- ── what is sent carries numbers of their width ──
+  told-wide : (l : Record) → Told run 0 R l → numberOf (decode (encode l)) < 256 ^ 4
+  told-wide l (tellMark k h) = let n : k < 256 ^ 4 = omega (arith, few) in carried (mark run k) (short, n) n
+  told-wide l (tell j k e h p q) =
+      let n : k < 256 ^ 4 = omega (arith, few) in
+      let f : Fits e = rw q (fit-at R j all-fit h) in
+      carried (numbered run k e) (short, n, f) n
+
+  sent-wide : (x : List ℕ) → List·Memᴰ x (sentOf area calls) → numberOf (decode x) < 256 ^ 4
+  sent-wide x b =
+      let u = unmap (records s run empty history) x (rw (all-calls .sent) at b) in
+      rw (u .2) (told-wide (u .0) (told s run empty history (u .0) (u .1)))
+
+  -- ── a mirror that follows the state's history follows the area's ──
+  module _ (m : Mirror) (ks : List ℕ) (g : MirrorFine (mirrorAt schema run m)) (f : OnStates.Follows s run history m ks) where
+    abbrev shown : List ℕ
+    shown = encodeMirror (mirrorAt schema run m)
+
+    next-is : m .n < length recs → getD recs (m .n) [] ≡ encode (numbered run (suc (m .n)) (getD R (m .n) end))
+    next-is h = ap (λ (l : List (List ℕ)). getD l (m .n) []) records-are ∙ record-at run 0 R (m .n) (omega (arith, count)) ∙ ap (λ (k : ℕ). encode (numbered run (suc k) (getD R (m .n) end))) (omega arith)
+
+    next-wide : (h : m .n < length recs) → numberOf (decode (getD recs (m .n) [])) < 256 ^ 4
+    next-wide h =
+        let l : m .n < length R = omega (arith, count) in
+        let n : suc (m .n) < 256 ^ 4 = omega (arith, few) in
+        subst (λ (x : List ℕ). numberOf (decode x) < 256 ^ 4) (sym (next-is h)) (carried (numbered run (suc (m .n)) (getD R (m .n) end)) (short, n, fit-at R (m .n) all-fit l) n)
+
+    next-moves : (h : m .n < length recs)
+        → (step s run m (getD recs (m .n) []) .answer ≡ Applied) × (step s run m (getD recs (m .n) []) .next .n ≡ suc (m .n))
+    next-moves h = f .moves (getD recs (m .n) []) (omega (arith, count)) (next-is h)
+
+    rows-made : made (tablesIn schema) (take (m .n) recs) ≡ acts s (take (m .n) R) []
+    rows-made = λ i. acts (same i) ((map-take changeIn (m .n) recs ∙ ap (take (m .n)) changes-are) i) []
+
+    history-follows : Follows schema run area calls shown ks
+    history-follows = record {
+      mirror = m;
+      state = mirror-of-encode (mirrorAt schema run m) (mirror-whole (mirrorAt schema run m) g);
+      tells = progress-is (mirrorAt schema run m) g;
+      within = omega (arith, count, f .within);
+      rows = f .rows ∙ sym rows-made;
+      applies = λ h. answer-at schema run s same m g (getD recs (m .n) []) ∙ next-moves h .0;
+      moves = λ h.
+          let x : List ℕ = getD recs (m .n) [] in
+          ap (λ (a : List ℕ). mirrorProgress a .n) (area-at schema run s same m g x)
+          ∙ ap (λ (p : Progress). p .n) (progress-is (mirrorAt schema run (step s run m x .next)) (good-at schema run s same m g x (next-wide h))) ∙ next-moves h .1;
+      refusesNone = λ x b. ap isRefusal (answer-at schema run s same m g x) ∙ f .refusesNone x (rw (all-calls .sent) at b);
+      levels = f .levels ∙ ap (λ (b : Bool). something ks && eqb (m .n) (highest ks) && b) (sym (ap (λ (l : List (List ℕ)). endsCommit l (m .n)) records-are ∙ ends-same run R (m .n) (f .within)));
+      store = λ v j st e q.
+          let p : storeAt schema run (after j) ≡ st = same-some (storeAt schema run (after j)) st (storeOf (areaAfterAll area (take j calls))) (store-after j) e in
+          f .store v j (ap (λ (z : State). z .last) (after-is j) ∙ ap (λ (z : Store). z .number) p ∙ q) ∙ ap (λ (z : State). z .rows) (after-is j) ∙ ap (λ (z : Store). z .rows) p;
+      commit = λ v.
+          let c = f .commit v in
+          (c .0, storeAt schema run (after (c .0)), omega (arith, c .1, length-map calls (callOf d)), store-after (c .0), sym (ap (λ (z : State). z .last) (after-is (c .0))) ∙ c .2);
+    }
+
+  -- ── the claim, of areas as they were started ──
+  abbrev begun : List ℕ
+  begun = encodeMirror (mirrorAt schema run fresh)
+
+  arrivals-follow : (xs : List (List ℕ)) → Arrivals (sentOf area calls) begun xs → (i : ℕ) → Follows schema run area calls (heardAll begun (take i xs)) (heardNumbers begun (take i xs))
+  arrivals-follow xs a i =
+      let sent : List (List ℕ) = sentOf area calls in
+      let new = fresh-fine run schema short (ap isSome read) in
+      let c = came schema run s same sent sent-wide fresh new (take i xs) (arrivals-take sent begun xs i a) in
+      let w : OnStates.Arrive s run (written s run empty history) fresh xs = subst (λ (l : List (List ℕ)). OnStates.Arrive s run l fresh xs) (all-calls .sent) (came schema run s same sent sent-wide fresh new xs a .arrive) in
+      let f = history-follows (through s run fresh (take i xs)) (heardOf s run fresh (take i xs)) (c .good) (OfStates.demand3 s run short history keeps xs w i) in
+      subst (λ (y : List ℕ). Follows schema run area calls y (heardNumbers begun (take i xs))) (sym (c .area))
+      (subst (Follows schema run area calls (encodeMirror (mirrorAt schema run (through s run fresh (take i xs))))) (sym (c .numbers)) f)
+
+-- of a store's and a mirror's area that were started
+abbrev Claim : List ℕ → ℕ → List StoreCall → List ℕ → List ℕ → Type 0
+Claim schema run calls area shown =
+    Keeps schema run area calls
+    × ((xs : List (List ℕ)) → Arrivals (sentOf area calls) shown xs → (i : ℕ) → Follows schema run area calls (heardAll shown (take i xs)) (heardNumbers shown (take i xs)))
+
+pub demand3 : Demand3
+demand3 schema run old oldShown short a b calls bytes =
+    let p = store-start old schema run a in
+    look (readSchema schema) (λ e. absurd (clash false (sym (ap isSome e) ∙ p .0) refl))
+    (λ d e.
+    subst (λ (x : List ℕ). Claim schema run calls x (mirrorStart oldShown schema run .area)) (sym (p .1))
+    (subst (Claim schema run calls (encodeStore (storeAt schema run empty))) (sym (mirror-start oldShown schema run b))
+    (history-keeps schema run d e short calls bytes, arrivals-follow schema run d e short calls bytes)))

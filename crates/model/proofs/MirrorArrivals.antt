@@ -1,0 +1,93 @@
+-- A list of arrivals at a mirror's area, as a list of arrivals at its state. Assumes nothing.
+use mathlib.Core.Path.{_≡_, refl, sym, _∙_, ap, subst}
+use mathlib.Core.Logic.{_⊎_, inl, inr}
+use mathlib.Core.Bool.{true, false}
+use mathlib.Core.List.{List, [], _∷_, List·Memᴰ}
+use mathlib.Core.Option.{Option, none, some}
+use Prim.Native.Nat.{ℕ, zero, suc, _^_, _<_}
+use borrow.Author.Tests.{eq-eqb}
+use lib.Dec.{eqb}
+use lib.ListN.{length, take}
+use Rattle.model.specs.Schema.{Schema}
+use Rattle.model.specs.Records.{decode}
+use Rattle.model.specs.Mirror.{Mirror, level, step, through, numberOf, heardOf}
+use Rattle.model.specs.Refusals.{isRefusal}
+use Rattle.model.specs.Areas.{MirrorState, mirrorBytes, encodeMirror, mirrorOf, tablesIn}
+use Rattle.model.specs.Calls.{mirrorHear, Progress, mirrorProgress}
+use Rattle.model.specs.Histories.{heardAll, Arrivals, heardNumbers}
+use Rattle.model.specs.Demand3.{Arrive}
+use Rattle.model.specs.declared.Answer.the-variants.{Accepted, Disordered}
+use Rattle.model.proofs.Tests.{clash}
+use Rattle.model.proofs.TextUtf8.{by-test}
+use Rattle.model.proofs.Arrivals.{said, refused-same}
+use Rattle.model.proofs.Areas.{mirror-of-encode, mirror-of-length}
+use Rattle.model.proofs.States.{MirrorFine, mirror-whole, step-fine, hear-answer, hear-area}
+
+-- the mirror's state that a mirror of a run and schema is
+abbrev pub mirrorAt : List ℕ → ℕ → Mirror → MirrorState
+mirrorAt schema run m = record { run = run; schema = schema; mirror = m }
+
+-- what it tells of itself
+pub progress-is : (m : MirrorState) → MirrorFine m → mirrorProgress (encodeMirror m) ≡ record { answer = Accepted; n = m .mirror .n; level = level (m .mirror) }
+unfolding mirrorProgress
+progress-is m f =
+    let there : mirrorOf (encodeMirror m) ≡ some m = mirror-of-encode m (mirror-whole m f) in
+    let size : eqb (length (encodeMirror m)) mirrorBytes ≡ true = eq-eqb (length (encodeMirror m)) mirrorBytes (mirror-of-length (encodeMirror m) m there) in
+    by-test (λ (z : Progress). z ≡ record { answer = Accepted; n = m .mirror .n; level = level (m .mirror) }) (eqb (length (encodeMirror m)) mirrorBytes)
+    (λ e. ap (λ (o : Option MirrorState). elim o [ none ↦ record { answer = Disordered; n = 0; level = false } | some y ↦ record { answer = Accepted; n = y .mirror .n; level = level (y .mirror) } ]) there)
+    (λ e. absurd (clash (eqb (length (encodeMirror m)) mirrorBytes) size e))
+
+-- so far as they came, arrivals are arrivals
+pub arrivals-take : (sent : List (List ℕ)) (a : List ℕ) (xs : List (List ℕ)) (i : ℕ) → Arrivals sent a xs → Arrivals sent a (take i xs)
+arrivals-take sent a [] zero h = tt
+arrivals-take sent a [] (suc i) h = tt
+arrivals-take sent a (x ∷ xs) zero h = tt
+arrivals-take sent a (x ∷ xs) (suc i) h = (h .0, arrivals-take sent (mirrorHear a x .area) xs i (h .1))
+
+module _ (schema : List ℕ) (run : ℕ) (s : Schema) (same : tablesIn schema ≡ s) where
+  -- one arrival
+  pub answer-at : (m : Mirror) → MirrorFine (mirrorAt schema run m) → (x : List ℕ) → mirrorHear (encodeMirror (mirrorAt schema run m)) x .answer ≡ step s run m x .answer
+  answer-at m g x = hear-answer (mirrorAt schema run m) g x ∙ ap (λ (t : Schema). step t run m x .answer) same
+
+  pub area-at : (m : Mirror) → MirrorFine (mirrorAt schema run m) → (x : List ℕ)
+      → mirrorHear (encodeMirror (mirrorAt schema run m)) x .area ≡ encodeMirror (mirrorAt schema run (step s run m x .next))
+  area-at m g x = hear-area (mirrorAt schema run m) g x ∙ ap (λ (t : Schema). encodeMirror (mirrorAt schema run (step t run m x .next))) same
+
+  pub good-at : (m : Mirror) → MirrorFine (mirrorAt schema run m) → (x : List ℕ) → numberOf (decode x) < 256 ^ 4 → MirrorFine (mirrorAt schema run (step s run m x .next))
+  good-at m g x h = subst (λ (t : Schema). MirrorFine (mirrorAt schema run (step t run m x .next))) same (step-fine (mirrorAt schema run m) g x h)
+
+  -- all arrivals, of what was sent, whose numbers have their widths, and of what is refused
+  module _ (sent : List (List ℕ)) (wide : (x : List ℕ) → List·Memᴰ x sent → numberOf (decode x) < 256 ^ 4) where
+    pub record Came (m : Mirror) (xs : List (List ℕ)) : Type 0 where
+      pub good : MirrorFine (mirrorAt schema run (through s run m xs))
+      pub area : heardAll (encodeMirror (mirrorAt schema run m)) xs ≡ encodeMirror (mirrorAt schema run (through s run m xs))
+      pub numbers : heardNumbers (encodeMirror (mirrorAt schema run m)) xs ≡ heardOf s run m xs
+      pub arrive : Arrive s run sent m xs
+
+    pub came : (m : Mirror) → MirrorFine (mirrorAt schema run m) → (xs : List (List ℕ)) → Arrivals sent (encodeMirror (mirrorAt schema run m)) xs → Came m xs
+    came m g [] a = record { good = g; area = refl; numbers = refl; arrive = tt }
+    came m g (x ∷ xs) a =
+        let c = came (step s run m x .next) (good (now (a .0))) xs (subst (λ (y : List ℕ). Arrivals sent y xs) (area-at m g x) (a .1)) in
+        record {
+          good = c .good;
+          area = ap (λ (y : List ℕ). heardAll y xs) (area-at m g x) ∙ c .area;
+          numbers = numbers (c .numbers);
+          arrive = (now (a .0), c .arrive);
+        }
+      where
+        now : List·Memᴰ x sent ⊎ (isRefusal (mirrorHear (encodeMirror (mirrorAt schema run m)) x .answer) ≡ true) → List·Memᴰ x sent ⊎ (isRefusal (step s run m x .answer) ≡ true)
+        now (inl h) = inl h
+        now (inr h) = inr (ap isRefusal (sym (answer-at m g x)) ∙ h)
+
+        good : List·Memᴰ x sent ⊎ (isRefusal (step s run m x .answer) ≡ true) → MirrorFine (mirrorAt schema run (step s run m x .next))
+        good (inl h) = good-at m g x (wide x h)
+        good (inr h) = rw (refused-same (said s run m (decode x)) h) g
+
+        numbers : heardNumbers (encodeMirror (mirrorAt schema run (step s run m x .next))) xs ≡ heardOf s run (step s run m x .next) xs → heardNumbers (encodeMirror (mirrorAt schema run m)) (x ∷ xs) ≡ heardOf s run m (x ∷ xs)
+        numbers e =
+            let a : List ℕ = encodeMirror (mirrorAt schema run m) in
+            let p : isRefusal (mirrorHear a x .answer) ≡ isRefusal (step s run m x .answer) = ap isRefusal (answer-at m g x) in
+            let rest : heardNumbers (mirrorHear a x .area) xs ≡ heardOf s run (step s run m x .next) xs = ap (λ (y : List ℕ). heardNumbers y xs) (area-at m g x) ∙ e in
+            by-test (λ (l : List ℕ). l ≡ heardOf s run m (x ∷ xs)) (isRefusal (mirrorHear a x .answer))
+            (λ h. let q : isRefusal (step s run m x .answer) ≡ true = sym p ∙ h in rw q rest)
+            (λ h. let q : isRefusal (step s run m x .answer) ≡ false = sym p ∙ h in rw q (ap (λ (l : List ℕ). numberOf (decode x) ∷ l) rest))

@@ -1,0 +1,186 @@
+-- The public calls, from all that a call is given to all that it leaves: its answer, and every area and buffer. Assumes nothing: these are definitions.
+-- "Refusals are checked in this order": 2, 1, 3, 4, 5, 6, 7, 10, 8, 9. "Each leaves store and mirror areas as they were and zeroes every other buffer written to.
+-- In an accepted call, bytes beyond what was written are zero."
+use Prim.Native.Nat.{ℕ, _+_}
+use mathlib.Core.Bool.{Bool, true, false}
+use mathlib.Core.List.{List, [], _∷_, map}
+use mathlib.Core.Option.{Option, none, some}
+use lib.Dec.{eqb, leb}
+use lib.ListN.{length, replicate}
+use Rattle.model.specs.Octets.{value, filled}
+use Rattle.model.specs.Limits.{freshBytes, leastRecords, leastAnswer, leastMark}
+use Rattle.model.specs.Base.{every, isSome, flat}
+use Rattle.model.specs.Schema.{Database}
+use Rattle.model.specs.SchemaText.{readSchema}
+use Rattle.model.specs.Refusals.{isRefusal}
+use Rattle.model.specs.Replies.{Reply, reply}
+use Rattle.model.specs.Records.{mark, numberFrom, encode}
+use Rattle.model.specs.Mirror.{Mirror, fresh, level, Step, step, hasRow, columnAnswer, columnBytes}
+use Rattle.model.specs.Areas.{Store, storeBytes, encodeStore, storeOf, MirrorState, mirrorBytes, encodeMirror, mirrorOf, tablesIn}
+use Rattle.model.specs.declared.Answer.{Answer}
+use Rattle.model.specs.declared.Answer.the-variants.{Accepted, Disordered, WrongLength, BadSchema}
+
+-- a buffer of as many bytes, all zero
+abbrev pub zeroed : List ℕ → List ℕ
+zeroed b = replicate (length b) 0
+
+-- ── starting: "takes the schema text and a run number, never gets refusal 1, and makes no rows and number 0" ──
+pub record Started : Type 0 where
+  pub answer : Answer
+  pub area : List ℕ
+
+abbrev pub startAs : ℕ → List ℕ → List ℕ → List ℕ → Started
+startAs bytes area schema made =
+    elim (eqb (length area) bytes) [
+      | true ↦ elim (isSome (readSchema schema)) [ true ↦ record { answer = Accepted; area = made } | false ↦ record { answer = BadSchema; area = area } ]
+      | false ↦ record { answer = WrongLength; area = area }
+    ]
+
+unfoldable pub storeStart : List ℕ → List ℕ → ℕ → Started
+storeStart area schema run = startAs storeBytes area schema (encodeStore (record { run = run; number = 0; schema = schema; rows = [] }))
+
+unfoldable pub mirrorStart : List ℕ → List ℕ → ℕ → Started
+mirrorStart area schema run = startAs mirrorBytes area schema (encodeMirror (record { run = run; schema = schema; mirror = fresh }))
+
+-- ── transact ──
+pub record Transacted : Type 0 where
+  pub answer : Answer
+  pub area : List ℕ
+  pub records : List ℕ
+  pub text : List ℕ
+
+-- refusal 2: "store or mirror area not the fixed size, fresh ids not 256 bytes, records under 26,249 bytes, answer under 64"
+abbrev pub lengthsGood : List ℕ → List ℕ → List ℕ → List ℕ → Bool
+lengthsGood area fresh records text =
+    every (eqb (length area) storeBytes ∷ eqb (length fresh) freshBytes ∷ leb leastRecords (length records) ∷ leb leastAnswer (length text) ∷ [])
+
+abbrev pub transactRefused : Answer → List ℕ → List ℕ → List ℕ → Transacted
+transactRefused a area records text = record { answer = a; area = area; records = zeroed records; text = zeroed text }
+
+-- the store after a reply: its rows, and its number moved by the changes
+abbrev pub storeAfter : Store → Reply → Store
+storeAfter st r = record { run = st .run; number = st .number + length (r .changes); schema = st .schema; rows = r .rows }
+
+-- the bytes of its records: "Numbers run on from 1"
+abbrev pub recordsAfter : Store → Reply → List ℕ
+recordsAfter st r = flat (map encode (numberFrom (st .run) (st .number) (r .changes)))
+
+abbrev pub transactReplied : List ℕ → List ℕ → List ℕ → Store → Reply → Transacted
+transactReplied area records text st r =
+    elim (isRefusal (r .answer)) [
+      | true ↦ transactRefused (r .answer) area records text
+      | false ↦
+          record {
+            answer = r .answer;
+            area = encodeStore (storeAfter st r);
+            records = filled (length records) (recordsAfter st r);
+            text = filled (length text) (r .text);
+          }
+    ]
+
+-- a store in good order holds an accepted schema
+abbrev pub databaseOf : Store → Database
+databaseOf st = elim (readSchema (st .schema)) [ none ↦ record { name = []; tables = [] } | some d ↦ d ]
+
+abbrev pub replyOf : Store → List ℕ → List ℕ → ℕ → Reply
+replyOf st request fresh room = reply (databaseOf st) (st .number) (st .rows) request fresh room
+
+abbrev pub transactOn : List ℕ → List ℕ → List ℕ → List ℕ → List ℕ → Option Store → Transacted
+transactOn area request fresh records text none = transactRefused Disordered area records text
+transactOn area request fresh records text (some st) = transactReplied area records text st (replyOf st request fresh (length text))
+
+unfoldable pub storeTransact : List ℕ → List ℕ → List ℕ → List ℕ → List ℕ → Transacted
+storeTransact area request fresh records text =
+    elim (lengthsGood area fresh records text) [
+      | true ↦ transactOn area request fresh records text (storeOf area)
+      | false ↦ transactRefused WrongLength area records text
+    ]
+
+-- ── "A mark has no number of its own and is asked for between calls": run and the last number given out ──
+pub record Marked : Type 0 where
+  pub answer : Answer
+  pub mark : List ℕ
+
+abbrev pub markOn : List ℕ → Option Store → Marked
+markOn out none = record { answer = Disordered; mark = zeroed out }
+markOn out (some st) = record { answer = Accepted; mark = filled (length out) (encode (mark (st .run) (st .number))) }
+
+unfoldable pub storeMark : List ℕ → List ℕ → Marked
+storeMark area out =
+    elim (every (eqb (length area) storeBytes ∷ leb leastMark (length out) ∷ [])) [
+      | true ↦ markOn out (storeOf area)
+      | false ↦ record { answer = WrongLength; mark = zeroed out }
+    ]
+
+-- ── an arrival: "What a mirror doesn't refuse it has heard" ──
+pub record Arrived : Type 0 where
+  pub answer : Answer
+  pub area : List ℕ
+
+abbrev pub mirrorAfter : MirrorState → Mirror → MirrorState
+mirrorAfter m next = record { run = m .run; schema = m .schema; mirror = next }
+
+abbrev pub hearStep : List ℕ → MirrorState → Step → Arrived
+hearStep area m x =
+    elim (isRefusal (x .answer)) [
+      | true ↦ record { answer = x .answer; area = area }
+      | false ↦ record { answer = x .answer; area = encodeMirror (mirrorAfter m (x .next)) }
+    ]
+
+abbrev pub hearOn : List ℕ → List ℕ → Option MirrorState → Arrived
+hearOn area x none = record { answer = Disordered; area = area }
+hearOn area x (some m) = hearStep area m (step (tablesIn (m .schema)) (m .run) (m .mirror) x)
+
+unfoldable pub mirrorHear : List ℕ → List ℕ → Arrived
+mirrorHear area x = elim (eqb (length area) mirrorBytes) [ true ↦ hearOn area x (mirrorOf area) | false ↦ record { answer = WrongLength; area = area } ]
+
+-- ── questions: "Asked between arrivals, it tells n, whether it is level, by table and id whether the row is there, and by table, id and column the count and atoms" ──
+-- a question is answered by a mirror in good order, and refused else
+abbrev pub asked : {A : Type 0} → List ℕ → (Answer → A) → (Mirror → A) → A
+asked area refuse ask = elim (eqb (length area) mirrorBytes) [ true ↦ elim (mirrorOf area) [ none ↦ refuse Disordered | some m ↦ ask (m .mirror) ] | false ↦ refuse WrongLength ]
+
+pub record Progress : Type 0 where
+  pub answer : Answer
+  pub n : ℕ
+  pub level : Bool
+
+abbrev pub noProgress : Answer → Progress
+noProgress a = record { answer = a; n = 0; level = false }
+
+abbrev pub progressOf : Mirror → Progress
+progressOf m = record { answer = Accepted; n = m .n; level = level m }
+
+unfoldable pub mirrorProgress : List ℕ → Progress
+mirrorProgress area = asked area noProgress progressOf
+
+pub record Presence : Type 0 where
+  pub answer : Answer
+  pub there : Bool
+
+abbrev pub noPresence : Answer → Presence
+noPresence a = record { answer = a; there = false }
+
+-- an id is its 16 bytes read as a number
+abbrev pub presenceOf : ℕ → List ℕ → Mirror → Presence
+presenceOf t id m = record { answer = Accepted; there = hasRow m t (value id) }
+
+unfoldable pub mirrorHasRow : List ℕ → ℕ → List ℕ → Presence
+mirrorHasRow area t id = asked area noPresence (presenceOf t id)
+
+pub record Contents : Type 0 where
+  pub answer : Answer
+  pub out : List ℕ
+
+abbrev pub noContents : List ℕ → Answer → Contents
+noContents out a = record { answer = a; out = zeroed out }
+
+abbrev pub contentsOf : ℕ → List ℕ → ℕ → Mirror → Contents
+contentsOf t id c m = record { answer = Accepted; out = columnAnswer m t (value id) c }
+
+-- "An output of the wrong length gets 2" (reading 48)
+unfoldable pub mirrorColumn : List ℕ → ℕ → List ℕ → ℕ → List ℕ → Contents
+mirrorColumn area t id c out =
+    elim (eqb (length out) columnBytes) [
+      | true ↦ asked area (noContents out) (contentsOf t id c)
+      | false ↦ noContents out WrongLength
+    ]
