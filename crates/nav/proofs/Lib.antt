@@ -1,0 +1,5 @@
+-- What the proofs of several functions use.
+pub mod Rest
+pub mod FirstByte
+pub mod Walk
+pub mod Numbers

@@ -1,0 +1,26 @@
+-- `nav::next_member` meets its contract. Assumes nothing.
+use mathlib.Core.Path.{ap, _∙_}
+use Rattle.model.specs.Nav.{nextMember, foundOf}
+use Rattle.model.specs.Json.{afterItem}
+use borrow.Author.Needs.{needs}
+use Rattle.nav.proofs.next_member.Statement.{statement}
+use Rattle.nav.proofs.next_member.Tie as tie
+
+member-end-requires : tie.Need-member-end-requires
+member-end-requires c κs = search needs
+
+after-requires : tie.Need-after-requires
+after-requires c κs = search needs
+
+found-requires : tie.Need-found-requires
+found-requires c κs = search needs
+
+returns : tie.Need-returns
+unfolding nextMember
+returns c =
+    let a = c .before in
+    let s = a .before .before .before .before .args .text .now in
+    c .found .ensures ∙ ap foundOf (a .after .ensures ∙ ap (afterItem s 125) (a .before .member-end .ensures))
+
+pub next-member-spec : {M : Type 1} → statement M
+next-member-spec = tie.close (tie.spec member-end-requires after-requires found-requires returns)

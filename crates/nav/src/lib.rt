@@ -1,0 +1,309 @@
+// Values of a well-formed text, by position: kinds, items, members, integers.
+use model::Digits;
+use model::Found;
+use model::Kind;
+use model::Next;
+use model::Read;
+use model::Whole;
+ghost use mathlib.Core.Path.{_≡_};
+ghost use Prim.Native.Nat.{_≤_, _-_};
+ghost use lib.ListN.{length, getD};
+ghost use Rattle.model.specs.Scan.{between, endOr};
+ghost use Rattle.model.specs.Json.{keyAt, valueAt, memberAt};
+ghost use Rattle.model.specs.Nav.{Says, foundOf, firstOf, nextItem, nextMember, treeAt, kindOf, kindBy, isNumber, isText, isArray, isObject, isTruth, isTrue};
+ghost use Rattle.model.specs.Whole.{sized, plusOf, minusOf, wholeText, wholeOf};
+
+// The entry of the table, 0 past its end.
+fn entry(ends: &[u16], at: usize) -> usize
+    ensures { λ r. ⌜ r ≡ getD (now (ends .entry)) at 0 ⌝ }
+{
+    if at < ends.len() {
+        ends[at] as usize
+    } else {
+        0
+    }
+}
+
+// Where the value that begins at `at` ends, from the table where that says so.
+pub fn end_of(text: &[u8], ends: &[u16], at: usize) -> Read
+    requires { ⌜ Says (now text) (now ends) ⌝ }
+    ensures { λ r. ⌜ r ≡ valueAt 12 (now (text .entry)) at .read ⌝ }
+{
+    let e = entry(ends, at);
+    if e == 0 {
+        return json::end_at(text, at);
+    }
+    Read::End(e)
+}
+
+fn found(n: Next) -> Found
+    ensures { λ r. ⌜ r ≡ foundOf n ⌝ }
+{
+    match n {
+        Next::More(e) => Found::At(e),
+        Next::Done(_) => Found::Nothing,
+    }
+}
+
+// The first item of the array or object at `at`.
+pub fn first(text: &[u8], at: usize, opener: u8, close: u8) -> Found
+    ensures { λ r. ⌜ r ≡ firstOf (now (text .entry)) opener close at ⌝ }
+{
+    let i = scan::spaces(text, at);
+    let b = scan::peek(text, i);
+    let o = opener as u16;
+    let c = close as u16;
+    if b == o {
+        let j = scan::spaces(text, i + 1);
+        let d = scan::peek(text, j);
+        if d == c {
+            return Found::Nothing;
+        }
+        return Found::At(j);
+    }
+    Found::Nothing
+}
+
+// The item of an array after the one at `at`.
+pub fn next_item(text: &[u8], ends: &[u16], at: usize) -> Found
+    requires { ⌜ Says (now text) (now ends) ⌝ }
+    ensures { λ r. ⌜ r ≡ nextItem (now (text .entry)) at ⌝ }
+{
+    let r = end_of(text, ends, at);
+    found(scan::after(text, r, 93))
+}
+
+// The end of the member at `at`.
+pub fn member_end(text: &[u8], ends: &[u16], at: usize) -> Read
+    requires { ⌜ Says (now text) (now ends) ⌝ }
+    ensures { λ r. ⌜ r ≡ memberAt (valueAt 12 (now (text .entry))) (now (text .entry)) at .read ⌝ }
+{
+    let k = scan::key(text, at);
+    let Read::End(e) = k else {
+        return k;
+    };
+    end_of(text, ends, e)
+}
+
+// The member of an object after the one at `at`.
+pub fn next_member(text: &[u8], ends: &[u16], at: usize) -> Found
+    requires { ⌜ Says (now text) (now ends) ⌝ }
+    ensures { λ r. ⌜ r ≡ nextMember (now (text .entry)) at ⌝ }
+{
+    let r = member_end(text, ends, at);
+    found(scan::after(text, r, 125))
+}
+
+// What a value is that begins with this byte.
+fn kind_by(b: u16) -> Kind
+    ensures { λ r. ⌜ r ≡ kindBy b ⌝ }
+{
+    if b == 91 {
+        return Kind::Array;
+    }
+    if b == 123 {
+        return Kind::Object;
+    }
+    if b == 34 {
+        return Kind::Text;
+    }
+    if b == 110 {
+        return Kind::Null;
+    }
+    if b == 116 {
+        return Kind::Truth;
+    }
+    if b == 102 {
+        return Kind::Truth;
+    }
+    Kind::Number
+}
+
+// What the value at `at` is.
+pub fn kind_at(text: &[u8], at: usize) -> Kind
+    ensures { λ r. ⌜ r ≡ kindOf (treeAt (now (text .entry)) at) ⌝ }
+{
+    let i = scan::spaces(text, at);
+    kind_by(scan::peek(text, i))
+}
+
+pub fn is_number(k: Kind) -> bool
+    ensures { λ r. ⌜ r ≡ isNumber k ⌝ }
+{
+    match k {
+        Kind::Number => true,
+        Kind::Null => false,
+        Kind::Truth => false,
+        Kind::Text => false,
+        Kind::Array => false,
+        Kind::Object => false,
+    }
+}
+
+pub fn is_text(k: Kind) -> bool
+    ensures { λ r. ⌜ r ≡ isText k ⌝ }
+{
+    match k {
+        Kind::Text => true,
+        Kind::Null => false,
+        Kind::Truth => false,
+        Kind::Number => false,
+        Kind::Array => false,
+        Kind::Object => false,
+    }
+}
+
+pub fn is_array(k: Kind) -> bool
+    ensures { λ r. ⌜ r ≡ isArray k ⌝ }
+{
+    match k {
+        Kind::Array => true,
+        Kind::Null => false,
+        Kind::Truth => false,
+        Kind::Number => false,
+        Kind::Text => false,
+        Kind::Object => false,
+    }
+}
+
+pub fn is_object(k: Kind) -> bool
+    ensures { λ r. ⌜ r ≡ isObject k ⌝ }
+{
+    match k {
+        Kind::Object => true,
+        Kind::Null => false,
+        Kind::Truth => false,
+        Kind::Number => false,
+        Kind::Text => false,
+        Kind::Array => false,
+    }
+}
+
+pub fn is_truth(k: Kind) -> bool
+    ensures { λ r. ⌜ r ≡ isTruth k ⌝ }
+{
+    match k {
+        Kind::Truth => true,
+        Kind::Null => false,
+        Kind::Number => false,
+        Kind::Text => false,
+        Kind::Array => false,
+        Kind::Object => false,
+    }
+}
+
+// Whether the value at `at` is true.
+pub fn truth_at(text: &[u8], at: usize) -> bool
+    ensures { λ r. ⌜ r ≡ isTrue (treeAt (now (text .entry)) at) ⌝ }
+{
+    let i = scan::spaces(text, at);
+    let b = scan::peek(text, i);
+    b == 116
+}
+
+// Where the value of the member at `at` begins.
+pub fn member_value(text: &[u8], at: usize) -> usize
+    ensures { λ r. ⌜ r ≡ endOr at (keyAt (now (text .entry)) at .read) ⌝ }
+{
+    let r = scan::key(text, at);
+    match r {
+        Read::End(e) => e,
+        Read::Stop(_) => at,
+        Read::Deep(_) => at,
+    }
+}
+
+// A digit's value: the byte less 48, or 0.
+fn digit_value(b: u16) -> u64
+    ensures { λ r. ⌜ r ≡ b - 48 ⌝ }
+{
+    if b < 48 {
+        return 0;
+    }
+    (b - 48) as u64
+}
+
+// What the digits from `at` to `end` stand for.
+fn digits_of(text: &[u8], at: usize, end: usize) -> Digits
+    requires { ⌜ end ≤ length (now text) ⌝ }
+    ensures { λ r. ⌜ r ≡ sized 0 (between (now (text .entry)) at end) ⌝ }
+{
+    let mut acc: u64 = 0;
+    for i in at..end {
+        let b = scan::peek(text, i);
+        let d = scan::is_digit(b);
+        if d {
+            if 922337203685477580 < acc {
+                return Digits::Bad;
+            }
+            acc = acc * 10 + digit_value(b);
+        } else {
+            return Digits::Bad;
+        }
+    }
+    if 9223372036854775808 < acc {
+        return Digits::Bad;
+    }
+    Digits::Size(acc)
+}
+
+fn plus(d: Digits) -> Whole
+    ensures { λ r. ⌜ r ≡ plusOf d ⌝ }
+{
+    match d {
+        Digits::Size(m) => {
+            if m < 9223372036854775808 {
+                return Whole::Plus(m);
+            }
+            Whole::Other
+        }
+        Digits::Bad => Whole::Other,
+    }
+}
+
+fn minus(d: Digits) -> Whole
+    ensures { λ r. ⌜ r ≡ minusOf d ⌝ }
+{
+    match d {
+        Digits::Size(m) => {
+            if m == 0 {
+                return Whole::Plus(0);
+            }
+            Whole::Minus(m)
+        }
+        Digits::Bad => Whole::Other,
+    }
+}
+
+// The integer that the text from `at` to `end` stands for.
+fn whole_text(text: &[u8], at: usize, end: usize) -> Whole
+    requires { ⌜ end ≤ length (now text) ⌝ }
+    ensures { λ r. ⌜ r ≡ wholeText (between (now (text .entry)) at end) ⌝ }
+{
+    if end <= at {
+        return Whole::Other;
+    }
+    let b = scan::peek(text, at);
+    if b == 45 {
+        return minus(digits_of(text, at + 1, end));
+    }
+    plus(digits_of(text, at, end))
+}
+
+// The integer that the value at `at` is.
+pub fn integer_at(text: &[u8], ends: &[u16], at: usize) -> Whole
+    requires { ⌜ Says (now text) (now ends) ⌝ }
+    ensures { λ r. ⌜ r ≡ wholeOf (treeAt (now (text .entry)) at) ⌝ }
+{
+    let k = kind_at(text, at);
+    let n = is_number(k);
+    if n {
+        let i = scan::spaces(text, at);
+        let r = end_of(text, ends, at);
+        let Read::End(e) = r else {
+            return Whole::Other;
+        };
+        return whole_text(text, i, e);
+    }
+    Whole::Other
+}

@@ -1,0 +1,43 @@
+-- `scan::hex4` meets its contract. Assumes nothing.
+use mathlib.Core.Path.{ap, _∙_}
+use Rattle.model.specs.Strings.{hexStep, outside}
+use borrow.Author.Needs.{needs}
+use Rattle.scan.proofs.hex4.Statement.{statement}
+use Rattle.scan.proofs.hex4.Tie as tie
+
+hex-step-requires : tie.Need-hex-step-requires
+hex-step-requires c κs = search needs
+
+hex-step-requires-2 : tie.Need-hex-step-requires-2
+hex-step-requires-2 c κs = search needs
+
+outside-of-requires : tie.Need-outside-of-requires
+outside-of-requires c κs = search needs
+
+hex-step-requires-3 : tie.Need-hex-step-requires-3
+hex-step-requires-3 c κs = search needs
+
+hex-step-requires-4 : tie.Need-hex-step-requires-4
+hex-step-requires-4 c κs = search needs
+
+outside-of-requires-2 : tie.Need-outside-of-requires-2
+outside-of-requires-2 c κs = search needs
+
+returns : tie.Need-returns
+returns c =
+    let s = c .before .before .before .before .before .before .before .args .text .now in
+    let w = hexStep s in
+    let v = outside 220 223 in
+    c .outside-of2 .ensures ∙ ap (outside 0 0) (c .before .hex-step4 .ensures ∙ ap w (c .before .before .hex-step3 .ensures ∙ ap w (c .before .before .before .outside-of .ensures ∙ ap v (c .before .before .before .before .hex-step2 .ensures ∙ ap w (c .before .before .before .before .before .hex-step .ensures)))))
+
+pub hex4-spec : {M : Type 1} → statement M
+hex4-spec =
+    tie.close
+    (tie.spec
+    hex-step-requires
+    hex-step-requires-2
+    outside-of-requires
+    hex-step-requires-3
+    hex-step-requires-4
+    outside-of-requires-2
+    returns)

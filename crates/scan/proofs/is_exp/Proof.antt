@@ -1,0 +1,16 @@
+-- `scan::is_exp` meets its contract. Assumes nothing.
+use borrow.Author.Tests.{ne-eqb}
+use Rattle.model.specs.Numbers.{isExp}
+use Rattle.scan.proofs.is_exp.Statement.{statement}
+use Rattle.scan.proofs.is_exp.Tie as tie
+
+returns : tie.Need-returns
+unfolding isExp
+returns c = rw (c .if1 .taken)
+
+returns-2 : tie.Need-returns-2
+unfolding isExp
+returns-2 c = rw (isExp, ne-eqb _ _ (c .if1 .left))
+
+pub is-exp-spec : {M : Type 1} → statement M
+is-exp-spec = tie.close (tie.spec returns returns-2)

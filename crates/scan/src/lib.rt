@@ -1,0 +1,602 @@
+// The parts of a JSON text by RFC 4627 that open no level: where each ends, or where the text stops being one.
+use model::Half;
+use model::Hex;
+use model::Next;
+use model::Open;
+use model::Read;
+ghost use mathlib.Core.Path.{_≡_};
+ghost use Rattle.model.specs.Scan.{byte, isSpace, isDigit, spacesAt, digitsAt, withinAt};
+ghost use mathlib.Core.List.{List, [], _∷_};
+ghost use Prim.Native.Nat.{ℕ, _-_};
+ghost use Rattle.model.specs.Scan.{wordAt};
+ghost use Rattle.model.specs.declared.Read.the-variants.{End};
+ghost use Rattle.model.specs.Strings.{shortOf, hexOf, hexStep, outside, inside, hexAt, lowHexAt, halfOf, lowAt, pairBy, unitBy, escapeBy, secondLow, secondHigh, wideBy, going, charBy, bodyAt, stringAt};
+ghost use Rattle.model.specs.Numbers.{minusAt, signAt, someAt, wholeAt, fracAt, isExp, expAt, numberAt};
+ghost use Rattle.model.specs.Json.{opens, scalarBy, afterItem, keyAt};
+
+// The byte at a position, or 256 past the end.
+pub fn peek(text: &[u8], at: usize) -> u16
+    ensures { λ r. ⌜ r ≡ byte (now (text .entry)) at ⌝ }
+{
+    if at < text.len() {
+        text[at] as u16
+    } else {
+        256
+    }
+}
+
+pub fn is_space(b: u16) -> bool
+    ensures { λ r. ⌜ r ≡ isSpace b ⌝ }
+{
+    if b == 32 {
+        return true;
+    }
+    if b == 9 {
+        return true;
+    }
+    if b == 10 {
+        return true;
+    }
+    b == 13
+}
+
+pub fn is_digit(b: u16) -> bool
+    ensures { λ r. ⌜ r ≡ isDigit b ⌝ }
+{
+    if b < 48 {
+        return false;
+    }
+    b <= 57
+}
+
+// The first position from `at` on that has no white space.
+pub fn spaces(text: &[u8], at: usize) -> usize
+    ensures { λ r. ⌜ r ≡ spacesAt (now (text .entry)) at ⌝ }
+{
+    let mut i = at;
+    for k in 0..text.len() {
+        let b = peek(text, i);
+        let more = is_space(b);
+        if more {
+            i += 1;
+        } else {
+            return i;
+        }
+    }
+    i
+}
+
+// The first position from `at` on that has no digit.
+pub fn digits(text: &[u8], at: usize) -> usize
+    ensures { λ r. ⌜ r ≡ digitsAt (now (text .entry)) at ⌝ }
+{
+    let mut i = at;
+    for k in 0..text.len() {
+        let b = peek(text, i);
+        let more = is_digit(b);
+        if more {
+            i += 1;
+        } else {
+            return i;
+        }
+    }
+    i
+}
+
+// One byte from `low` to `high`, after what was read before it.
+pub fn within(text: &[u8], prior: Read, low: u8, high: u8) -> Read
+    ensures { λ r. ⌜ r ≡ withinAt (now (text .entry)) low high prior ⌝ }
+{
+    let Read::End(e) = prior else {
+        return prior;
+    };
+    let b = peek(text, e);
+    let l = low as u16;
+    let h = high as u16;
+    if b < l {
+        return Read::Stop(e);
+    }
+    if h < b {
+        return Read::Stop(e);
+    }
+    Read::End(e + 1)
+}
+
+pub fn opening(b: u16) -> Open
+    ensures { λ r. ⌜ r ≡ opens b ⌝ }
+{
+    if b == 91 {
+        return Open::Array;
+    }
+    if b == 123 {
+        return Open::Object;
+    }
+    Open::Scalar
+}
+
+pub fn opening_at(text: &[u8], at: usize) -> Open
+    ensures { λ r. ⌜ r ≡ opens (byte (now (text .entry)) at) ⌝ }
+{
+    opening(peek(text, at))
+}
+
+// The literals.
+pub fn null(text: &[u8], at: usize) -> Read
+    ensures { λ r. ⌜ r ≡ wordAt (now (text .entry)) (110 ∷ 117 ∷ 108 ∷ 108 ∷ []) (End at) ⌝ }
+{
+    let n = within(text, Read::End(at), 110, 110);
+    let u = within(text, n, 117, 117);
+    let l = within(text, u, 108, 108);
+    within(text, l, 108, 108)
+}
+
+pub fn true_word(text: &[u8], at: usize) -> Read
+    ensures { λ r. ⌜ r ≡ wordAt (now (text .entry)) (116 ∷ 114 ∷ 117 ∷ 101 ∷ []) (End at) ⌝ }
+{
+    let t = within(text, Read::End(at), 116, 116);
+    let r = within(text, t, 114, 114);
+    let u = within(text, r, 117, 117);
+    within(text, u, 101, 101)
+}
+
+pub fn false_word(text: &[u8], at: usize) -> Read
+    ensures { λ r. ⌜ r ≡ wordAt (now (text .entry)) (102 ∷ 97 ∷ 108 ∷ 115 ∷ 101 ∷ []) (End at) ⌝ }
+{
+    let f = within(text, Read::End(at), 102, 102);
+    let a = within(text, f, 97, 97);
+    let l = within(text, a, 108, 108);
+    let s = within(text, l, 115, 115);
+    within(text, s, 101, 101)
+}
+
+// The byte that a short escape stands for, or 0.
+pub fn short_escape(c: u16) -> u8
+    ensures { λ r. ⌜ r ≡ shortOf c ⌝ }
+{
+    if c == 34 {
+        return 34;
+    }
+    if c == 92 {
+        return 92;
+    }
+    if c == 47 {
+        return 47;
+    }
+    if c == 98 {
+        return 8;
+    }
+    if c == 102 {
+        return 12;
+    }
+    if c == 110 {
+        return 10;
+    }
+    if c == 114 {
+        return 13;
+    }
+    if c == 116 {
+        return 9;
+    }
+    0
+}
+
+// The value of a hexadecimal digit, or 16.
+pub fn hex_digit(b: u16) -> u16
+    ensures { λ r. ⌜ r ≡ hexOf b ⌝ }
+{
+    if b < 48 {
+        return 16;
+    }
+    if b <= 57 {
+        return b - 48;
+    }
+    if b < 65 {
+        return 16;
+    }
+    if b <= 70 {
+        return b - 55;
+    }
+    if b < 97 {
+        return 16;
+    }
+    if b <= 102 {
+        return b - 87;
+    }
+    16
+}
+
+pub fn hex_step(text: &[u8], h: Hex) -> Hex
+    ensures { λ r. ⌜ r ≡ hexStep (now (text .entry)) h ⌝ }
+{
+    match h {
+        Hex::Unit16(e, v) => {
+            let b = peek(text, e);
+            let d = hex_digit(b);
+            if d == 16 {
+                return Hex::Bad(e);
+            }
+            Hex::Unit16(e + 1, v % 4096 * 16 + d as u32)
+        }
+        Hex::Bad(e) => Hex::Bad(e),
+    }
+}
+
+// The digits, where their number so far lies outside low to high; else the last one is bad.
+fn outside_of(h: Hex, low: u32, high: u32) -> Hex
+    ensures { λ r. ⌜ r ≡ outside low high h ⌝ }
+{
+    let Hex::Unit16(e, v) = h else {
+        return h;
+    };
+    if v < low {
+        return h;
+    }
+    if high < v {
+        return h;
+    }
+    Hex::Bad(last_digit(e))
+}
+
+// The digits, where their number so far lies within low to high; else the last one is bad.
+fn inside_of(h: Hex, low: u32, high: u32) -> Hex
+    ensures { λ r. ⌜ r ≡ inside low high h ⌝ }
+{
+    let Hex::Unit16(e, v) = h else {
+        return h;
+    };
+    if v < low {
+        return Hex::Bad(last_digit(e));
+    }
+    if high < v {
+        return Hex::Bad(last_digit(e));
+    }
+    h
+}
+
+fn last_digit(e: usize) -> usize
+    ensures { λ r. ⌜ r ≡ e - 1 ⌝ }
+{
+    if e == 0 {
+        return 0;
+    }
+    e - 1
+}
+
+// Four digits of a unit that is not 0 and no second half.
+pub fn hex4(text: &[u8], at: usize) -> Hex
+    ensures { λ r. ⌜ r ≡ hexAt (now (text .entry)) at ⌝ }
+{
+    let a = hex_step(text, Hex::Unit16(at, 0));
+    let b = hex_step(text, a);
+    let c = outside_of(b, 220, 223);
+    let d = hex_step(text, c);
+    let e = hex_step(text, d);
+    outside_of(e, 0, 0)
+}
+
+// Four digits of a second half.
+fn low_hex4(text: &[u8], at: usize) -> Hex
+    ensures { λ r. ⌜ r ≡ lowHexAt (now (text .entry)) at ⌝ }
+{
+    let a = hex_step(text, Hex::Unit16(at, 0));
+    let b = inside_of(a, 13, 13);
+    let c = hex_step(text, b);
+    let d = inside_of(c, 220, 223);
+    let e = hex_step(text, d);
+    hex_step(text, e)
+}
+
+pub fn half_of(v: u32) -> Half
+    ensures { λ r. ⌜ r ≡ halfOf v ⌝ }
+{
+    if v == 0 {
+        return Half::Refused;
+    }
+    if v < 55296 {
+        return Half::Whole;
+    }
+    if v < 56320 {
+        return Half::High;
+    }
+    if v < 57344 {
+        return Half::Refused;
+    }
+    Half::Whole
+}
+
+// The second half of a surrogate pair.
+pub fn low_half(text: &[u8], at: usize) -> Hex
+    ensures { λ r. ⌜ r ≡ lowAt (now (text .entry)) at ⌝ }
+{
+    let b = within(text, Read::End(at), 92, 92);
+    let u = within(text, b, 117, 117);
+    match u {
+        Read::End(e) => low_hex4(text, e),
+        Read::Stop(e) => Hex::Bad(e),
+        Read::Deep(e) => Hex::Bad(e),
+    }
+}
+
+pub fn pair(h: Hex) -> Next
+    ensures { λ r. ⌜ r ≡ pairBy h ⌝ }
+{
+    match h {
+        Hex::Unit16(e, _) => Next::More(e),
+        Hex::Bad(e) => Next::Done(Read::Stop(e)),
+    }
+}
+
+// What follows four digits.
+pub fn unit(text: &[u8], h: Hex) -> Next
+    ensures { λ r. ⌜ r ≡ unitBy (now (text .entry)) h ⌝ }
+{
+    match h {
+        Hex::Unit16(e, v) => {
+            let k = half_of(v);
+            match k {
+                Half::Whole => Next::More(e),
+                Half::High => pair(low_half(text, e)),
+                Half::Refused => Next::Done(Read::Stop(e)),
+            }
+        }
+        Hex::Bad(e) => Next::Done(Read::Stop(e)),
+    }
+}
+
+// The byte after a backslash, at `at`.
+pub fn escape(text: &[u8], at: usize) -> Next
+    ensures { λ r. ⌜ r ≡ escapeBy (now (text .entry)) at (byte (now (text .entry)) at) ⌝ }
+{
+    let c = peek(text, at);
+    let x = short_escape(c);
+    if x == 0 {
+        if c == 117 {
+            return unit(text, hex4(text, at + 1));
+        }
+        return Next::Done(Read::Stop(at));
+    }
+    Next::More(at + 1)
+}
+
+pub fn second_low(b: u16) -> u8
+    ensures { λ r. ⌜ r ≡ secondLow b ⌝ }
+{
+    if b == 224 {
+        return 160;
+    }
+    if b == 240 {
+        return 144;
+    }
+    128
+}
+
+pub fn second_high(b: u16) -> u8
+    ensures { λ r. ⌜ r ≡ secondHigh b ⌝ }
+{
+    if b == 237 {
+        return 159;
+    }
+    if b == 244 {
+        return 143;
+    }
+    191
+}
+
+// A character of two to four bytes.
+pub fn wide(text: &[u8], at: usize) -> Read
+    ensures { λ r. ⌜ r ≡ wideBy (now (text .entry)) at (byte (now (text .entry)) at) ⌝ }
+{
+    let b = peek(text, at);
+    if b < 194 {
+        return Read::Stop(at);
+    }
+    if 244 < b {
+        return Read::Stop(at);
+    }
+    let low = second_low(b);
+    let high = second_high(b);
+    let r = within(text, Read::End(at + 1), low, high);
+    if b < 224 {
+        return r;
+    }
+    let q = within(text, r, 128, 191);
+    if b < 240 {
+        return q;
+    }
+    within(text, q, 128, 191)
+}
+
+pub fn go_on(r: Read) -> Next
+    ensures { λ n. ⌜ n ≡ going r ⌝ }
+{
+    match r {
+        Read::End(e) => Next::More(e),
+        Read::Stop(e) => Next::Done(Read::Stop(e)),
+        Read::Deep(e) => Next::Done(Read::Deep(e)),
+    }
+}
+
+// A character of a string, or its last quote.
+pub fn character(text: &[u8], at: usize) -> Next
+    ensures { λ r. ⌜ r ≡ charBy (now (text .entry)) at (byte (now (text .entry)) at) ⌝ }
+{
+    let b = peek(text, at);
+    if b == 34 {
+        return Next::Done(Read::End(at + 1));
+    }
+    if b == 92 {
+        return escape(text, at + 1);
+    }
+    if b < 32 {
+        return Next::Done(Read::Stop(at));
+    }
+    if b < 128 {
+        return Next::More(at + 1);
+    }
+    go_on(wide(text, at))
+}
+
+// The characters of a string up to its last quote.
+pub fn body(text: &[u8], at: usize) -> Read
+    ensures { λ r. ⌜ r ≡ bodyAt (now (text .entry)) at .read ⌝ }
+{
+    let mut i = at;
+    for k in 0..text.len() {
+        let n = character(text, i);
+        match n {
+            Next::More(e) => {
+                i = e;
+            }
+            Next::Done(d) => return d,
+        }
+    }
+    Read::Stop(i)
+}
+
+// A string with its quotes.
+pub fn string(text: &[u8], at: usize) -> Read
+    ensures { λ r. ⌜ r ≡ stringAt (now (text .entry)) at .read ⌝ }
+{
+    let q = within(text, Read::End(at), 34, 34);
+    let Read::End(e) = q else {
+        return q;
+    };
+    body(text, e)
+}
+
+// Past a minus, if there is one.
+pub fn minus(text: &[u8], at: usize) -> usize
+    ensures { λ r. ⌜ r ≡ minusAt (now (text .entry)) at ⌝ }
+{
+    let b = peek(text, at);
+    if b == 45 {
+        return at + 1;
+    }
+    at
+}
+
+// Past a plus or a minus, if there is one.
+pub fn sign(text: &[u8], at: usize) -> usize
+    ensures { λ r. ⌜ r ≡ signAt (now (text .entry)) at ⌝ }
+{
+    let b = peek(text, at);
+    if b == 43 {
+        return at + 1;
+    }
+    minus(text, at)
+}
+
+// One or more digits.
+pub fn some_digits(text: &[u8], at: usize) -> Read
+    ensures { λ r. ⌜ r ≡ someAt (now (text .entry)) at ⌝ }
+{
+    let e = digits(text, at);
+    if e == at {
+        return Read::Stop(at);
+    }
+    Read::End(e)
+}
+
+pub fn whole_part(text: &[u8], at: usize) -> Read
+    ensures { λ r. ⌜ r ≡ wholeAt (now (text .entry)) at ⌝ }
+{
+    let b = peek(text, at);
+    if b == 48 {
+        return Read::End(at + 1);
+    }
+    some_digits(text, at)
+}
+
+pub fn fraction(text: &[u8], at: usize) -> Read
+    ensures { λ r. ⌜ r ≡ fracAt (now (text .entry)) at ⌝ }
+{
+    let b = peek(text, at);
+    if b == 46 {
+        return some_digits(text, at + 1);
+    }
+    Read::End(at)
+}
+
+pub fn is_exp(b: u16) -> bool
+    ensures { λ r. ⌜ r ≡ isExp b ⌝ }
+{
+    if b == 101 {
+        return true;
+    }
+    b == 69
+}
+
+pub fn exponent(text: &[u8], at: usize) -> Read
+    ensures { λ r. ⌜ r ≡ expAt (now (text .entry)) at ⌝ }
+{
+    let b = peek(text, at);
+    let x = is_exp(b);
+    if x {
+        let i = sign(text, at + 1);
+        return some_digits(text, i);
+    }
+    Read::End(at)
+}
+
+pub fn number(text: &[u8], at: usize) -> Read
+    ensures { λ r. ⌜ r ≡ numberAt (now (text .entry)) at ⌝ }
+{
+    let i = minus(text, at);
+    let w = whole_part(text, i);
+    let Read::End(j) = w else {
+        return w;
+    };
+    let f = fraction(text, j);
+    let Read::End(k) = f else {
+        return f;
+    };
+    exponent(text, k)
+}
+
+// A value that opens no level.
+pub fn scalar(text: &[u8], at: usize) -> Read
+    ensures { λ r. ⌜ r ≡ scalarBy (now (text .entry)) at (byte (now (text .entry)) at) .read ⌝ }
+{
+    let b = peek(text, at);
+    if b == 34 {
+        return string(text, at);
+    }
+    if b == 110 {
+        return null(text, at);
+    }
+    if b == 116 {
+        return true_word(text, at);
+    }
+    if b == 102 {
+        return false_word(text, at);
+    }
+    number(text, at)
+}
+
+// What follows an item that was read, up to the byte `close`.
+pub fn after(text: &[u8], item: Read, close: u8) -> Next
+    ensures { λ r. ⌜ r ≡ afterItem (now (text .entry)) close item ⌝ }
+{
+    let Read::End(e) = item else {
+        return Next::Done(item);
+    };
+    let i = spaces(text, e);
+    let b = peek(text, i);
+    if b == 44 {
+        return Next::More(i + 1);
+    }
+    Next::Done(within(text, Read::End(i), close, close))
+}
+
+// An object's name and its colon.
+pub fn key(text: &[u8], at: usize) -> Read
+    ensures { λ r. ⌜ r ≡ keyAt (now (text .entry)) at .read ⌝ }
+{
+    let i = spaces(text, at);
+    let q = string(text, i);
+    let Read::End(e) = q else {
+        return q;
+    };
+    let j = spaces(text, e);
+    within(text, Read::End(j), 58, 58)
+}

@@ -1,0 +1,93 @@
+-- The last member of a name: a walk over the members that keeps the last place found. Assumes nothing.
+use mathlib.Core.Path.{_≡_, refl, sym, ap, subst, _∙_}
+use mathlib.Core.List.{List, [], _∷_}
+use mathlib.Core.Bool.{Bool, true, false, _||_}
+use Prim.Native.Nat.{ℕ, _<_}
+use Rattle.model.specs.declared.Found.{Found}
+use Rattle.model.specs.declared.Found.the-variants.{At, Nothing}
+use Rattle.model.specs.Octets.{eqBytes}
+use Rattle.model.specs.Scan.{endOr}
+use Rattle.model.specs.Json.{Json, null, Named, keyAt, memberAt, valueAt}
+use Rattle.model.specs.Nav.{wellAt, treeAt, firstOf, nextMember, membersFrom, membersFine}
+use Rattle.model.specs.Text.{isWord}
+use Rattle.model.specs.Members.{membersIn, has, namedOr, valueOr, valueOf, Means}
+use Rattle.nav.proofs.Walk.{members-in, pass-end, pass-rest, pass-fine, pass-name, pass-value}
+use Rattle.text.specs.Match.{orLast}
+
+pub seen : Found → Bool
+seen (At p) = true
+seen Nothing = false
+
+-- the tree at a place, and that it is well
+pub treeOr : List ℕ → Found → Json
+treeOr s (At p) = treeAt s p
+treeOr s Nothing = null
+
+pub WellOr : List ℕ → Found → Type 0
+WellOr s (At p) = wellAt s p ≡ true
+WellOr s Nothing = Unit
+
+or-true : (b : Bool) → (b || true) ≡ true
+or-true true = refl
+or-true false = refl
+
+or-false : (b : Bool) → (b || false) ≡ b
+or-false true = refl
+or-false false = refl
+
+named-yes : (w : List ℕ) (d : Json) (m : Named) → eqBytes (m .name) w ≡ true → namedOr w d m ≡ m .value
+unfolding namedOr
+named-yes w d m h = rw (namedOr, h)
+
+named-no : (w : List ℕ) (d : Json) (m : Named) → eqBytes (m .name) w ≡ false → namedOr w d m ≡ d
+unfolding namedOr
+named-no w d m h = rw (namedOr, h)
+
+-- what the walk knows at the place g, where `last` was found before it
+pub record Sofar (s w : List ℕ) (all : List Named) (last g : Found) : Type 0 where
+  pub is : has w all ≡ (seen last || has w (membersFrom s g))
+  pub value : valueOf w all ≡ valueOr w (treeOr s last) (membersFrom s g)
+  pub well : WellOr s last
+  pub fine : membersFine s g ≡ true
+
+module _ (s w : List ℕ) where
+  pub sofar-start : (at : ℕ) → wellAt s at ≡ true → {g : Found} → g ≡ firstOf s 123 125 at → Sofar s w (membersIn (treeAt s at)) Nothing g
+  unfolding seen treeOr WellOr valueOf
+  sofar-start at h {g} e =
+      let q = members-in s at h in
+      let z : membersIn (treeAt s at) ≡ membersFrom s g = q .0 ∙ ap (membersFrom s) (sym e) in
+      record { is = ap (has w) z; value = ap (valueOr w null) z; well = tt; fine = rw e (q .1) }
+
+  module _ {all : List Named} {last g : Found} (so : Sofar s w all last g) where
+    pub sofar-end : g ≡ Nothing → Means s last (has w all) (valueOf w all)
+    unfolding Means seen treeOr WellOr has valueOr
+    sofar-end e = go last (so .is ∙ ap (λ l. seen last || has w l) (pass-end s e) ∙ or-false (seen last)) (so .value ∙ ap (valueOr w (treeOr s last)) (pass-end s e)) (so .well)
+      where
+        go : (f : Found) → has w all ≡ seen f → valueOf w all ≡ treeOr s f → WellOr s f → Means s f (has w all) (valueOf w all)
+        go (At p) a b c = (a, b, c)
+        go Nothing a b c = a
+
+    module _ {p : ℕ} (h : g ≡ At p) where
+      named : isWord w (treeAt s p) ≡ eqBytes (memberAt (valueAt 12 s) s p .tree .name) w
+      unfolding isWord
+      named = rw (pass-name s h (so .fine))
+
+      pub sofar-on : {b : Bool} {v : ℕ} {l n : Found} → b ≡ isWord w (treeAt s p) → v ≡ endOr p (keyAt s p .read) → l ≡ orLast b v last → n ≡ nextMember s p → Sofar s w all l n
+      unfolding seen treeOr WellOr has valueOr orLast
+      sofar-on {b} {v} {l} {n} eb ev el en = go b (sym (eb ∙ named)) el
+        where
+          go : (d : Bool) → eqBytes (memberAt (valueAt 12 s) s p .tree .name) w ≡ d → l ≡ orLast d v last → Sofar s w all l n
+          go true q e =
+              rw (e, en) (record {
+                is = so .is ∙ ap (λ x. seen last || has w x) (pass-rest s h) ∙ rw (has, q) (or-true (seen last));
+                value = so .value ∙ ap (valueOr w (treeOr s last)) (pass-rest s h) ∙ ap (λ x. valueOr w x (membersFrom s (nextMember s p))) (named-yes w (treeOr s last) _ q ∙ pass-value s h (so .fine) .0 ∙ ap (treeAt s) (sym ev));
+                well = rw ev (pass-value s h (so .fine) .1);
+                fine = pass-fine s h (so .fine);
+              })
+          go false q e =
+              rw (e, en) (record {
+                is = so .is ∙ ap (λ x. seen last || has w x) (pass-rest s h) ∙ rw (has, q);
+                value = so .value ∙ ap (valueOr w (treeOr s last)) (pass-rest s h) ∙ ap (λ x. valueOr w x (membersFrom s (nextMember s p))) (named-no w (treeOr s last) _ q);
+                well = so .well;
+                fine = pass-fine s h (so .fine);
+              })

@@ -1,0 +1,6 @@
+-- What the proofs of several functions use.
+pub mod Pushing
+pub mod Matching
+pub mod Sizes
+pub mod Words
+pub mod Last

@@ -1,0 +1,440 @@
+// Strings of a text: decoded, looked up, compared, counted.
+use model::Found;
+use model::Half;
+use model::Hex;
+use model::Next;
+use model::Read;
+ghost use mathlib.Core.Path.{_≡_};
+ghost use mathlib.Core.List.{[], _∷_};
+ghost use mathlib.Core.Bool.{true, cond};
+ghost use Prim.Native.Nat.{_+_, _-_, _*_, _%_, _≤_, _<_};
+ghost use lib.ListN.{length, take, drop};
+ghost use Rattle.model.specs.Scan.{byte, between, endOr};
+ghost use Rattle.model.specs.Strings.{utf8, unitOr, unitEnd, pairOf, unitBytes, escapeBytes, charBytes, bodyAt};
+ghost use Rattle.model.specs.Octets.{eqBytes};
+ghost use Rattle.model.specs.Json.{keyAt};
+ghost use Rattle.model.specs.Nav.{Says, treeAt, wellAt};
+ghost use Rattle.model.specs.Text.{stringIn, isWord, begins, chars, quoteEnd, quoteFrom, escaped};
+ghost use Rattle.model.specs.Members.{membersIn, has, valueOf, Means};
+ghost use Rattle.text.specs.Push.{Pushed, countOf};
+ghost use Rattle.text.specs.Match.{matched, Held, orLast};
+ghost use Rattle.text.specs.declared.Written.the-variants.{To};
+
+// Where the next byte goes, or that there is no room.
+pub enum Written {
+    To(usize),
+    Full,
+}
+
+// One byte more.
+fn push(out: &mut [u8], w: Written, b: u8) -> Written
+    ensures { λ r. ⌜ Pushed (now (out .entry)) w (b ∷ []) r (now (out .exit)) ⌝ }
+{
+    match w {
+        Written::To(o) => {
+            if o < out.len() {
+                out[o] = b;
+                return Written::To(o + 1);
+            }
+            Written::Full
+        }
+        Written::Full => Written::Full,
+    }
+}
+
+// A character of two bytes.
+fn two(out: &mut [u8], w: Written, a: u8, b: u8) -> Written
+    ensures { λ r. ⌜ Pushed (now (out .entry)) w (a ∷ b ∷ []) r (now (out .exit)) ⌝ }
+{
+    let x = push(out, w, a);
+    push(out, x, b)
+}
+
+// The bytes of `text` from one position up to another.
+fn copy(text: &[u8], from: usize, to: usize, out: &mut [u8], w: Written) -> Written
+    requires { ⌜ to ≤ length (now text) ⌝ }
+    ensures { λ r. ⌜ Pushed (now (out .entry)) w (between (now (text .entry)) from to) r (now (out .exit)) ⌝ }
+{
+    let mut x = w;
+    for i in from..to {
+        x = push(out, x, text[i]);
+    }
+    x
+}
+
+fn three(out: &mut [u8], w: Written, a: u8, b: u8, c: u8) -> Written
+    ensures { λ r. ⌜ Pushed (now (out .entry)) w (a ∷ b ∷ c ∷ []) r (now (out .exit)) ⌝ }
+{
+    let x = push(out, w, a);
+    two(out, x, b, c)
+}
+
+fn four(out: &mut [u8], w: Written, a: u8, b: u8, c: u8, d: u8) -> Written
+    ensures { λ r. ⌜ Pushed (now (out .entry)) w (a ∷ b ∷ c ∷ d ∷ []) r (now (out .exit)) ⌝ }
+{
+    let x = push(out, w, a);
+    three(out, x, b, c, d)
+}
+
+// A character in UTF-8.
+fn encode(v: u32, out: &mut [u8], w: Written) -> Written
+    ensures { λ r. ⌜ Pushed (now (out .entry)) w (utf8 v) r (now (out .exit)) ⌝ }
+{
+    if v < 128 {
+        return push(out, w, v as u8);
+    }
+    if v < 2048 {
+        return two(out, w, (192 + v / 64) as u8, (128 + v % 64) as u8);
+    }
+    if v < 65536 {
+        return three(
+            out,
+            w,
+            (224 + v / 4096) as u8,
+            (128 + v / 64 % 64) as u8,
+            (128 + v % 64) as u8,
+        );
+    }
+    four(
+        out,
+        w,
+        (240 + v / 262144 % 8) as u8,
+        (128 + v / 4096 % 64) as u8,
+        (128 + v / 64 % 64) as u8,
+        (128 + v % 64) as u8,
+    )
+}
+
+fn unit_value(h: Hex) -> u32
+    ensures { λ r. ⌜ r ≡ unitOr h ⌝ }
+{
+    match h {
+        Hex::Unit16(_, v) => v,
+        Hex::Bad(_) => 0,
+    }
+}
+
+fn unit_end(h: Hex) -> usize
+    ensures { λ r. ⌜ r ≡ unitEnd h ⌝ }
+{
+    match h {
+        Hex::Unit16(e, _) => e,
+        Hex::Bad(e) => e,
+    }
+}
+
+// a less b, or 0.
+fn less(a: u32, b: u32) -> u32
+    ensures { λ r. ⌜ r ≡ a - b ⌝ }
+{
+    if a < b { 0 } else { a - b }
+}
+
+fn pair_of(v: u32, w: u32) -> u32
+    ensures { λ r. ⌜ r ≡ pairOf v w ⌝ }
+{
+    65536 + less(v, 55296) % 1024 * 1024 + less(w, 56320) % 1024
+}
+
+fn unit_bytes(v: u32, u: u32, out: &mut [u8], w: Written) -> Written
+    ensures { λ r. ⌜ Pushed (now (out .entry)) w (unitBytes v u) r (now (out .exit)) ⌝ }
+{
+    let k = scan::half_of(v);
+    match k {
+        Half::Whole => encode(v, out, w),
+        Half::High => encode(pair_of(v, u), out, w),
+        Half::Refused => w,
+    }
+}
+
+// What a \u escape stands for, whose digits were read.
+fn escape_bytes(text: &[u8], h: Hex, out: &mut [u8], w: Written) -> Written
+    ensures { λ r. ⌜ Pushed (now (out .entry)) w (escapeBytes (now (text .entry)) h) r (now (out .exit)) ⌝ }
+{
+    let v = unit_value(h);
+    let e = unit_end(h);
+    let g = scan::low_half(text, e);
+    let u = unit_value(g);
+    unit_bytes(v, u, out, w)
+}
+
+// The bytes of the character that begins at `at` and ends at e.
+fn emit(text: &[u8], at: usize, e: usize, out: &mut [u8], w: Written) -> Written
+    requires { ⌜ e ≤ length (now text) ⌝ }
+    ensures { λ r. ⌜ Pushed (now (out .entry)) w (charBytes (now (text .entry)) at e (byte (now (text .entry)) at)) r (now (out .exit)) ⌝ }
+{
+    let b = scan::peek(text, at);
+    if b == 92 {
+        let c = scan::peek(text, at + 1);
+        if c == 117 {
+            let h = scan::hex4(text, at + 2);
+            return escape_bytes(text, h, out, w);
+        }
+        let x = scan::short_escape(c);
+        return push(out, w, x);
+    }
+    copy(text, at, e, out, w)
+}
+
+// The characters of the string whose first quote stands before `at`, decoded into `out`.
+pub fn decode(text: &[u8], at: usize, out: &mut [u8]) -> Written
+    ensures { λ r. ⌜ Pushed (now (out .entry)) (To 0) (bodyAt (now (text .entry)) at .tree) r (now (out .exit)) ⌝ }
+{
+    let mut i = at;
+    let mut x = Written::To(0);
+    for k in 0..text.len() {
+        let n = scan::character(text, i);
+        match n {
+            Next::More(e) => {
+                x = emit(text, i, e, out, x);
+                i = e;
+            }
+            Next::Done(_) => return x,
+        }
+    }
+    x
+}
+
+fn count(w: Written) -> usize
+    ensures { λ r. ⌜ r ≡ countOf w ⌝ }
+{
+    match w {
+        Written::To(n) => n,
+        Written::Full => 0,
+    }
+}
+
+fn quote_end(at: usize, r: Read) -> Found
+    ensures { λ f. ⌜ f ≡ quoteEnd at r ⌝ }
+{
+    match r {
+        Read::End(_) => Found::At(at),
+        Read::Stop(_) => Found::Nothing,
+        Read::Deep(_) => Found::Nothing,
+    }
+}
+
+// Where the quote stands that ends the characters from `at` on, if none of them is an escape.
+fn quote(text: &[u8], at: usize) -> Found
+    ensures { λ r. ⌜ r ≡ quoteFrom (now (text .entry)) (length (now (text .entry))) at ⌝ }
+{
+    let mut i = at;
+    for k in 0..text.len() {
+        let b = scan::peek(text, i);
+        if b == 92 {
+            return Found::Nothing;
+        }
+        let n = scan::character(text, i);
+        match n {
+            Next::More(e) => {
+                i = e;
+            }
+            Next::Done(r) => return quote_end(i, r),
+        }
+    }
+    Found::Nothing
+}
+
+// A part of the text or of the scratch area.
+pub struct Part {
+    pub in_scratch: bool,
+    pub start: usize,
+    pub len: usize,
+}
+
+// Where the string at `at` is: one without escapes in the text, one with escapes in the scratch area. A value that is no string is an empty part.
+pub fn string_at(text: &[u8], at: usize, scratch: &mut [u8]) -> Part
+    requires { ⌜ length (now text) ≤ length (now scratch) ⌝ }
+    ensures { λ r. ⌜ Held (now (text .entry)) (now (scratch .exit)) (r .«in_scratch») (r .start) (r .len) (escaped (now (text .entry)) at) (stringIn (treeAt (now (text .entry)) at)) ⌝ }
+{
+    let k = nav::kind_at(text, at);
+    let t = nav::is_text(k);
+    if t {
+        let i = scan::spaces(text, at);
+        let j = i + 1;
+        let q = quote(text, j);
+        match q {
+            Found::At(e) => {
+                let n = e - j;
+                return Part {
+                    in_scratch: false,
+                    start: j,
+                    len: n,
+                };
+            }
+            Found::Nothing => {
+                let w = decode(text, j, scratch);
+                let n = count(w);
+                return Part {
+                    in_scratch: true,
+                    start: 0,
+                    len: n,
+                };
+            }
+        }
+    }
+    Part {
+        in_scratch: false,
+        start: 0,
+        len: 0,
+    }
+}
+
+// The same slice, at a shorter lifetime.
+fn shorter<'r: 's, 's>(request: &'r [u8], _near: &'s [u8]) -> &'s [u8]
+    ensures { λ r. ⌜ r ≡ request .entry ⌝ }
+{
+    request
+}
+
+// The bytes of a part.
+pub fn bytes<'r: 's, 's>(text: &'r [u8], scratch: &'s [u8], p: Part) -> &'s [u8]
+    requires { ⌜ p .start + p .len ≤ length (cond (p .«in_scratch») (now scratch) (now text)) ⌝ }
+    ensures { λ r. ⌜ now r ≡ take (p .len) (drop (p .start) (cond (p .«in_scratch») (now (scratch .entry)) (now (text .entry)))) ⌝ }
+{
+    let start = p.start;
+    let len = p.len;
+    if p.in_scratch {
+        return &scratch[start..start + len];
+    }
+    let near = shorter(text, scratch);
+    &near[start..start + len]
+}
+
+fn begins_here(b: u8) -> bool
+    ensures { λ r. ⌜ r ≡ begins b ⌝ }
+{
+    if b < 128 {
+        return true;
+    }
+    if b < 192 {
+        return false;
+    }
+    true
+}
+
+// The length of a string in characters.
+pub fn characters(s: &[u8]) -> usize
+    ensures { λ r. ⌜ r ≡ chars (now (s .entry)) ⌝ }
+{
+    let mut n: usize = 0;
+    let mut i = s.len();
+    while 0 < i {
+        i -= 1;
+        n = counted(n, begins_here(s[i]));
+    }
+    n
+}
+
+// One more, if so.
+fn counted(n: usize, more: bool) -> usize
+    requires { ⌜ n < 18446744073709551615 ⌝ }
+    ensures { λ r. ⌜ r ≡ cond more (1 + n) n ⌝ }
+{
+    if more {
+        return n + 1;
+    }
+    n
+}
+
+// Past the bytes from `from` to `to` in `word` from o on, if they stand there.
+fn part_is(bytes: &[u8], from: usize, to: usize, word: &[u8], o: usize) -> Found
+    requires { ⌜ to ≤ length (now bytes) ⌝ }
+    ensures { λ r. ⌜ r ≡ matched (between (now (bytes .entry)) from to) (now (word .entry)) o ⌝ }
+{
+    let mut p = o;
+    for i in from..to {
+        if word.len() <= p {
+            return Found::Nothing;
+        }
+        if bytes[i] != word[p] {
+            return Found::Nothing;
+        }
+        p += 1;
+    }
+    Found::At(p)
+}
+
+// The same of the character that begins at `at` and ends at e.
+fn char_is(text: &[u8], at: usize, e: usize, word: &[u8], o: usize) -> Found
+    requires { ⌜ e ≤ length (now text) ⌝ }
+    ensures { λ r. ⌜ r ≡ matched (charBytes (now (text .entry)) at e (byte (now (text .entry)) at)) (now (word .entry)) o ⌝ }
+{
+    let b = scan::peek(text, at);
+    if b == 92 {
+        let mut buf = [0u8; 4];
+        let w = emit(text, at, e, &mut buf, Written::To(0));
+        let n = count(w);
+        return part_is(&buf, 0, n, word, o);
+    }
+    part_is(text, at, e, word, o)
+}
+
+// Whether the characters of the string whose first quote stands before `at` are those of `word`.
+fn body_is(text: &[u8], at: usize, word: &[u8]) -> bool
+    ensures { λ r. ⌜ r ≡ eqBytes (bodyAt (now (text .entry)) at .tree) (now (word .entry)) ⌝ }
+{
+    let mut i = at;
+    let mut o: usize = 0;
+    for k in 0..text.len() {
+        let n = scan::character(text, i);
+        match n {
+            Next::More(e) => {
+                let m = char_is(text, i, e, word, o);
+                match m {
+                    Found::At(p) => {
+                        o = p;
+                    }
+                    Found::Nothing => return false,
+                }
+                i = e;
+            }
+            Next::Done(_) => return o == word.len(),
+        }
+    }
+    o == word.len()
+}
+
+// Whether the value at `at` is the string `word`.
+pub fn is_word(text: &[u8], at: usize, word: &[u8]) -> bool
+    ensures { λ r. ⌜ r ≡ isWord (now (word .entry)) (treeAt (now (text .entry)) at) ⌝ }
+{
+    let k = nav::kind_at(text, at);
+    let t = nav::is_text(k);
+    if t {
+        let i = scan::spaces(text, at);
+        return body_is(text, i + 1, word);
+    }
+    false
+}
+
+// The place p, if so, and else the one before.
+fn or_last(here: bool, p: usize, last: Found) -> Found
+    ensures { λ r. ⌜ r ≡ orLast here p last ⌝ }
+{
+    if here {
+        return Found::At(p);
+    }
+    last
+}
+
+// Where the value of the last member of that name begins, in the object at `at`.
+pub fn find(text: &[u8], ends: &[u16], at: usize, word: &[u8]) -> Found
+    requires { ⌜ Says (now text) (now ends) ⌝ }
+    requires { ⌜ wellAt (now text) at ≡ true ⌝ }
+    ensures { λ r. ⌜ Means (now (text .entry)) r (has (now (word .entry)) (membersIn (treeAt (now (text .entry)) at))) (valueOf (now (word .entry)) (membersIn (treeAt (now (text .entry)) at))) ⌝ }
+{
+    let mut last = Found::Nothing;
+    let mut g = nav::first(text, at, 123, 125);
+    loop {
+        match g {
+            Found::At(p) => {
+                let same = is_word(text, p, word);
+                let v = nav::member_value(text, p);
+                last = or_last(same, v, last);
+                g = nav::next_member(text, ends, p);
+            }
+            Found::Nothing => return last,
+        }
+    }
+}
