@@ -1,0 +1,54 @@
+-- `atom::less` meets its contract. Assumes nothing.
+use Rattle.model.specs.Value.{textOf, lessAtom}
+use mathlib.Core.Path.{sym, ap, _∙_}
+use Rattle.model.specs.Octets.{ltBytes}
+use Rattle.atom.proofs.Types.{base-integer, base-text, by-bytes}
+use borrow.Author.Needs.{needs}
+use Rattle.atom.proofs.less.Statement.{statement}
+use Rattle.atom.proofs.less.Tie as tie
+
+less-integers-requires : tie.Need-less-integers-requires
+less-integers-requires c κs = search needs
+
+returns : tie.Need-returns
+returns c =
+    let s = c .before .before in
+    c .less-integers .ensures ∙ ap (λ k. lessAtom k (s .args .a .now) (s .args .b .now)) (sym (base-integer (s .args .kind) (c .before .if1 .taken)))
+
+text-of-requires : tie.Need-text-of-requires
+text-of-requires c κs = search needs
+
+text-of-requires-2 : tie.Need-text-of-requires-2
+text-of-requires-2 c κs = search needs
+
+less-requires : tie.Need-less-requires
+less-requires c κs = search needs
+
+returns-2 : tie.Need-returns-2
+returns-2 c =
+    let s = c .before .before .before .before .before in
+    let a = s .args .a .now in
+    let b = s .args .b .now in
+    c .less .ensures ∙ ap (λ t. ltBytes t (c .before .text-of2 .result .now)) (c .before .before .text-of .ensures) ∙ ap (ltBytes (textOf a)) (c .before .text-of2 .ensures)
+    ∙ ap (λ k. lessAtom k a b) (sym (base-text (s .args .kind) (c .before .before .before .if2 .taken)))
+
+less-requires-2 : tie.Need-less-requires-2
+less-requires-2 c κs = search needs
+
+returns-3 : tie.Need-returns-3
+returns-3 c =
+    let s = c .before .before .before .before .before in
+    c .less2 .ensures ∙ sym (by-bytes (s .args .kind) (s .args .a .now) (s .args .b .now) (c .before .before .before .before .if1 .left) (c .before .before .before .if2 .left))
+
+pub less-spec : {M : Type 1} → statement M
+less-spec =
+    tie.close
+    (tie.spec
+    less-integers-requires
+    returns
+    text-of-requires
+    text-of-requires-2
+    less-requires
+    returns-2
+    less-requires-2
+    returns-3)

@@ -1,0 +1,55 @@
+-- `atom::well_text` meets its contract. Assumes nothing.
+use mathlib.Core.Path.{_≡_, ap, _∙_}
+use Prim.Native.Nat.{ℕ, suc, _+_}
+use native.Mathlib.Omega.{arith}
+use borrow.Author.Tests.{le-leb, lt-leb}
+use lib.ListN.{drop, getD}
+use Rattle.model.specs.Value.{textOf, isUtf8, zeros}
+use borrow.Author.Needs.{needs}
+use Rattle.atom.proofs.well_text.Statement.{statement}
+use Rattle.atom.proofs.well_text.Tie as tie
+
+element-copy-out-wide : tie.Need-element-copy-out-wide
+element-copy-out-wide c = search needs
+
+wide-requires : tie.Need-wide-requires
+wide-requires c κs = search needs
+
+returns : tie.Need-returns
+returns c =
+    let a = c .before .before .before .args .a .now in
+    rw (lt-leb (getD a 0 0) 24 (omega (arith, c .before .wide .ensures)))
+
+text-of-requires : tie.Need-text-of-requires
+text-of-requires c κs = search needs
+
+is-utf8-requires : tie.Need-is-utf8-requires
+is-utf8-requires c κs = search needs
+
+add-blank-from : tie.Need-add-blank-from
+add-blank-from c = search needs
+
+blank-from-requires : tie.Need-blank-from-requires
+blank-from-requires c κs = search needs
+
+returns-2 : tie.Need-returns-2
+returns-2 c =
+    let a = c .before .before .before .before .before .before .args .a .now in
+    let u : c .before .is-utf8 .result ≡ isUtf8 (textOf a) = c .before .is-utf8 .ensures ∙ ap isUtf8 (c .before .before .text-of .ensures) in
+    let m : 1 + c .before .before .before .before .wide .result ≡ suc (getD a 0 0) = omega (arith, c .before .before .before .before .wide .ensures) in
+    let z : c .blank-from .result ≡ zeros (drop (suc (getD a 0 0)) a) =
+    c .blank-from .ensures ∙ ap (λ (n : ℕ). zeros (drop n a)) m in
+    rw (le-leb (getD a 0 0) 24 (omega (arith, c .before .before .before .before .wide .ensures)), u, z)
+
+pub well-text-spec : {M : Type 1} → statement M
+well-text-spec =
+    tie.close
+    (tie.spec
+    element-copy-out-wide
+    wide-requires
+    returns
+    text-of-requires
+    is-utf8-requires
+    add-blank-from
+    blank-from-requires
+    returns-2)

@@ -1,0 +1,111 @@
+-- `value::canonical` meets its contract. Assumes nothing.
+use mathlib.Core.Path.{_≡_, sym, ap, _∙_}
+use mathlib.Core.Bool.{Bool, _&&_}
+use Prim.Native.Nat.{ℕ}
+use native.Mathlib.Omega.{arith}
+use borrow.Author.Tests.{not-true, not-false}
+use lib.ListN.{length, take, drop, length-take}
+use Rattle.model.specs.Base.{all}
+use Rattle.model.specs.Schema.{baseOf}
+use Rattle.model.specs.Value.{zeros, wellAtom, ascending}
+use Rattle.octets.proofs.Rests.{mid-rest}
+use Rattle.value.proofs.Forms.{bad-shape, too-many, not-one, tested, shape-four}
+use borrow.Author.Needs.{needs}
+use Rattle.value.proofs.canonical.Statement.{statement}
+use Rattle.value.proofs.canonical.Tie as tie
+
+wide-requires : tie.Need-wide-requires
+wide-requires c κs = search needs
+
+shaped-requires : tie.Need-shaped-requires
+shaped-requires c κs = search needs
+
+returns : tie.Need-returns
+returns c =
+    let s = c .before .before .before in
+    λ col b e. sym (bad-shape col (baseOf (s .args .kind)) (s .args .count) (s .args .atoms .now) (sym (c .before .shaped .ensures) ∙ not-true _ (c .if1 .taken)))
+
+returns-2 : tie.Need-returns-2
+returns-2 c =
+    let s = c .before .before .before .before in
+    let n : c .before .before .before .wide .result ≡ s .args .count = c .before .before .before .wide .ensures in
+    λ col b e. sym (too-many col (baseOf (s .args .kind)) (s .args .count) (s .args .atoms .now) (omega (arith, n)))
+
+returns-3 : tie.Need-returns-3
+returns-3 c =
+    let s = c .before .before .before .before .before in
+    let n : c .before .before .before .before .wide .result ≡ s .args .count = c .before .before .before .before .wide .ensures in
+    λ col b e. sym (not-one col (baseOf (s .args .kind)) (s .args .count) (s .args .atoms .now) (s .args .one) e (rw n at (c .if3 .taken)))
+
+-- the atoms are four once they are known to be shaped
+four : (p : tie.Else3) → length (p .before .before .before .before .before .args .atoms .now) ≡ 4
+four p = shape-four (p .before .before .before .before .before .args .atoms .now) (sym (p .before .before .before .shaped .ensures) ∙ not-false _ (p .before .before .if1 .left))
+
+slice-aggregate-all-well : tie.Need-slice-aggregate-all-well
+slice-aggregate-all-well c =
+    let p = c .before in
+    omega (arith, four p, length-take (p .before .before .before .before .wide .result) (p .before .before .before .before .before .args .atoms .now))
+
+all-well-requires : tie.Need-all-well-requires
+all-well-requires c κs = search needs
+
+slice-aggregate-ascending : tie.Need-slice-aggregate-ascending
+slice-aggregate-ascending c =
+    let p = c .before .before .before in
+    omega (arith, four p, length-take (p .before .before .before .before .wide .result) (p .before .before .before .before .before .args .atoms .now))
+
+ascending-requires : tie.Need-ascending-requires
+ascending-requires c κs = search needs
+
+mul-all-blank : tie.Need-mul-all-blank
+mul-all-blank c = search needs
+
+sub-all-blank : tie.Need-sub-all-blank
+sub-all-blank c = omega (arith, four (c .before .before .before .before))
+
+part-all-blank-start : tie.Need-part-all-blank-start
+part-all-blank-start c = omega (arith, four (c .before .before .before .before))
+
+part-all-blank-end : tie.Need-part-all-blank-end
+part-all-blank-end c = search needs
+
+all-blank-requires : tie.Need-all-blank-requires
+all-blank-requires c κs = search needs
+
+returns-4 : tie.Need-returns-4
+returns-4 c =
+    let p = c .before .before .before .before .before .before in
+    let s = p .before .before .before .before .before in
+    let k = baseOf (s .args .kind) in
+    let l = s .args .atoms .now in
+    let j = p .before .before .before .before .wide .result in
+    let n : j ≡ s .args .count = p .before .before .before .before .wide .ensures in
+    let w = c .before .before .before .before .all-well .ensures in
+    let u = c .before .before .ascending .ensures in
+    let z : c .all-blank .result ≡ all zeros (drop j l) = c .all-blank .ensures ∙ ap (all zeros) (mid-rest j l) in
+    λ col b e.
+    ap (λ (t : Bool). (t && c .before .before .ascending .result) && c .all-blank .result) w
+    ∙ ap (λ (t : Bool). (all (wellAtom k) (take j l) && t) && c .all-blank .result) u
+    ∙ ap (λ (t : Bool). (all (wellAtom k) (take j l) && ascending k (take j l)) && t) z
+    ∙ ap (λ (i : ℕ). (all (wellAtom k) (take i l) && ascending k (take i l)) && all zeros (drop i l)) n
+    ∙ sym (tested col k (s .args .count) l (s .args .one) b e (sym (p .before .before .before .shaped .ensures) ∙ not-false _ (p .before .before .if1 .left)) (omega (arith, n)) (rw n at (p .if3 .left)))
+
+pub canonical-spec : {M : Type 1} → statement M
+canonical-spec =
+    tie.close
+    (tie.spec
+    wide-requires
+    shaped-requires
+    returns
+    returns-2
+    returns-3
+    slice-aggregate-all-well
+    all-well-requires
+    slice-aggregate-ascending
+    ascending-requires
+    mul-all-blank
+    sub-all-blank
+    part-all-blank-start
+    part-all-blank-end
+    all-blank-requires
+    returns-4)
