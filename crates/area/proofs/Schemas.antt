@@ -1,0 +1,187 @@
+-- Tables and columns in the cells of a schema, and the tests of a row by them. Assumes nothing.
+use mathlib.Core.Path.{_≡_, refl, sym, ap, _∙_}
+use mathlib.Core.Bool.{Bool, true, false, not, _&&_}
+use mathlib.Core.List.{List, [], _∷_, map}
+use Prim.Native.Nat.{ℕ, zero, suc, _+_, _-_, _*_, _^_, _≤_, _<_}
+use native.Mathlib.Numerals.{add-one}
+use native.Mathlib.Omega.{arith}
+use borrow.Author.Tests.{lt-ltb, le-ltb, lt-leb, le-leb}
+use lib.Dec.{eqb, ltb, leb}
+use lib.ListN.{length, getD, take, drop, length-map, drop-of-length-le}
+use lib.Seq.{drop-cons, drop-drop, getD-drop, take-all}
+use Rattle.model.specs.Base.{all}
+use Rattle.model.specs.Schema.{Column, Schema, columnsOf}
+use Rattle.model.specs.Packed.{columnFrom, tableFrom, tablesFrom, tablesIn}
+use Rattle.model.specs.Value.{Value, canonicalFor}
+use Rattle.model.specs.Records.{known}
+use Rattle.model.specs.Areas.{columnsFrom, rowFrom, valuesPass, rowPasses, ascends, distinctIds}
+use Rattle.model.specs.Working.{working, tableIn, idIn, valueIn}
+use Rattle.model.proofs.Tests.{clash}
+use Rattle.area.proofs.Walks.{and-true}
+use Rattle.area.specs.Layout.{rowsIn, tidyFrom, canonicalFrom, columnCells, rowGood, rowsGood, textLength, rowCount, restZero, partGood, Judged}
+
+pub tables-count : (cells : List (List ℕ)) (t n : ℕ) → length (tablesFrom cells t n) ≡ n
+tables-count cells t zero = refl
+tables-count cells t (suc n) = ap suc (tables-count cells (suc t) n)
+
+columns-from : (cells : List (List ℕ)) (u n t : ℕ) → t < n → columnsOf (tablesFrom cells u n) t ≡ tableFrom cells (u + t) .columns
+columns-from cells u zero t h = absurd (omega arith)
+columns-from cells u (suc n) zero h = let e : u ≡ u + 0 = omega arith in ap (λ (k : ℕ). tableFrom cells k .columns) e
+columns-from cells u (suc n) (suc t) h =
+    let e : suc u + t ≡ u + suc t = omega arith in
+    columns-from cells (suc u) n t (omega arith) ∙ ap (λ (k : ℕ). tableFrom cells k .columns) e
+
+-- the columns of a table are in the cells of the schema from 5 + 6 t on
+pub columns-in : (cells : List (List ℕ)) (t : ℕ) → t < getD (getD cells 0 []) 25 0 → columnsOf (tablesIn cells) t ≡ map columnFrom (columnCells cells t)
+unfolding tableFrom
+columns-in cells t h =
+    let e : 0 + t ≡ t = omega arith in
+    let f : 5 + 6 * t + 0 ≡ 5 + 6 * t = omega arith in
+    columns-from cells 0 (getD (getD cells 0 []) 25 0) t h
+    ∙ ap (λ (k : ℕ). map columnFrom (take (getD (getD cells (1 + k) []) 25 0) (drop (5 + 6 * k + 0) cells))) e
+    ∙ ap (λ (k : ℕ). map columnFrom (take (getD (getD cells (1 + t) []) 25 0) (drop k cells))) f
+
+-- the values of a row, column by column
+values-from : (l : List (List ℕ)) (c : ℕ) (row : List (List ℕ))
+    → valuesPass canonicalFor (map columnFrom l) (columnsFrom (length l) (drop (17 + c) (getD row 0 [])) (drop (1 + 4 * c) row)) ≡ canonicalFrom c l row
+unfolding valueIn
+values-from [] c row = refl
+values-from (cell ∷ l) c row =
+    let head = getD row 0 [] in
+    let x : 17 + c + 0 ≡ 17 + c = omega arith in
+    let y : 17 + c + 1 ≡ 17 + suc c = omega arith in
+    let z : 1 + 4 * c + 4 ≡ 1 + 4 * suc c = omega arith in
+    let a : getD (drop (17 + c) head) 0 0 ≡ getD head (17 + c) 0 = getD-drop (17 + c) head 0 0 ∙ ap (λ (k : ℕ). getD head k 0) x in
+    let p : drop 1 (drop (17 + c) head) ≡ drop (17 + suc c) head = drop-drop 1 (17 + c) head ∙ ap (λ (k : ℕ). drop k head) y in
+    let q : drop 4 (drop (1 + 4 * c) row) ≡ drop (1 + 4 * suc c) row = drop-drop 4 (1 + 4 * c) row ∙ ap (λ (k : ℕ). drop k row) z in
+    (λ j. canonicalFor (columnFrom cell) (record { count = a j; atoms = take 4 (drop (1 + 4 * c) row) }) && valuesPass canonicalFor (map columnFrom l) (columnsFrom (length l) (p j) (q j)))
+    ∙ ap (λ (b : Bool). canonicalFor (columnFrom cell) (valueIn c row) && b) (values-from l (suc c) row)
+
+and-false : (b : Bool) → (b && false) ≡ false
+and-false true = refl
+and-false false = refl
+
+-- the tests of a row, one after another
+module _ (schema row : List (List ℕ)) where
+  abbrev id-test : Bool
+  id-test = not (eqb (idIn row) 0) && ltb (idIn row) (256 ^ 16)
+
+  abbrev s : Schema
+  s = tablesIn schema
+
+  known-is : known s (rowFrom s row .table) (rowFrom s row .id) ≡ (ltb (tableIn row) (getD (getD schema 0 []) 25 0) && id-test)
+  unfolding rowFrom tableIn idIn
+  known-is = ap (λ (n : ℕ). (ltb (tableIn row) n && not (eqb (idIn row) 0)) && ltb (idIn row) (256 ^ 16)) (tables-count schema 0 (getD (getD schema 0 []) 25 0)) ∙ and-assoc (ltb (tableIn row) (getD (getD schema 0 []) 25 0)) (not (eqb (idIn row) 0)) (ltb (idIn row) (256 ^ 16))
+    where
+      and-assoc : (a b c : Bool) → ((a && b) && c) ≡ (a && (b && c))
+      and-assoc true b c = refl
+      and-assoc false b c = refl
+
+  abbrev values : Bool
+  values = valuesPass canonicalFor (columnsOf s (rowFrom s row .table)) (rowFrom s row .columns)
+
+  good-is : rowGood schema row ≡ (((ltb (tableIn row) (getD (getD schema 0 []) 25 0) && id-test) && values) && tidyFrom (length (columnsOf s (tableIn row))) row)
+  unfolding rowGood
+  good-is = ap (λ (b : Bool). (b && values) && tidyFrom (length (columnsOf s (tableIn row))) row) known-is
+
+  pub no-table : getD (getD schema 0 []) 25 0 ≤ tableIn row → rowGood schema row ≡ false
+  no-table h = good-is ∙ ap (λ (b : Bool). ((b && id-test) && values) && tidyFrom (length (columnsOf s (tableIn row))) row) (le-ltb (tableIn row) (getD (getD schema 0 []) 25 0) h)
+
+  pub no-id : id-test ≡ false → rowGood schema row ≡ false
+  no-id h =
+      good-is
+      ∙ ap (λ (b : Bool). ((ltb (tableIn row) (getD (getD schema 0 []) 25 0) && b) && values) && tidyFrom (length (columnsOf s (tableIn row))) row) h
+      ∙ ap (λ (b : Bool). (b && values) && tidyFrom (length (columnsOf s (tableIn row))) row) (and-false (ltb (tableIn row) (getD (getD schema 0 []) 25 0)))
+
+  module _ (here : tableIn row < getD (getD schema 0 []) 25 0) where
+    count : length (columnsOf s (tableIn row)) ≡ length (columnCells schema (tableIn row))
+    count = ap length (columns-in schema (tableIn row) here) ∙ length-map (columnCells schema (tableIn row)) columnFrom
+
+    values-are : values ≡ canonicalFrom 0 (columnCells schema (tableIn row)) row
+    unfolding rowFrom tableIn
+    values-are =
+        (λ j. valuesPass canonicalFor (columns-in schema (tableIn row) here j) (columnsFrom (count j) (drop 17 (getD row 0 [])) (drop 1 row)))
+        ∙ values-from (columnCells schema (tableIn row)) 0 row
+
+    pub not-tidy : tidyFrom (length (columnCells schema (tableIn row))) row ≡ false → rowGood schema row ≡ false
+    not-tidy h =
+        good-is
+        ∙ ap (λ (b : Bool). ((ltb (tableIn row) (getD (getD schema 0 []) 25 0) && id-test) && values) && b) (ap (λ (k : ℕ). tidyFrom k row) count ∙ h)
+        ∙ and-false ((ltb (tableIn row) (getD (getD schema 0 []) 25 0) && id-test) && values)
+
+    pub all-good : id-test ≡ true → tidyFrom (length (columnCells schema (tableIn row))) row ≡ true → rowGood schema row ≡ canonicalFrom 0 (columnCells schema (tableIn row)) row
+    all-good h g =
+        good-is
+        ∙ (λ j. ((lt-ltb (tableIn row) (getD (getD schema 0 []) 25 0) here j && h j) && values-are j) && (ap (λ (k : ℕ). tidyFrom k row) count ∙ g) j)
+        ∙ and-true (canonicalFrom 0 (columnCells schema (tableIn row)) row)
+
+-- the loop over the columns
+module _ (cells : List (List ℕ)) (row : List (List ℕ)) (c : ℕ) where
+  canonical-step : c < length cells → canonicalFrom c (drop c cells) row ≡ (canonicalFor (columnFrom (getD cells c [])) (valueIn c row) && canonicalFrom (c + 1) (drop (c + 1) cells) row)
+  canonical-step h = rw (drop-cons cells c [] h, add-one c)
+
+  pub canonical-on : c < length cells → canonicalFor (columnFrom (getD cells c [])) (valueIn c row) ≡ true → canonicalFrom c (drop c cells) row ≡ canonicalFrom (c + 1) (drop (c + 1) cells) row
+  canonical-on h e = canonical-step h ∙ ap (λ (b : Bool). b && canonicalFrom (c + 1) (drop (c + 1) cells) row) e
+
+  pub canonical-off : c < length cells → canonicalFor (columnFrom (getD cells c [])) (valueIn c row) ≡ false → canonicalFrom c (drop c cells) row ≡ false
+  canonical-off h e = canonical-step h ∙ ap (λ (b : Bool). b && canonicalFrom (c + 1) (drop (c + 1) cells) row) e
+
+  pub canonical-end : length cells ≤ c → canonicalFrom c (drop c cells) row ≡ true
+  canonical-end h = rw (drop-of-length-le cells {i = c} h)
+
+-- the tests of all rows, one after another
+module _ (schema : List (List ℕ)) (n : ℕ) (rows : List (List (List ℕ))) where
+  abbrev each : Bool
+  each = all (rowGood schema) (take n rows)
+
+  abbrev in-order : Bool
+  in-order = ascends (working (tablesIn schema) n rows)
+
+  abbrev apart : Bool
+  apart = distinctIds (working (tablesIn schema) n rows)
+
+  pub rows-no : each ≡ false → rowsGood schema n rows ≡ false
+  unfolding rowsGood
+  rows-no h = ap (λ (b : Bool). b && (in-order && apart)) h
+
+  pub rows-apart : in-order ≡ false → rowsGood schema n rows ≡ false
+  unfolding rowsGood
+  rows-apart h = ap (λ (b : Bool). each && (b && apart)) h ∙ and-false each
+
+  pub rows-all : each ≡ true → in-order ≡ true → rowsGood schema n rows ≡ apart
+  unfolding rowsGood
+  rows-all h g = λ j. h j && (g j && apart)
+
+-- only the first n rows matter
+pub rows-same : (schema : List (List ℕ)) (n : ℕ) (x y : List (List (List ℕ))) → take n x ≡ y → length y ≡ n → rowsGood schema n x ≡ rowsGood schema n y
+unfolding rowsGood working
+rows-same schema n x y e l =
+    let f = e ∙ sym (take-all n y (omega arith)) in
+    λ j. all (rowGood schema) (f j) && (ascends (map (rowFrom (tablesIn schema)) (f j)) && distinctIds (map (rowFrom (tablesIn schema)) (f j)))
+
+-- ── the tests of the part of an area that stores and mirrors share, one after another ──
+module _ (schema : List (List ℕ)) (a : List ℕ) where
+  abbrev rows-test : Bool
+  rows-test = rowsGood schema (rowCount a) (rowsIn (rowCount a) (drop 4107 a))
+
+  pub part-long : 4096 < textLength a → partGood schema a ≡ false
+  unfolding partGood
+  part-long h = ap (λ (b : Bool). b && (leb (rowCount a) 32 && (restZero a && rows-test))) (lt-leb (textLength a) 4096 h)
+
+  pub part-many : 32 < rowCount a → partGood schema a ≡ false
+  unfolding partGood
+  part-many h = ap (λ (b : Bool). leb (textLength a) 4096 && (b && (restZero a && rows-test))) (lt-leb (rowCount a) 32 h) ∙ and-false (leb (textLength a) 4096)
+
+  pub part-rest : restZero a ≡ false → partGood schema a ≡ false
+  unfolding partGood
+  part-rest h =
+      ap (λ (b : Bool). leb (textLength a) 4096 && (leb (rowCount a) 32 && (b && rows-test))) h
+      ∙ ap (λ (b : Bool). leb (textLength a) 4096 && b) (and-false (leb (rowCount a) 32))
+      ∙ and-false (leb (textLength a) 4096)
+
+  pub part-rows : textLength a ≤ 4096 → rowCount a ≤ 32 → restZero a ≡ true → partGood schema a ≡ rows-test
+  unfolding partGood
+  part-rows h g z = λ j. le-leb (textLength a) 4096 h j && (le-leb (rowCount a) 32 g j && (z j && rows-test))
+
+  pub judged-no : (cells : List (List (List ℕ))) → partGood schema a ≡ false → Judged a schema cells false
+  judged-no cells e = record { good = sym e; rows = λ q. absurd (clash false q refl) }

@@ -1,0 +1,128 @@
+-- Bytes written to a place of an area, and what they make of the encoding of a state. Assumes nothing.
+use mathlib.Core.Path.{_≡_, refl, sym, ap, _∙_}
+use mathlib.Core.Bool.{Bool, true, false}
+use mathlib.Core.List.{List, [], _∷_, _++_, map, append-assoc, append-nil}
+use Prim.Native.Nat.{ℕ, suc, _+_, _-_, _*_, _^_, _≤_, _<_}
+use native.Mathlib.Omega.{arith}
+use borrow.Author.Tests.{lt-ltb}
+use borrow.Rule.Slice.PartMut.{midOf, putMid}
+use lib.ListN.{length, getD, set, take, drop, replicate, length-append, length-drop, length-map, length-replicate}
+use lib.Seq.{take-at, drop-at, drop-drop, length-take-le}
+use Rattle.model.specs.Octets.{big, value, part}
+use Rattle.model.specs.Base.{all}
+use Rattle.model.specs.Schema.{Schema}
+use Rattle.model.specs.Rows.{Row}
+use Rattle.model.specs.Mirror.{Mirror}
+use Rattle.model.specs.Areas.{rowFrom, rowsBytes, textBytes, Store, encodeStore, MirrorState, storePart, encodeMirror}
+use Rattle.model.specs.Working.{working, Tidy}
+use Rattle.model.proofs.Lists.{all-take, all-drop, all-cons}
+use Rattle.model.proofs.Octets.{octet, value-lt}
+use Rattle.model.proofs.Areas.{Fits, store-length}
+use Rattle.octets.proofs.Rests.{mid-rest, put-rest}
+use Rattle.area.specs.Layout.{bytesOf}
+use Rattle.area.specs.Writing.{placed, rowsPart, tailBytes, storeIn}
+use Rattle.area.proofs.Whole.{bytes-are}
+
+pub first : (l : List ℕ) (b : ℕ) → 1 ≤ length l → set l 0 b ≡ b ∷ drop 1 l
+first [] b h = absurd (omega arith)
+first (x ∷ l) b h = refl
+
+-- bytes, one by one
+pub octets : (l : List ℕ) → ((i : ℕ) → getD l i 0 < 256) → all octet l ≡ true
+octets [] h = refl
+octets (b ∷ l) h = all-cons octet b l (lt-ltb b 256 (h 0)) (octets l (λ i. h (suc i)))
+
+-- a part of w bytes is below 256 ^ w
+pub part-lt : (l : List ℕ) (at w : ℕ) → at + w ≤ length l → ((i : ℕ) → getD l i 0 < 256) → value (part at w l) < 256 ^ w
+part-lt l at w h f =
+    let n : length (part at w l) ≡ w = length-take-le w (drop at l) (omega (arith, length-drop at l)) in
+    rw n at (value-lt (part at w l) (all-take octet w (drop at l) (all-drop octet at l (octets l f))))
+
+-- a callee that was lent the rest from a place on and put n bytes at its front has put them at that place
+pub place-rest : (at n : ℕ) (b a ys : List ℕ) → ys ≡ b ++ drop n (midOf at (length a - at) a) → putMid at (length a - at) a ys ≡ placed at n b a
+unfolding placed
+place-rest at n b a ys y =
+    put-rest at a ys ∙ ap (λ (l : List ℕ). take at a ++ l) (y ∙ ap (λ (l : List ℕ). b ++ drop n l) (mid-rest at a) ∙ ap (λ (l : List ℕ). b ++ l) (drop-drop n at a))
+
+-- ── the encoding of a state ──
+-- rows as the model encodes them
+pub rowsOf : List Row → List ℕ
+rowsOf rows = length rows ∷ rowsBytes rows ++ replicate (625 * (32 - length rows)) 0
+
+module _ (s : Schema) (cells : List (List (List ℕ))) (n : ℕ) (h : n ≤ length cells) (t : Tidy s (take n cells)) where
+  pub rows-are : rowsPart n cells ≡ rowsOf (working s n cells)
+  unfolding rowsPart rowsOf working
+  rows-are =
+      let e : n ≡ length (map (rowFrom s) (take n cells)) = sym (simp length-map (length-take-le n cells h)) in
+      λ j. e j ∷ bytes-are s (take n cells) t j ++ replicate (625 * (32 - e j)) 0
+
+  pub store-are : (run number : ℕ) (text : List ℕ) → big 4 run ++ (big 4 number ++ (textBytes text ++ rowsPart n cells)) ≡ encodeStore (storeIn s run number text n cells)
+  unfolding encodeStore storeIn rowsOf
+  store-are run number text = ap (λ (l : List ℕ). big 4 run ++ (big 4 number ++ (textBytes text ++ l))) rows-are
+
+pub text-length : (text : List ℕ) → length text ≤ 4096 → length (textBytes text) ≡ 4098
+text-length text h = simp (length-append, length-replicate) (omega arith)
+
+-- a store with another number, and with other rows
+abbrev pub withNumber : ℕ → Store → Store
+withNumber x st = record { run = st .run; number = x; schema = st .schema; rows = st .rows }
+
+abbrev pub withRows : List Row → Store → Store
+withRows rows st = record { run = st .run; number = st .number; schema = st .schema; rows = rows }
+
+abbrev before : Store → List ℕ
+before st = big 4 (st .run) ++ (big 4 (st .number) ++ textBytes (st .schema))
+
+module _ (st : Store) (f : Fits st) (tail : List ℕ) where
+  pub number-put : (x : ℕ) → placed 4 4 (big 4 x) (encodeStore st ++ tail) ≡ encodeStore (withNumber x st) ++ tail
+  unfolding placed encodeStore
+  number-put x = refl
+
+  before-length : length (before st) ≡ 4106
+  before-length = omega (arith, text-length (st .schema) (f .short))
+
+  -- in an area whose number was written before them
+  pub rows-put : (x : ℕ) (rows : List Row) → placed 4106 20001 (rowsOf rows) (encodeStore (withNumber x st) ++ tail) ≡ encodeStore (withRows rows (withNumber x st)) ++ tail
+  unfolding placed encodeStore rowsOf
+  rows-put x rows =
+      let b = before (withNumber x st) in
+      let e : encodeStore (withNumber x st) ≡ b ++ rowsOf (st .rows) = refl in
+      let p : take 4106 (encodeStore (withNumber x st) ++ tail) ≡ b =
+      ap (take 4106) (append-assoc b (rowsOf (st .rows)) tail) ∙ take-at b (rowsOf (st .rows) ++ tail) 4106 before-length in
+      let q : drop 24107 (encodeStore (withNumber x st) ++ tail) ≡ tail = drop-at (encodeStore (withNumber x st)) tail 24107 (store-length st f) in
+      (λ j. p j ++ (rowsOf rows ++ q j)) ∙ sym (append-assoc b (rowsOf rows) tail)
+
+  pub tail-put : (top : ℕ) (heard whole : Bool) → length tail ≡ 6 → placed 24107 6 (tailBytes top heard whole) (encodeStore st ++ tail) ≡ encodeStore st ++ tailBytes top heard whole
+  unfolding placed
+  tail-put top heard whole l =
+      let p = take-at (encodeStore st) tail 24107 (store-length st f) in
+      let q : drop 24113 (encodeStore st ++ tail) ≡ [] = sym (drop-drop 6 24107 (encodeStore st ++ tail)) ∙ ap (drop 6) (drop-at (encodeStore st) tail 24107 (store-length st f)) ∙ drop-none tail 6 l in
+      (λ j. p j ++ (tailBytes top heard whole ++ q j)) ∙ ap (λ (x : List ℕ). encodeStore st ++ x) (append-nil (tailBytes top heard whole))
+    where
+      drop-none : (x : List ℕ) (n : ℕ) → length x ≡ n → drop n x ≡ []
+      drop-none x n e = ap (drop n) (sym (append-nil x)) ∙ drop-at x [] n e
+
+-- a mirror's area with n, the rows and its own bytes written anew is the encoding of the mirror with them
+abbrev pub withMirror : Mirror → MirrorState → MirrorState
+withMirror x m = record { run = m .run; schema = m .schema; mirror = x }
+
+module _ (m : MirrorState) (f : Fits (storePart m)) (x : Mirror) (h : Fits (storePart (withMirror x m))) where
+  pub mirror-put : placed 24107 6 (tailBytes (x .top) (x .heard) (x .whole)) (placed 4106 20001 (rowsOf (x .rows)) (placed 4 4 (big 4 (x .n)) (encodeMirror m))) ≡ encodeMirror (withMirror x m)
+  unfolding encodeMirror tailBytes
+  mirror-put =
+      let b = tailBytes (m .mirror .top) (m .mirror .heard) (m .mirror .whole) in
+      ap (λ (a : List ℕ). placed 24107 6 (tailBytes (x .top) (x .heard) (x .whole)) a) (ap (placed 4106 20001 (rowsOf (x .rows))) (number-put (storePart m) f b (x .n)) ∙ rows-put (storePart m) f b (x .n) (x .rows))
+      ∙ tail-put (storePart (withMirror x m)) h b (x .top) (x .heard) (x .whole) refl
+
+  -- and with its own bytes alone
+  pub own-put : x .n ≡ m .mirror .n → x .rows ≡ m .mirror .rows → placed 24107 6 (tailBytes (x .top) (x .heard) (x .whole)) (encodeMirror m) ≡ encodeMirror (withMirror x m)
+  unfolding encodeMirror tailBytes
+  own-put e r =
+      tail-put (storePart m) f (tailBytes (m .mirror .top) (m .mirror .heard) (m .mirror .whole)) (x .top) (x .heard) (x .whole) refl
+      ∙ (λ j. encodeStore (record { run = m .run; number = sym e j; schema = m .schema; rows = sym r j }) ++ tailBytes (x .top) (x .heard) (x .whole))
+
+-- a store's area with its number and rows written anew
+pub store-put : (st : Store) → Fits st → (number : ℕ) (rows : List Row) → placed 4106 20001 (rowsOf rows) (placed 4 4 (big 4 number) (encodeStore st)) ≡ encodeStore (withRows rows (withNumber number st))
+store-put st f number rows =
+    ap (λ (a : List ℕ). placed 4106 20001 (rowsOf rows) (placed 4 4 (big 4 number) a)) (sym (append-nil (encodeStore st)))
+    ∙ ap (placed 4106 20001 (rowsOf rows)) (number-put st f [] number) ∙ rows-put st f [] number rows ∙ append-nil (encodeStore (withRows rows (withNumber number st)))

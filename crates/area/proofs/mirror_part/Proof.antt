@@ -1,0 +1,39 @@
+-- `area::mirror_part` meets its contract. Assumes nothing.
+use mathlib.Core.Path.{_≡_}
+use mathlib.Core.Bool.{not, _&&_, _||_}
+use lib.Dec.{eqb, leb}
+use lib.ListN.{getD}
+use Rattle.area.specs.Writing.{tailGood}
+use borrow.Author.Needs.{needs}
+use Rattle.area.proofs.mirror_part.Statement.{statement}
+use Rattle.area.proofs.mirror_part.Tie as tie
+
+number-of-requires : tie.Need-number-of-requires
+number-of-requires c κs = search needs
+
+top-of-requires : tie.Need-top-of-requires
+top-of-requires c κs = search needs
+
+shared-slice-read-heard : tie.Need-shared-slice-read-heard
+shared-slice-read-heard c = search needs
+
+shared-slice-read-whole : tie.Need-shared-slice-read-whole
+shared-slice-read-whole c = search needs
+
+returns : tie.Need-returns
+unfolding tailGood
+returns c =
+    let a = c .before .before .before .before .before .args .area .now in
+    let n = c .before .before .before .number-of .ensures in
+    let t = c .before .before .top-of .ensures in
+    λ j. leb (getD a 24111 0) 1 && leb (getD a 24112 0) 1 && leb (n j) (t j) && (eqb (getD a 24111 0) 1 || eqb (t j) 0) && (eqb (getD a 24112 0) 1 || not (eqb (n j) 0))
+
+pub mirror-part-spec : {M : Type 1} → statement M
+mirror-part-spec =
+    tie.close
+    (tie.spec
+    number-of-requires
+    top-of-requires
+    shared-slice-read-heard
+    shared-slice-read-whole
+    returns)

@@ -1,0 +1,77 @@
+-- An area's rows as cells, and the tests of what an area leaves unused. Assumes nothing: these are definitions.
+use Prim.Native.Nat.{ℕ, zero, suc, _+_, _-_, _*_, _≤_, _<_}
+use mathlib.Core.Path.{_≡_}
+use mathlib.Core.Bool.{Bool, true, _&&_}
+use mathlib.Core.List.{List, [], _∷_, _++_, map}
+use lib.Dec.{leb}
+use lib.ListN.{length, getD, take, drop}
+use Rattle.model.specs.Octets.{value, part}
+use Rattle.model.specs.Base.{all, flat}
+use Rattle.model.specs.Schema.{columnsOf}
+use Rattle.model.specs.Packed.{columnFrom, tablesIn}
+use Rattle.model.specs.Value.{zeros, canonicalFor}
+use Rattle.model.specs.Records.{cut}
+use Rattle.model.specs.Areas.{rowCellCount, rowBytes, rowFrom, rowPasses, ascends, distinctIds}
+use Rattle.model.specs.Working.{working, tableIn, valueIn}
+
+-- n rows, one after another
+abbrev pub rowsIn : ℕ → List ℕ → List (List (List ℕ))
+rowsIn zero b = []
+rowsIn (suc n) b = cut rowCellCount b ∷ rowsIn n (drop rowBytes b)
+
+-- the bytes of rows in cells
+abbrev pub bytesOf : List (List (List ℕ)) → List ℕ
+bytesOf [] = []
+bytesOf (r ∷ rs) = flat r ++ bytesOf rs
+
+-- "unused bytes zero" of a row with k columns: its other counts and cells
+unfoldable pub tidyFrom : ℕ → List (List ℕ) → Bool
+tidyFrom k cells = zeros (drop (17 + k) (getD cells 0 [])) && all zeros (drop (1 + 4 * k) cells)
+
+-- n rows written to the front of a buffer
+pub record Rows (n : ℕ) (rows : List (List (List ℕ))) (entry exit : List ℕ) : Type 0 where
+  pub bytes : exit ≡ bytesOf (take n rows) ++ drop (625 * n) entry
+  pub size : length (bytesOf (take n rows)) ≡ 625 * n
+
+-- the columns from c on are in canonical form, by their cells of a schema
+abbrev pub canonicalFrom : ℕ → List (List ℕ) → List (List ℕ) → Bool
+canonicalFrom c [] row = true
+canonicalFrom c (cell ∷ cells) row = canonicalFor (columnFrom cell) (valueIn c row) && canonicalFrom (suc c) cells row
+
+-- the cells of a table's columns
+abbrev pub columnCells : List (List ℕ) → ℕ → List (List ℕ)
+columnCells schema t = take (getD (getD schema (1 + t) []) 25 0) (drop (5 + 6 * t) schema)
+
+-- "tables; columns in a table | 4; 6"
+pub record Sized (schema : List (List ℕ)) : Type 0 where
+  pub tables : getD (getD schema 0 []) 25 0 ≤ 4
+  pub columns : (t : ℕ) → t < 4 → getD (getD schema (1 + t) []) 25 0 ≤ 6
+
+-- a row passes the tests of good order, and its unused bytes are zero
+unfoldable pub rowGood : List (List ℕ) → List (List ℕ) → Bool
+rowGood schema row =
+    rowPasses canonicalFor (tablesIn schema) (rowFrom (tablesIn schema) row) && tidyFrom (length (columnsOf (tablesIn schema) (tableIn row))) row
+
+-- the first n rows pass: each by itself, in order, and with ids all different
+unfoldable pub rowsGood : List (List ℕ) → ℕ → List (List (List ℕ)) → Bool
+rowsGood schema n rows =
+    all (rowGood schema) (take n rows) && (ascends (working (tablesIn schema) n rows) && distinctIds (working (tablesIn schema) n rows))
+
+-- ── the part of an area that stores and mirrors share ──
+abbrev pub textLength : List ℕ → ℕ
+textLength a = value (part 8 2 a)
+
+abbrev pub rowCount : List ℕ → ℕ
+rowCount a = getD a 4106 0
+
+-- "unused bytes zero" behind the text and behind the rows
+unfoldable pub restZero : List ℕ → Bool
+restZero a = zeros (part (10 + textLength a) (4096 - textLength a) a) && zeros (part (4107 + 625 * rowCount a) (625 * (32 - rowCount a)) a)
+
+-- it is in good order, by the cells of its schema
+unfoldable pub partGood : List (List ℕ) → List ℕ → Bool
+partGood schema a = leb (textLength a) 4096 && (leb (rowCount a) 32 && (restZero a && rowsGood schema (rowCount a) (rowsIn (rowCount a) (drop 4107 a))))
+
+pub record Judged (a : List ℕ) (schema : List (List ℕ)) (cells : List (List (List ℕ))) (r : Bool) : Type 0 where
+  pub good : r ≡ partGood schema a
+  pub rows : r ≡ true → take (rowCount a) cells ≡ rowsIn (rowCount a) (drop 4107 a)

@@ -1,0 +1,24 @@
+-- `rows::has_some_id` meets its contract. Assumes nothing.
+use mathlib.Core.Path.{ap, _∙_}
+use mathlib.Core.Bool.{not, _&&_}
+use mathlib.Core.List.{List}
+use Prim.Native.Nat.{ℕ, _^_}
+use lib.Dec.{eqb, ltb}
+use Rattle.model.specs.Octets.{value}
+use Rattle.model.specs.Working.{idIn}
+use borrow.Author.Needs.{needs}
+use Rattle.rows.proofs.has_some_id.Statement.{statement}
+use Rattle.rows.proofs.has_some_id.Tie as tie
+
+id-of-requires : tie.Need-id-of-requires
+id-of-requires c κs = search needs
+
+some-id-requires : tie.Need-some-id-requires
+some-id-requires c κs = search needs
+
+returns : tie.Need-returns
+unfolding idIn
+returns c = c .some-id .ensures ∙ ap (λ (b : List ℕ). not (eqb (value b) 0) && ltb (value b) (256 ^ 16)) (c .before .id-of .ensures .bytes)
+
+pub has-some-id-spec : {M : Type 1} → statement M
+has-some-id-spec = tie.close (tie.spec id-of-requires some-id-requires returns)

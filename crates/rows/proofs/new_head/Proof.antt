@@ -1,0 +1,76 @@
+-- `rows::new_head` meets its contract. Assumes nothing.
+use mathlib.Core.Path.{_≡_, ap, _∙_}
+use mathlib.Core.List.{List, [], _∷_, _++_, append-nil, map}
+use Prim.Native.Nat.{ℕ}
+use native.Mathlib.Omega.{arith}
+use lib.ListN.{length, take, drop, replicate, length-append, drop-of-length-le}
+use Rattle.model.specs.Working.{bornCount}
+use Rattle.model.proofs.Working.{octets-of}
+use Rattle.model.proofs.NewRows.{new-head as head-is}
+use Rattle.rows.proofs.Laws.{head-made}
+use borrow.Author.Needs.{needs}
+use Rattle.rows.proofs.new_head.Statement.{statement}
+use Rattle.rows.proofs.new_head.Tie as tie
+
+array-write-head : tie.Need-array-write-head
+array-write-head c = search needs
+
+sub-put-bytes : tie.Need-sub-put-bytes
+sub-put-bytes c = search needs
+
+part-head-start : tie.Need-part-head-start
+part-head-start c = search needs
+
+part-head-end : tie.Need-part-head-end
+part-head-end c = search needs
+
+put-bytes-requires : tie.Need-put-bytes-requires
+put-bytes-requires c κs = search needs
+
+sub-put-counts : tie.Need-sub-put-counts
+sub-put-counts c = search needs
+
+part-head-start-2 : tie.Need-part-head-start-2
+part-head-start-2 c = search needs
+
+-- the id in its place
+put : (id p : List ℕ) → length id ≡ 16 → p ≡ id ++ drop (length id) (replicate 16 0) → p ≡ id
+put id p h e = e ∙ ap (λ (l : List ℕ). id ++ l) (drop-of-length-le (replicate 16 0) {i = length id} (omega arith)) ∙ append-nil id
+
+part-head-end-2 : tie.Need-part-head-end-2
+part-head-end-2 c =
+    let s = c .before .before .before .before .before in
+    let p = c .before .put-bytes .last .0 in
+    let e : length p ≡ 16 = ap length (put (s .args .id .now) p (s .pre .0) (c .before .put-bytes .ensures)) ∙ s .pre .0 in
+    omega (arith, length-append p (replicate 8 0), e)
+
+put-counts-requires : tie.Need-put-counts-requires
+put-counts-requires c κs = search needs
+
+returns : tie.Need-returns
+returns c =
+    λ cs few m.
+    let s = c .before .before .before .before .before .before .before .before in
+    let id = s .args .id .now in
+    let t = s .args .table in
+    let q = put id (c .before .before .before .before .put-bytes .last .0) (s .pre .0) (c .before .before .before .before .put-bytes .ensures) in
+    let n = c .before .put-counts .ensures in
+    (λ j. t ∷ take 16 (q j ++ replicate 8 0) ++ (n j ++ drop 6 (drop 17 (t ∷ q j ++ replicate 8 0))))
+    ∙ head-made t id (map bornCount (s .args .mins .now)) (s .pre .0)
+    ∙ ap (λ (l : List ℕ). t ∷ id ++ (map bornCount l ++ 0 ∷ 0 ∷ [])) m
+    ∙ head-is t id cs few (s .pre .0) (octets-of id (λ i h. omega (arith, c .before .before .before .before .before .before .before .shared-slice-known .given i)))
+
+pub new-head-spec : {M : Type 1} → statement M
+new-head-spec =
+    tie.close
+    (tie.spec
+    array-write-head
+    sub-put-bytes
+    part-head-start
+    part-head-end
+    put-bytes-requires
+    sub-put-counts
+    part-head-start-2
+    part-head-end-2
+    put-counts-requires
+    returns)

@@ -1,0 +1,26 @@
+-- `rows::new_row` meets its contract. Assumes nothing.
+use mathlib.Core.Path.{ap, _∙_}
+use mathlib.Core.List.{List, _∷_}
+use Prim.Native.Nat.{ℕ}
+use lib.ListN.{replicate}
+use Rattle.model.specs.Octets.{value}
+use Rattle.model.specs.Value.{blank}
+use Rattle.model.proofs.NewRows.{new-cells}
+use borrow.Author.Needs.{needs}
+use Rattle.rows.proofs.new_row.Statement.{statement}
+use Rattle.rows.proofs.new_row.Tie as tie
+
+new-head-requires : tie.Need-new-head-requires
+new-head-requires c κs = search needs
+
+array-set-from-row : tie.Need-array-set-from-row
+array-set-from-row c = search needs
+
+returns : tie.Need-returns
+returns c =
+    λ cs few m.
+    let a = c .before .before .before .args in
+    ap (λ (h : List ℕ). h ∷ replicate 24 blank) (c .new-head .ensures cs few m) ∙ new-cells (a .table) (a .id .now) cs few (value (a .id .now))
+
+pub new-row-spec : {M : Type 1} → statement M
+new-row-spec = tie.close (tie.spec new-head-requires array-set-from-row returns)

@@ -1,0 +1,29 @@
+-- `rows::remove_at` meets its contract. Assumes nothing.
+use mathlib.Core.Path.{sym, _∙_}
+use Prim.Native.Nat.{_-_}
+use lib.ListN.{take}
+use Rattle.model.specs.Working.{working}
+use Rattle.model.proofs.Places.{place-at, working-removed, tidy-removed}
+use borrow.Author.Needs.{needs}
+use Rattle.rows.proofs.remove_at.Statement.{statement}
+use Rattle.rows.proofs.remove_at.Tie as tie
+
+close-at-requires : tie.Need-close-at-requires
+close-at-requires c κs = search needs
+
+same-length : tie.Need-same-length
+same-length c = search needs
+
+returns : tie.Need-returns
+returns c =
+    let a = c .before .before .before .args in
+    let e = c .before .close-at .ensures in
+    let z = c .before .close-at .last .0 in
+    record {
+      rows = λ s. working-removed s (a .n) (a .n - 1) (a .rows .now) z (a .i) e;
+      key = λ s k p. working-removed s (a .n) (a .n - 1) (a .rows .now) z (a .i) e ∙ sym (place-at k (working s (a .n) (a .rows .now)) (a .i) p .remove);
+      tidy = λ s t. rw e (tidy-removed s (a .i) (take (a .n) (a .rows .now)) t);
+    }
+
+pub remove-at-spec : {M : Type 1} → statement M
+remove-at-spec = tie.close (tie.spec close-at-requires same-length returns)
