@@ -1,0 +1,5 @@
+-- The mathematics of this crate's proofs.
+pub mod Records
+pub mod Answers
+pub mod Changes
+pub mod Doing

@@ -1,0 +1,128 @@
+-- `arrival::canonical` meets its contract. Assumes nothing.
+use mathlib.Core.List.{[]}
+use mathlib.Core.Path.{_∙_}
+use Prim.Native.Nat.{_+_, _*_}
+use native.Mathlib.Omega.{arith}
+use borrow.Author.Needs.{needs}
+use lib.ListN.{length, getD}
+use Rattle.model.specs.Packed.{columnFrom}
+use Rattle.model.specs.Value.{canonicalFor}
+use Rattle.record.proofs.Listings.{column-size}
+use Rattle.record.specs.Reading.{arrivalRecord, canonicalIn}
+use Rattle.arrival.specs.Steps.{canonicalRecord}
+use Rattle.arrival.proofs.Records.{listed-place, canonical-column}
+use Rattle.arrival.proofs.canonical.Statement.{statement}
+use Rattle.arrival.proofs.canonical.Tie as tie
+
+enum-told : tie.Need-enum-told
+enum-told c = search needs
+
+enum-told-2 : tie.Need-enum-told-2
+enum-told-2 c = search needs
+
+enum-known-arrival : tie.Need-enum-known-arrival
+enum-known-arrival c = search needs
+
+wide-requires : tie.Need-wide-requires
+wide-requires c κs = search needs
+
+wide-requires-2 : tie.Need-wide-requires-2
+wide-requires-2 c κs = search needs
+
+atoms-requires : tie.Need-atoms-requires
+atoms-requires c κs =
+    let s = c .before .before .before .before .before .before in
+    omega (arith, column-size (s .args .arrival) (length (s .args .bytes .now)) (s .pre .1 .0) _ (c .before .before .before .arrival .given .1))
+
+mul-canonical-by : tie.Need-mul-canonical-by
+mul-canonical-by c = search needs
+
+add-canonical-by : tie.Need-add-canonical-by
+add-canonical-by c = search needs
+
+add-canonical-by-2 : tie.Need-add-canonical-by-2
+add-canonical-by-2 c = search needs
+
+mul-canonical-by-2 : tie.Need-mul-canonical-by-2
+mul-canonical-by-2 c = search needs
+
+shared-slice-element-canonical-by : tie.Need-shared-slice-element-canonical-by
+shared-slice-element-canonical-by c =
+    let s = c .before .before .before .before .before .before .before in
+    omega (arith, s .pre .0 .size, c .before .before .wide .ensures, c .before .wide2 .ensures, listed-place (s .args .schema .now) (s .pre .0) (s .args .arrival) (s .args .bytes .now) (c .before .before .before .before .arrival .given .0 .0) (c .before .before .before .before .arrival .given .1) (s .pre .1 .1))
+
+slice-aggregate-canonical-by : tie.Need-slice-aggregate-canonical-by
+slice-aggregate-canonical-by c = search needs
+
+canonical-by-requires : tie.Need-canonical-by-requires
+canonical-by-requires c κs = search needs
+
+enum-told-3 : tie.Need-enum-told-3
+enum-told-3 c = search needs
+
+enum-told-4 : tie.Need-enum-told-4
+enum-told-4 c = search needs
+
+enum-told-5 : tie.Need-enum-told-5
+enum-told-5 c = search needs
+
+returns : tie.Need-returns
+unfolding canonicalRecord canonicalIn arrivalRecord
+returns c = rw (c .enum-told .given .1)
+
+returns-2 : tie.Need-returns-2
+unfolding canonicalRecord canonicalIn arrivalRecord
+returns-2 c = rw (c .enum-told2 .given .1)
+
+returns-3 : tie.Need-returns-3
+returns-3 c =
+    let w = c .before .before .before in
+    let k = w .before .before .before .before in
+    let s = k .before .before .before in
+    let x = s .args .schema .now in
+    let p = w .before .before .wide .ensures in
+    let q = w .before .wide2 .ensures in
+    let r = w .atoms .ensures in
+    let v = k .arrival .given .0 .0 in
+    c .canonical-by .ensures
+    ∙ (λ j. canonicalFor (columnFrom (getD x (5 + 6 * p j + q j) [])) (record { count = v .count; atoms = r j }))
+    ∙ canonical-column x (s .pre .0) (s .args .arrival) (s .args .bytes .now) v (k .arrival .given .1) (s .pre .1 .1)
+
+returns-4 : tie.Need-returns-4
+unfolding canonicalRecord canonicalIn arrivalRecord
+returns-4 c = rw (c .enum-told3 .given .1)
+
+returns-5 : tie.Need-returns-5
+unfolding canonicalRecord canonicalIn arrivalRecord
+returns-5 c = rw (c .enum-told4 .given .1)
+
+returns-6 : tie.Need-returns-6
+unfolding canonicalRecord canonicalIn arrivalRecord
+returns-6 c = rw (c .enum-told5 .given .1)
+
+pub canonical-spec : {M : Type 1} → statement M
+canonical-spec =
+    tie.close
+    (tie.spec
+    enum-told
+    enum-told-2
+    enum-known-arrival
+    wide-requires
+    wide-requires-2
+    atoms-requires
+    mul-canonical-by
+    add-canonical-by
+    add-canonical-by-2
+    mul-canonical-by-2
+    shared-slice-element-canonical-by
+    slice-aggregate-canonical-by
+    canonical-by-requires
+    enum-told-3
+    enum-told-4
+    enum-told-5
+    returns
+    returns-2
+    returns-3
+    returns-4
+    returns-5
+    returns-6)

@@ -1,0 +1,69 @@
+-- `arrival::gone` meets its contract. Assumes nothing.
+use mathlib.Core.List.{[]}
+use mathlib.Core.Path.{sym, _∙_}
+use native.Mathlib.Omega.{arith}
+use borrow.Author.Needs.{needs}
+use Rattle.model.proofs.Places.{place-at, place-none}
+use Rattle.model.proofs.Tests.{clash}
+use Rattle.model.proofs.Working.{working-length}
+use Rattle.model.specs.Octets.{value}
+use Rattle.model.specs.Rows.{keyOf, has}
+use Rattle.model.specs.Working.{working}
+use Rattle.arrival.proofs.gone.Statement.{statement}
+use Rattle.arrival.proofs.gone.Tie as tie
+
+find-requires : tie.Need-find-requires
+find-requires c κs = search needs
+
+enum-known-found : tie.Need-enum-known-found
+enum-known-found c = search needs
+
+remove-at-requires : tie.Need-remove-at-requires
+remove-at-requires c κs =
+    let k = c .before .before in
+    let s = k .before .before .before .before in
+    let a = s .args in
+    let w = place-at (keyOf (a .table) (value (a .id .now))) (working [] (a .count) (a .rows .now)) (k .found .given .0 .0) (sym (k .before .before .find .ensures []) ∙ k .found .given .1) in
+    (omega (arith, w .within, working-length [] (a .rows .now) (a .count) (omega (arith, s .pre))), omega (arith, s .pre))
+
+enum-told : tie.Need-enum-told
+enum-told c = search needs
+
+same-length : tie.Need-same-length
+same-length c = search needs
+
+returns : tie.Need-returns
+returns c =
+    let k = c .before .before .before .before in
+    let s = k .before .before .before .before in
+    let a = s .args in
+    let e = c .before .remove-at .ensures in
+    λ t h.
+    record {
+      same = e .key t (keyOf (a .table) (value (a .id .now))) (sym (k .before .before .find .ensures t) ∙ k .found .given .1);
+      few = omega (arith, s .pre);
+      tidy = λ g z. e .tidy t z;
+    }
+
+same-length-2 : tie.Need-same-length-2
+same-length-2 c = search needs
+
+returns-2 : tie.Need-returns-2
+returns-2 c =
+    let s = c .before .before .before .before in
+    let a = s .args in
+    λ t h.
+    absurd (clash (has (keyOf (a .table) (value (a .id .now))) (working t (a .count) (a .rows .now))) h (place-none (keyOf (a .table) (value (a .id .now))) (working t (a .count) (a .rows .now)) (sym (c .before .before .find .ensures t) ∙ c .enum-told .given .1) .has))
+
+pub gone-spec : {M : Type 1} → statement M
+gone-spec =
+    tie.close
+    (tie.spec
+    find-requires
+    enum-known-found
+    remove-at-requires
+    enum-told
+    same-length
+    returns
+    same-length-2
+    returns-2)

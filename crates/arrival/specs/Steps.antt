@@ -1,0 +1,112 @@
+-- What an arrival asks of working rows, and what it leaves (document 01, "What a mirror doesn't refuse it has heard .."). Assumes nothing: these are definitions.
+use mathlib.Core.Path.{_≡_}
+use mathlib.Core.Bool.{Bool, true, false}
+use mathlib.Core.List.{List, []}
+use mathlib.Core.Option.{Option, none, some}
+use Prim.Native.Nat.{ℕ, _+_, _≤_, _<_, max}
+use lib.ListN.{length, getD, take}
+use Rattle.model.specs.Base.{nth}
+use Rattle.model.specs.Schema.{Schema}
+use Rattle.model.specs.Rows.{Row}
+use Rattle.model.specs.Records.{Change, act, fits, sound, isEnd, Record, numbered, mark}
+use Rattle.model.specs.Mirror.{Mirror, Step, bad, step, level, valueAnswer, columnAnswer}
+use Rattle.model.specs.Areas.{rowFrom}
+use Rattle.model.specs.Order.{Good}
+use Rattle.model.specs.Packed.{tablesIn}
+use Rattle.model.specs.Working.{working, Tidy}
+use Rattle.record.specs.Reading.{canonicalIn}
+use Rattle.area.specs.Layout.{Sized}
+use Rattle.arrival.specs.declared.Head.{Head}
+use Rattle.arrival.specs.declared.Numbers.{Numbers}
+use Rattle.arrival.specs.declared.Outcome.{Outcome}
+
+-- ── what a record carries ──
+-- its run and its number, whether it is a mark, whether it ends a commit
+unfoldable pub headOf : Option Record → Head
+headOf none = record { run = 0; number = 0; marks = false; ends = false }
+headOf (some (numbered u k e)) = record { run = u; number = k; marks = false; ends = isEnd e }
+headOf (some (mark u k)) = record { run = u; number = k; marks = true; ends = false }
+
+-- refusal 8, "a value that isn't in canonical form for its type": the opposite
+unfoldable pub canonicalRecord : Schema → Option Record → Bool
+canonicalRecord s none = true
+canonicalRecord s (some (numbered u k e)) = canonicalIn s e
+canonicalRecord s (some (mark u k)) = true
+
+-- refusal 8, "a table or column the schema lacks, a value that isn't in canonical form for its type": the opposite
+unfoldable pub soundRecord : Schema → Option Record → Bool
+soundRecord s none = false
+soundRecord s (some (numbered u k e)) = sound s e
+soundRecord s (some (mark u k)) = true
+
+-- refusal 8, "fit the rows"
+unfoldable pub fitsRecord : List Row → Option Record → Bool
+fitsRecord rows none = true
+fitsRecord rows (some (numbered u k e)) = fits e rows
+fitsRecord rows (some (mark u k)) = true
+
+-- refusal 8, all of it, for a mirror that has applied n records
+unfoldable pub badRecord : Schema → ℕ → List Row → Option Record → Bool
+badRecord s n rows none = true
+badRecord s n rows (some (numbered u k e)) = bad s (record { rows = rows; n = n; top = 0; heard = false; whole = false }) k e
+badRecord s n rows (some (mark u k)) = false
+
+-- "record n+1, which acts on the rows"
+unfoldable pub actRecord : Schema → Option Record → List Row → List Row
+actRecord s none rows = rows
+actRecord s (some (numbered u k e)) rows = act s e rows
+actRecord s (some (mark u k)) rows = rows
+
+-- ── a mirror is its numbers and its rows ──
+abbrev pub mirrorOf : Numbers → List Row → Mirror
+mirrorOf m rows = record { rows = rows; n = m .n; top = m .top; heard = m .heard; whole = m .whole }
+
+-- "the highest heard is the largest number carried by these"
+unfoldable pub hearsOf : Numbers → ℕ → Numbers
+hearsOf m k = record { n = m .n; top = max (m .top) k; heard = true; whole = m .whole }
+
+-- "moves n by one"
+unfoldable pub appliesOf : Numbers → ℕ → Bool → Numbers
+appliesOf m k ends = record { n = k; top = max (m .top) k; heard = true; whole = ends }
+
+unfoldable pub stepOf : Schema → ℕ → Mirror → List ℕ → Step
+stepOf s run m x = step s run m x
+
+unfoldable pub levelOf : Numbers → Bool
+levelOf m = level (mirrorOf m [])
+
+-- "the count and atoms a column record would have, all zero where row or column is missing"
+unfoldable pub columnIn : Schema → List (List ℕ) → ℕ → List ℕ
+columnIn s row c = valueAnswer (nth (rowFrom s row .columns) c)
+
+unfoldable pub columnOf : List Row → ℕ → ℕ → ℕ → List ℕ
+columnOf rows t i c = columnAnswer (record { rows = rows; n = 0; top = 0; heard = false; whole = false }) t i c
+
+-- ── what the code needs and leaves ──
+-- a schema in all its cells
+pub record Held (schema : List (List ℕ)) : Type 0 where
+  pub size : length schema ≡ 29
+  pub fit : Sized schema
+
+-- "rows in all tables together | 32"
+pub record Ready (count : ℕ) (cells : List (List (List ℕ))) : Type 0 where
+  pub few : count ≤ 32
+  pub room : 32 ≤ length cells
+
+-- a record that is neither unsound nor unfit
+pub record Welcome (s : Schema) (rows : List Row) (o : Option Record) : Type 0 where
+  pub sound : soundRecord s o ≡ true
+  pub fits : fitsRecord rows o ≡ true
+
+-- the rows that a change leaves, as many as `left`; unused bytes stay zero
+pub record Left (s : Schema) (rows : List Row) (count : ℕ) (entry : List (List (List ℕ))) (left : ℕ) (exit : List (List (List ℕ))) : Type 0 where
+  pub same : working s left exit ≡ rows
+  pub few : left ≤ 32
+  pub tidy : Good s (working s count entry) → Tidy s (take count entry) → Tidy s (take left exit)
+
+-- an arrival: the answer and the mirror are the model's
+pub record Stepped (schema : List (List ℕ)) (run : ℕ) (m : Numbers) (bytes : List ℕ) (count : ℕ) (entry exit : List (List (List ℕ))) (r : Outcome) : Type 0 where
+  pub answer : r .answer ≡ stepOf (tablesIn schema) run (mirrorOf m (working (tablesIn schema) count entry)) bytes .answer
+  pub next : mirrorOf (r .numbers) (working (tablesIn schema) (r .count) exit) ≡ stepOf (tablesIn schema) run (mirrorOf m (working (tablesIn schema) count entry)) bytes .next
+  pub few : r .count ≤ 32
+  pub tidy : Good (tablesIn schema) (working (tablesIn schema) count entry) → Tidy (tablesIn schema) (take count entry) → Tidy (tablesIn schema) (take (r .count) exit)
