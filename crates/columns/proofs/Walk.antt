@@ -1,0 +1,33 @@
+-- Members one after another: their names, those that count. Assumes nothing.
+use mathlib.Core.Path.{_≡_, sym, ap, _∙_}
+use mathlib.Core.List.{List}
+use mathlib.Core.Bool.{Bool, true, false, _||_}
+use Prim.Native.Nat.{ℕ}
+use Rattle.model.specs.declared.Found.{Found}
+use Rattle.model.specs.declared.Found.the-variants.{At, Nothing}
+use Rattle.model.specs.Octets.{eqBytes}
+use Rattle.model.specs.Nav.{treeAt, membersFrom, membersFine, nextMember}
+use Rattle.model.specs.Members.{has}
+use Rattle.model.specs.Text.{isWord}
+use Rattle.model.proofs.SchemaLaws.{has-or}
+use Rattle.nav.proofs.Walk.{pass-end, pass-rest, pass-name}
+use Rattle.columns.specs.Parts.{memberOf}
+
+module _ (s w : List ℕ) {g : Found} where
+  pub has-end : g ≡ Nothing → has w (membersFrom s g) ≡ false
+  unfolding has
+  has-end h = ap (has w) (pass-end s h)
+
+  module _ {p : ℕ} (h : g ≡ At p) (fine : membersFine s g ≡ true) where
+    name-told : isWord w (treeAt s p) ≡ eqBytes (memberOf s p .name) w
+    unfolding isWord
+    name-told = ap (isWord w) (pass-name s h fine)
+
+    first : has w (membersFrom s g) ≡ (isWord w (treeAt s p) || has w (membersFrom s (nextMember s p)))
+    first = ap (has w) (pass-rest s h) ∙ has-or w (memberOf s p) (membersFrom s (nextMember s p)) ∙ ap (λ (b : Bool). b || has w (membersFrom s (nextMember s p))) (sym name-told)
+
+    pub has-here : isWord w (treeAt s p) ≡ true → has w (membersFrom s g) ≡ true
+    has-here e = first ∙ rw e
+
+    pub has-next : isWord w (treeAt s p) ≡ false → has w (membersFrom s g) ≡ has w (membersFrom s (nextMember s p))
+    has-next e = first ∙ rw e

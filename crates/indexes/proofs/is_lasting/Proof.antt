@@ -1,0 +1,47 @@
+-- `indexes::is_lasting` meets its contract. Assumes nothing.
+use Rattle.indexes.proofs.Shorts.{lasting-at, lasting-none}
+use Rattle.model.specs.Nav.{treeAt}
+use mathlib.Core.Bool.{not}
+use mathlib.Core.Path.{ap, _∙_}
+use borrow.Author.Needs.{needs}
+use Rattle.indexes.proofs.is_lasting.Statement.{statement}
+use Rattle.indexes.proofs.is_lasting.Tie as tie
+
+slice-aggregate-find : tie.Need-slice-aggregate-find
+slice-aggregate-find c = search needs
+
+find-requires : tie.Need-find-requires
+find-requires c κs = search needs
+
+enum-known-f : tie.Need-enum-known-f
+enum-known-f c = search needs
+
+truth-at-requires : tie.Need-truth-at-requires
+truth-at-requires c κs = search needs
+
+enum-told : tie.Need-enum-told
+enum-told c = search needs
+
+returns : tie.Need-returns
+returns c =
+    let f = c .before .before .before .before in
+    let st = f .before .before .before .before in
+    ap not (c .truth-at .ensures) ∙ lasting-at (st .args .text .now) (treeAt (st .args .text .now) (st .args .at)) (f .find .ensures) (c .before .before .f .given .1)
+
+returns-2 : tie.Need-returns-2
+returns-2 c =
+    let f = c .before .before in
+    let st = f .before .before .before .before in
+    lasting-none (st .args .text .now) (treeAt (st .args .text .now) (st .args .at)) (f .find .ensures) (c .enum-told .given .1)
+
+pub is-lasting-spec : {M : Type 1} → statement M
+is-lasting-spec =
+    tie.close
+    (tie.spec
+    slice-aggregate-find
+    find-requires
+    enum-known-f
+    truth-at-requires
+    enum-told
+    returns
+    returns-2)

@@ -1,0 +1,39 @@
+-- Indexes as written, few and of short names, and as bytes. Assumes nothing: these are definitions.
+use Prim.Native.Nat.{ℕ, _≤_}
+use mathlib.Core.Path.{_≡_}
+use mathlib.Core.Bool.{Bool, _&&_}
+use mathlib.Core.List.{List}
+use lib.Dec.{leb}
+use lib.ListN.{length, getD, take, drop}
+use Rattle.model.specs.Base.{all}
+use Rattle.model.specs.Limits.{mostTextBytes, mostIndexes, mostIndexColumns}
+use Rattle.model.specs.Json.{Json, Named}
+use Rattle.model.specs.Nav.{itemsIn}
+use Rattle.model.specs.Packed.{indexesFrom}
+use Rattle.model.specs.SchemaText.{isStringOf, indexFits}
+
+-- at most two items that are indexes
+unfoldable pub fewFit : List Named → Json → Bool
+fewFit columns j = leb (length (itemsIn j)) mostIndexes && all (indexFits columns) (itemsIn j)
+
+-- a name that a cell holds; an index of at most three of them; at most two such indexes
+unfoldable pub isShort : Json → Bool
+isShort j = isStringOf (λ (t : List ℕ). leb (length t) mostTextBytes) j
+
+unfoldable pub shortIndex : Json → Bool
+shortIndex j = leb (length (itemsIn j)) mostIndexColumns && all isShort (itemsIn j)
+
+unfoldable pub shortIndexes : Json → Bool
+shortIndexes j = leb (length (itemsIn j)) mostIndexes && all shortIndex (itemsIn j)
+
+-- four bytes: how many columns, and their numbers
+pub record Index (bytes columns : List ℕ) : Type 0 where
+  pub size : length bytes ≡ 4
+  pub few : getD bytes 0 0 ≤ 3
+  pub holds : take (getD bytes 0 0) (drop 1 bytes) ≡ columns
+
+-- a table's cell with its indexes in bytes 36 to 44, the others as they were
+pub record Stored (before after : List ℕ) (indexes : List (List ℕ)) : Type 0 where
+  pub front : take 36 after ≡ take 36 before
+  pub back : drop 45 after ≡ drop 45 before
+  pub holds : indexesFrom after ≡ indexes

@@ -1,0 +1,30 @@
+-- Names in cells, and looked up in them. Assumes nothing: these are definitions.
+use Prim.Native.Nat.{ℕ}
+use mathlib.Core.List.{List, [], _∷_, map}
+use mathlib.Core.Bool.{Bool, true, false, _&&_}
+use mathlib.Core.Option.{Option, none, some}
+use lib.Dec.{leb}
+use lib.ListN.{length}
+use Rattle.model.specs.declared.Found.{Found}
+use Rattle.model.specs.declared.Found.the-variants.{At, Nothing}
+use Rattle.model.specs.Base.{placeOf}
+use Rattle.model.specs.Limits.{mostTextBytes}
+use Rattle.model.specs.Json.{Json}
+use Rattle.model.specs.Text.{stringIn}
+use Rattle.model.specs.Value.{textAtom, blank}
+use Rattle.model.specs.Packed.{cellName}
+
+-- a string of at most 24 bytes as an atom; the empty one for any other value, which is no id either
+unfoldable pub shortCell : List ℕ → List ℕ
+shortCell t = elim (leb (length t) mostTextBytes) [ true ↦ textAtom t | false ↦ blank ]
+
+unfoldable pub nameCell : Json → List ℕ
+nameCell j = shortCell (stringIn j)
+
+unfoldable pub foundAt : Option ℕ → Found
+foundAt none = Nothing
+foundAt (some k) = At k
+
+-- the place of a name among the names of cells
+unfoldable pub cellNamed : List (List ℕ) → List ℕ → Found
+cellNamed cells w = foundAt (placeOf w (map cellName cells))
