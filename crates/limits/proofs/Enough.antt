@@ -1,0 +1,49 @@
+-- Minimums, one column after another. Assumes nothing.
+use mathlib.Core.Path.{_≡_, refl, sym, ap, _∙_}
+use mathlib.Core.Bool.{Bool, true, false, _&&_}
+use mathlib.Core.List.{List, [], _∷_}
+use Prim.Native.Nat.{ℕ, _+_, _≤_, _<_}
+use borrow.Author.Tests.{le-leb, lt-leb, eq-eqb, ne-eqb}
+use lib.Dec.{leb}
+use lib.ListN.{length, getD, drop, drop-of-length-le}
+use Rattle.model.specs.Schema.{Column, columnsOf}
+use Rattle.model.specs.Commit.{enough, notOver}
+use Rattle.model.specs.Octets.{value, part}
+use Rattle.model.specs.Areas.{rowFrom}
+use Rattle.model.specs.Packed.{columnFrom, columnCell, tablesIn, maxRowsFrom}
+use Rattle.model.specs.Working.{tableIn, valueIn}
+use Rattle.model.proofs.Working.{row-table}
+use Rattle.references.specs.Links.{Accepted}
+use Rattle.references.proofs.Packs.{columns-on}
+use Rattle.references.proofs.Links.{values-on}
+use Rattle.limits.specs.Alike.{rowEnough}
+
+module _ (schema cells : List (List ℕ)) where
+  -- the columns from c on have their minimums
+  abbrev pub enoughFrom : ℕ → Bool
+  enoughFrom c = enough (drop c (columnsOf (tablesIn schema) (tableIn cells))) (drop c (rowFrom (tablesIn schema) cells .columns))
+
+  pub enough-all : rowEnough (tablesIn schema) (rowFrom (tablesIn schema) cells) ≡ enoughFrom 0
+  unfolding rowEnough
+  enough-all = ap (λ (t : ℕ). enough (columnsOf (tablesIn schema) t) (rowFrom (tablesIn schema) cells .columns)) (row-table (tablesIn schema) cells)
+
+  pub enough-end : (c : ℕ) → length (columnsOf (tablesIn schema) (tableIn cells)) ≤ c → enoughFrom c ≡ true
+  enough-end c h = rw (drop-of-length-le (columnsOf (tablesIn schema) (tableIn cells)) {i = c} h)
+
+  module _ (ok : Accepted schema) (c : ℕ) (h : c < length (columnsOf (tablesIn schema) (tableIn cells))) where
+    abbrev pub least : ℕ
+    least = columnFrom (getD schema (columnCell (tableIn cells) c) []) .min
+
+    pub enough-here : valueIn c cells .count < least → enoughFrom c ≡ false
+    enough-here g = rw (columns-on schema ok (tableIn cells) c h, values-on (tablesIn schema) cells c h, lt-leb least (valueIn c cells .count) g)
+
+    pub enough-on : least ≤ valueIn c cells .count → enoughFrom c ≡ enoughFrom (c + 1)
+    enough-on g = rw (columns-on schema ok (tableIn cells) c h, values-on (tablesIn schema) cells c h, le-leb least (valueIn c cells .count) g)
+
+-- ── a table's limit, by the bytes of its cell ──
+module _ (cell : List ℕ) (k : ℕ) where
+  pub limit-none : (getD cell 27 0 ≡ 1 → ⊥) → notOver (maxRowsFrom cell) k ≡ true
+  limit-none e = rw (maxRowsFrom, ne-eqb (getD cell 27 0) 1 e)
+
+  pub limit-some : getD cell 27 0 ≡ 1 → notOver (maxRowsFrom cell) k ≡ leb k (value (part 28 8 cell))
+  limit-some e = rw (maxRowsFrom, eq-eqb (getD cell 27 0) 1 e)

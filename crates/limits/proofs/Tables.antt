@@ -1,0 +1,101 @@
+-- A table's limits, and one table after another. Assumes nothing.
+use mathlib.Core.Path.{_≡_, refl, sym, ap, _∙_}
+use mathlib.Core.Bool.{Bool, true, false, _&&_}
+use mathlib.Core.List.{List, [], _∷_}
+use Prim.Native.Nat.{ℕ, zero, suc, _+_, _-_, _≤_, _<_}
+use native.Mathlib.Numerals.{add-one}
+use native.Mathlib.Omega.{arith}
+use lib.ListN.{length, getD, take}
+use Rattle.model.specs.Base.{all, keep}
+use Rattle.model.specs.Schema.{Table}
+use Rattle.model.specs.Rows.{Row, ofTable}
+use Rattle.model.specs.Commit.{unique, notOver, tableGood, tablesGood}
+use Rattle.model.specs.Packed.{tableFrom, tablesFrom, tablesIn, indexFrom, indexesFrom, maxRowsFrom}
+use Rattle.model.specs.Working.{working}
+use Rattle.references.proofs.Packs.{tableCount, tables-on, tables-end}
+use Rattle.limits.specs.Alike.{ofT, uniqueCells}
+use Rattle.limits.proofs.Indexed.{of-length, unique-model}
+use Rattle.limits.proofs.Sanely.{cellAt, widthAt, Below}
+
+-- ── a test over the first m of two ──
+module _ {A : Type 0} (q : A → Bool) (i j : A) where
+  two-none : (m : ℕ) → m ≡ 0 → all q (take m (i ∷ j ∷ [])) ≡ true
+  two-none m e = rw e
+
+  two-no : (m : ℕ) → 0 < m → q i ≡ false → all q (take m (i ∷ j ∷ [])) ≡ false
+  two-no zero h e = absurd (omega arith)
+  two-no (suc m) h e = rw e
+
+  two-one : (m : ℕ) → m ≡ 1 → q i ≡ true → all q (take m (i ∷ j ∷ [])) ≡ true
+  two-one m e f = rw (e, f)
+
+  two-both : (m : ℕ) → 1 < m → q i ≡ true → all q (take m (i ∷ j ∷ [])) ≡ q j
+  two-both zero h f = absurd (omega arith)
+  two-both (suc zero) h f = absurd (omega arith)
+  two-both (suc (suc zero)) h f = rw f (one (q j))
+    where
+      one : (b : Bool) → (b && true) ≡ b
+      one true = refl
+      one false = refl
+  two-both (suc (suc (suc m))) h f = rw f (one (q j))
+    where
+      one : (b : Bool) → (b && true) ≡ b
+      one true = refl
+      one false = refl
+
+module _ (schema : List (List ℕ)) (t n : ℕ) (rows : List (List (List ℕ))) where
+  abbrev pub good : Bool
+  good = tableGood (tableFrom schema t) (ofTable t (working (tablesIn schema) n rows))
+
+  abbrev pub mine : List (List (List ℕ))
+  mine = keep (ofT t) (take n rows)
+
+  abbrev pub fewEnough : Bool
+  fewEnough = notOver (maxRowsFrom (cellAt schema t)) (length mine)
+
+  abbrev uniqueIn : List ℕ → Bool
+  uniqueIn index = unique index (ofTable t (working (tablesIn schema) n rows))
+
+  abbrev count : ℕ
+  count = getD (cellAt schema t) 36 0
+
+  abbrev index : ℕ → List ℕ
+  index at = indexFrom (cellAt schema t) at
+
+  good-is : good ≡ (fewEnough && all uniqueIn (take count (index 37 ∷ index 41 ∷ [])))
+  unfolding tableFrom
+  good-is = ap (λ (k : ℕ). notOver (maxRowsFrom (cellAt schema t)) k && all uniqueIn (take count (index 37 ∷ index 41 ∷ []))) (of-length (tablesIn schema) t n rows)
+
+  pub good-over : fewEnough ≡ false → good ≡ false
+  good-over e = good-is ∙ rw e
+
+  module _ (few : fewEnough ≡ true) where
+    pub good-none : count ≡ 0 → good ≡ true
+    good-none e = good-is ∙ rw few (two-none uniqueIn (index 37) (index 41) count e)
+
+    module _ (b : Below (widthAt schema t) (index 37)) where
+      first : (v : Bool) → uniqueCells (index 37) mine ≡ v → uniqueIn (index 37) ≡ v
+      first v e = unique-model (tablesIn schema) t (index 37) b n rows ∙ e
+
+      pub good-first-no : 0 < count → uniqueCells (index 37) mine ≡ false → good ≡ false
+      good-first-no h e = good-is ∙ rw few (two-no uniqueIn (index 37) (index 41) count h (first false e))
+
+      pub good-one : count ≡ 1 → uniqueCells (index 37) mine ≡ true → good ≡ true
+      good-one h e = good-is ∙ rw few (two-one uniqueIn (index 37) (index 41) count h (first true e))
+
+      pub good-two : Below (widthAt schema t) (index 41) → 1 < count → uniqueCells (index 37) mine ≡ true → good ≡ uniqueCells (index 41) mine
+      good-two d h e = good-is ∙ rw few (two-both uniqueIn (index 37) (index 41) count h (first true e) ∙ unique-model (tablesIn schema) t (index 41) d n rows)
+
+-- ── one table after another ──
+module _ (schema : List (List ℕ)) (n : ℕ) (rows : List (List (List ℕ))) (t : ℕ) where
+  abbrev pub goodFrom : ℕ → Bool
+  goodFrom u = tablesGood u (tablesFrom schema u (tableCount schema - u)) (working (tablesIn schema) n rows)
+
+  pub tables-here : t < tableCount schema → good schema t n rows ≡ false → goodFrom t ≡ false
+  tables-here h e = ap (λ (l : List Table). tablesGood t l (working (tablesIn schema) n rows)) (tables-on schema t (tableCount schema) h) ∙ rw e
+
+  pub tables-next : t < tableCount schema → good schema t n rows ≡ true → goodFrom t ≡ goodFrom (t + 1)
+  tables-next h e = ap (λ (l : List Table). tablesGood t l (working (tablesIn schema) n rows)) (tables-on schema t (tableCount schema) h) ∙ rw (e, add-one t)
+
+  pub tables-last : tableCount schema ≤ t → goodFrom t ≡ true
+  tables-last h = ap (λ (l : List Table). tablesGood t l (working (tablesIn schema) n rows)) (tables-end schema t (tableCount schema) h)

@@ -1,0 +1,4 @@
+pub mod Walks
+pub mod Keeping
+pub mod Packs
+pub mod Links

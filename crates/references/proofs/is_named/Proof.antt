@@ -1,0 +1,43 @@
+-- `references::is_named` meets its contract. Assumes nothing.
+use mathlib.Core.Path.{sym, ap, _∙_}
+use Prim.Native.Nat.{ℕ}
+use lib.Dec.{eqb}
+use lib.ListN.{take}
+use Rattle.model.specs.Octets.{value}
+use Rattle.model.specs.Rows.{keyOf}
+use Rattle.model.proofs.Working.{key-head}
+use borrow.Author.Needs.{needs}
+use Rattle.references.proofs.is_named.Statement.{statement}
+use Rattle.references.proofs.is_named.Tie as tie
+
+sub-same-keys : tie.Need-sub-same-keys
+sub-same-keys c = search needs
+
+part-same-keys-start : tie.Need-part-same-keys-start
+part-same-keys-start c = search needs
+
+part-same-keys-end : tie.Need-part-same-keys-end
+part-same-keys-end c = search needs
+
+key-of-requires : tie.Need-key-of-requires
+key-of-requires c κs = search needs
+
+same-keys-requires : tie.Need-same-keys-requires
+same-keys-requires c κs = search needs
+
+returns : tie.Need-returns
+returns c =
+    let s = c .before .before .before .before in
+    let k = c .before .key-of .ensures in
+    c .same-keys .ensures ∙ ap (λ (x : ℕ). eqb (keyOf (s .args .table) (value (take 16 (s .args .atom .now)))) x) (ap value (k .bytes) ∙ sym (key-head (s .args .row .now) (k .head)))
+
+pub is-named-spec : {M : Type 1} → statement M
+is-named-spec =
+    tie.close
+    (tie.spec
+    sub-same-keys
+    part-same-keys-start
+    part-same-keys-end
+    key-of-requires
+    same-keys-requires
+    returns)

@@ -1,0 +1,4 @@
+pub mod Roots
+pub mod Loosely
+pub mod Weakly
+pub mod Partly

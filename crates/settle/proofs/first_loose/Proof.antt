@@ -1,0 +1,87 @@
+-- `settle::first_loose` meets its contract. Assumes nothing.
+use mathlib.Core.Path.{_≡_, refl, sym, _∙_}
+use mathlib.Core.List.{[]}
+use Prim.Native.Nat.{_-_, _≤_}
+use native.Mathlib.Omega.{arith}
+use lib.ListN.{drop, getD}
+use Rattle.model.specs.Commit.{firstLoose}
+use Rattle.model.specs.Packed.{tablesIn}
+use Rattle.model.specs.Working.{working, keyIn}
+use Rattle.settle.proofs.Loosely.{loose-on, loose-here, loose-end, loose-found, loose-nothing}
+use Rattle.settle.proofs.first_loose.Statement.{statement}
+use Rattle.settle.proofs.first_loose.Tie as tie
+
+abbrev Inv-loop : tie.InvT-loop
+Inv-loop schema rows n i₀ i = (i ≤ n) × (firstLoose (tablesIn schema) (working (tablesIn schema) n rows) (working (tablesIn schema) n rows) ≡ firstLoose (tablesIn schema) (working (tablesIn schema) n rows) (drop i (working (tablesIn schema) n rows)))
+
+abbrev μ-loop : tie.MeasureT-loop
+μ-loop schema rows n i₀ i = n - i
+
+loop-holds : tie.Need-loop-holds Inv-loop μ-loop
+loop-holds c = (omega arith, refl)
+
+mul-is-loose : tie.Need-mul-is-loose Inv-loop μ-loop
+mul-is-loose c = omega (arith, c .before .before .good)
+
+shared-slice-element-is-loose : tie.Need-shared-slice-element-is-loose Inv-loop μ-loop
+shared-slice-element-is-loose c = omega (arith, c .before .before .pre .1)
+
+is-loose-requires : tie.Need-is-loose-requires Inv-loop μ-loop
+is-loose-requires c κs = c .before .before .before .pre
+
+mul-place-of : tie.Need-mul-place-of Inv-loop μ-loop
+mul-place-of c = omega (arith, c .before .before .before .before .before .good)
+
+shared-slice-element-place-of : tie.Need-shared-slice-element-place-of Inv-loop μ-loop
+shared-slice-element-place-of c = omega (arith, c .before .before .before .before .before .pre .1)
+
+place-of-requires : tie.Need-place-of-requires Inv-loop μ-loop
+place-of-requires c κs = c .before .before .before .before .before .before .pre .1
+
+returns : tie.Need-returns Inv-loop μ-loop
+returns c =
+    let s = c .before .before .before .before .before .before .before in
+    let l = c .before .before .before .before .before .before .loop in
+    let sc = tablesIn (s .args .schema .now) in
+    loose-found sc (working sc (s .args .n) (s .args .rows .now)) (keyIn (getD (s .args .rows .now) (l .i) [])) (c .place-of .result)
+    (l .inv .1 ∙ loose-here sc (s .args .rows .now) (s .args .n) (s .pre .1) (l .i) (c .before .before .before .before .before .loop-test .taken) (sym (c .before .before .before .is-loose .ensures) ∙ c .before .before .if1 .taken))
+    (c .place-of .ensures sc)
+
+add-i : tie.Need-add-i Inv-loop μ-loop
+add-i c = omega arith
+
+loop-less : tie.Need-loop-less Inv-loop μ-loop
+loop-less c = omega arith
+
+loop-again : tie.Need-loop-again Inv-loop μ-loop
+loop-again c =
+    let s = c .before .before .before .before .before in
+    let l = c .before .before .before .before .loop in
+    let sc = tablesIn (s .args .schema .now) in
+    (omega arith, l .inv .1 ∙ loose-on sc (s .args .rows .now) (s .args .n) (s .pre .1) (l .i) (c .before .before .before .loop-test .taken) (sym (c .before .is-loose .ensures) ∙ c .if1 .left))
+
+returns-2 : tie.Need-returns-2 Inv-loop μ-loop
+returns-2 c =
+    let s = c .before .before in
+    let l = c .before .loop in
+    let sc = tablesIn (s .args .schema .now) in
+    loose-nothing sc (working sc (s .args .n) (s .args .rows .now)) (l .inv .1 ∙ loose-end sc (s .args .rows .now) (s .args .n) (s .pre .1) (l .i) (c .loop-test .left))
+
+pub first-loose-spec : {M : Type 1} → statement M
+first-loose-spec =
+    tie.close
+    (tie.spec
+    Inv-loop
+    μ-loop
+    loop-holds
+    mul-is-loose
+    shared-slice-element-is-loose
+    is-loose-requires
+    mul-place-of
+    shared-slice-element-place-of
+    place-of-requires
+    returns
+    add-i
+    loop-less
+    loop-again
+    returns-2)
