@@ -1,0 +1,45 @@
+-- `judged::row_fault` meets its contract. Assumes nothing.
+use mathlib.Core.Bool.{_&&_}
+use lib.Dec.{leb}
+use Rattle.model.specs.Nav.{treeAt}
+use Rattle.model.specs.Packed.{columnFrom}
+use Rattle.model.specs.Written.{rowFault}
+use Rattle.uuids.specs.Named.{namesAt}
+use Rattle.judged.proofs.Judging.{graded-is, row-is}
+use borrow.Author.Needs.{needs}
+use Rattle.judged.proofs.row_fault.Statement.{statement}
+use Rattle.judged.proofs.row_fault.Tie as tie
+
+weigh-requires : tie.Need-weigh-requires
+weigh-requires c κs = (c .before .before .before .pre .0, c .before .before .before .pre .1)
+
+least-requires : tie.Need-least-requires
+least-requires c κs = search needs
+
+most-requires : tie.Need-most-requires
+most-requires c κs = search needs
+
+graded-requires : tie.Need-graded-requires
+graded-requires c κs = search needs
+
+returns : tie.Need-returns
+returns c =
+    let a = c .before .before .before .before .before .before .before .before .before .args in
+    let n = namesAt (a .text .now) (a .ops) (a .fresh .now) in
+    let z = columnFrom (a .column .now) in
+    let j = treeAt (a .text .now) (a .at) in
+    let w = c .before .before .before .before .before .weigh .ensures in
+    let x = c .before .before .before .before .before .weigh .result in
+    let lo = c .before .before .before .before .least .result in
+    let hi = c .before .before .before .most .result in
+    graded-is n (z .base) (rowFault z) j (leb (x .count) 4 && x .short) ((x .different && x .within) && (leb lo (x .count) && leb (x .count) hi)) (x .typed) (c .graded .ensures) (w .typed) (row-is n z j w (c .before .before .before .before .least .ensures) (c .before .before .before .most .ensures))
+
+pub row-fault-spec : {M : Type 1} → statement M
+row-fault-spec =
+    tie.close
+    (tie.spec
+    weigh-requires
+    least-requires
+    most-requires
+    graded-requires
+    returns)

@@ -1,0 +1,78 @@
+-- At most four atoms gathered, one after another. Assumes nothing.
+use mathlib.Core.Path.{_≡_, refl, sym, ap, subst, _∙_}
+use mathlib.Core.Bool.{Bool, true, false, not, _||_}
+use mathlib.Core.List.{List, [], _∷_, _++_, map, append-nil, append-assoc}
+use Prim.Native.Nat.{ℕ, suc, _+_, _<_, _≤_}
+use native.Mathlib.Omega.{arith}
+use lib.ListN.{length, set as update, length-append}
+use borrow.Author.Tests.{not-true}
+use Rattle.model.specs.declared.Found.{Found}
+use Rattle.model.specs.declared.Found.the-variants.{At, Nothing}
+use Rattle.model.specs.Base.{any}
+use Rattle.model.specs.Json.{Json}
+use Rattle.model.specs.Nav.{treeAt}
+use Rattle.model.specs.Schema.{Base}
+use Rattle.model.specs.Written.{Names, longAtom}
+use Rattle.model.proofs.Tests.{or-l, or-r}
+use Rattle.value.proofs.Fours.{padded, set-padded}
+use Rattle.elements.specs.Elements.{elementsFrom, elementsFine, nextElement}
+use Rattle.elements.proofs.Walk.{walk-rest, walk-end, walk-fine}
+use Rattle.written.specs.Atoms.{atomAs, atomsOf}
+use Rattle.sets.specs.Tallies.{allShort}
+
+later : {A : Type 0} (q : A → Bool) (l : List A) (a : A) (m : List A) → any q (l ++ (a ∷ m)) ≡ false → q a ≡ false
+later q [] a m h = or-l (q a) (any q m) h
+later q (x ∷ l) a m h = later q l a m (or-r (q x) (any q (l ++ (a ∷ m))) h)
+
+same-length : (names : Names) (k : Base) (js : List Json) → length (atomsOf names k js) ≡ length js
+unfolding atomsOf
+same-length names k [] = refl
+same-length names k (j ∷ js) = ap suc (same-length names k js)
+
+no-rest : {A : Type 0} (l m : List A) → length (l ++ m) ≤ length l → m ≡ []
+no-rest l [] h = refl
+no-rest l (a ∷ m) h = absurd (omega (arith, length-append l (a ∷ m)))
+
+-- what was gathered before the place g
+pub record Gathered (names : Names) (k : Base) (s : List ℕ) (set : Bool) (f g : Found) (atoms : List (List ℕ)) (n : ℕ) : Type 0 where
+  pub done : List (List ℕ)
+  pub held : atoms ≡ padded done
+  pub count : n ≡ length done
+  pub rest : done ++ atomsOf names k (elementsFrom s set g) ≡ atomsOf names k (elementsFrom s set f)
+  pub fine : elementsFine s set g ≡ true
+
+module _ (names : Names) (k : Base) (s : List ℕ) (set : Bool) where
+  pub gathered-start : {f : Found} → elementsFine s set f ≡ true → Gathered names k s set f f (padded []) 0
+  gathered-start h = record { done = []; held = refl; count = refl; rest = refl; fine = h }
+
+  module _ {f g : Found} {atoms : List (List ℕ)} {n : ℕ} (p : Gathered names k s set f g atoms n) where
+    pub gathered-end : g ≡ Nothing → atoms ≡ padded (atomsOf names k (elementsFrom s set f))
+    unfolding atomsOf
+    gathered-end h = p .held ∙ ap padded (sym (append-nil (p .done)) ∙ sym (ap (λ l. p .done ++ map (atomAs names k) l) (walk-end s set h)) ∙ p .rest)
+
+    pub gathered-full : 4 ≤ n → length (elementsFrom s set f) ≤ 4 → atoms ≡ padded (atomsOf names k (elementsFrom s set f))
+    gathered-full h few =
+        let more = atomsOf names k (elementsFrom s set g) in
+        let e : more ≡ [] = no-rest (p .done) more (omega (arith, ap length (p .rest), same-length names k (elementsFrom s set f), p .count)) in
+        p .held ∙ ap padded (sym (append-nil (p .done)) ∙ ap (λ l. p .done ++ l) (sym e) ∙ p .rest)
+
+    module _ {i : ℕ} (h : g ≡ At i) where
+      turned : p .done ++ (atomAs names k (treeAt s i) ∷ atomsOf names k (elementsFrom s set (nextElement s set i))) ≡ atomsOf names k (elementsFrom s set f)
+      unfolding atomsOf
+      turned = sym (ap (λ l. p .done ++ map (atomAs names k) l) (walk-rest s set h)) ∙ p .rest
+
+      pub gathered-short : allShort names k (elementsFrom s set f) ≡ true → longAtom k (atomAs names k (treeAt s i)) ≡ false
+      unfolding allShort
+      gathered-short a =
+          later (longAtom k) (p .done) (atomAs names k (treeAt s i)) (atomsOf names k (elementsFrom s set (nextElement s set i)))
+          (ap (any (longAtom k)) turned ∙ not-true (any (longAtom k) (atomsOf names k (elementsFrom s set f))) a)
+
+      pub gathered-on : {x : List ℕ} {next : Found} → n < 4 → x ≡ atomAs names k (treeAt s i) → next ≡ nextElement s set i → Gathered names k s set f next (update atoms n x) (n + 1)
+      gathered-on {x} {next} l e m = record {
+        done = p .done ++ (x ∷ []);
+        held = set-padded (p .done) atoms n x (p .held) (p .count) (omega (arith, p .count));
+        count = omega (arith, p .count, length-append (p .done) (x ∷ []));
+        rest = append-assoc (p .done) (x ∷ []) (atomsOf names k (elementsFrom s set next)) ∙ ap (λ y. p .done ++ (y ∷ atomsOf names k (elementsFrom s set next))) e
+            ∙ ap (λ y. p .done ++ (atomAs names k (treeAt s i) ∷ atomsOf names k (elementsFrom s set y))) m ∙ turned;
+        fine = ap (elementsFine s set) m ∙ walk-fine s set h (p .fine) .1;
+      }

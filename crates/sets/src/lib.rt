@@ -1,0 +1,281 @@
+// The elements of a value as written, all together: of their type, in their limits, different, and gathered.
+use model::Found;
+use written::Atom;
+ghost use mathlib.Core.Path.{_≡_};
+ghost use mathlib.Core.Bool.{true, false};
+ghost use Prim.Native.Nat.{_≤_};
+ghost use lib.IntN.{pos};
+ghost use lib.Signed.{leZ};
+ghost use lib.ListN.{length};
+ghost use Rattle.model.specs.Octets.{value, part};
+ghost use Rattle.model.specs.Base.{any, member, distinct};
+ghost use Rattle.model.specs.Nav.{wellAt, treeAt};
+ghost use Rattle.model.specs.Schema.{baseOf};
+ghost use Rattle.model.specs.Value.{fromTwos, inLimits, atomInLimits, valueOf};
+ghost use Rattle.model.specs.Written.{longAtom};
+ghost use Rattle.model.specs.Packed.{columnFrom};
+ghost use Rattle.atom.specs.Bytes.{halves};
+ghost use Rattle.elements.specs.Elements.{elementsFrom, elementsFine};
+ghost use Rattle.uuids.specs.Named.{namesAt, Running};
+ghost use Rattle.written.specs.Atoms.{atomAs, atomsOf};
+ghost use Rattle.sets.specs.Tallies.{allShort, Sees, Tallied};
+
+// What is seen of one element: that it is of its type, not a string above 24 bytes, and in its column's limits.
+pub struct Seen {
+    pub typed: bool,
+    pub short: bool,
+    pub within: bool,
+}
+
+// The same of all elements, and how many there are.
+pub struct Tally {
+    pub count: usize,
+    pub typed: bool,
+    pub short: bool,
+    pub within: bool,
+}
+
+// 64 bits whose order is that of the integers that x and others are in two's complement.
+fn turn(x: u64) -> u64
+    ensures { λ r. ⌜ r ≡ halves x ⌝ }
+{
+    if x < 9223372036854775808 {
+        return x + 9223372036854775808;
+    }
+    x - 9223372036854775808
+}
+
+// The order of integers in two's complement.
+fn at_most(x: u64, y: u64) -> bool
+    ensures { λ r. ⌜ r ≡ leZ (fromTwos x) (fromTwos y) ⌝ }
+{
+    let a = turn(x);
+    let b = turn(y);
+    let less = b < a;
+    !less
+}
+
+// A limit of a column.
+fn limit(column: &[u8; 48], at: usize) -> u64
+    requires { ⌜ at ≤ 40 ⌝ }
+    ensures { λ r. ⌜ r ≡ value (part at 8 (now (column .entry))) ⌝ }
+{
+    let c = &column[..];
+    octets::number(&c[at..], 8)
+}
+
+// Whether an integer in two's complement is in a column's limits.
+pub fn in_limits(column: &[u8; 48], x: u64) -> bool
+    ensures { λ r. ⌜ r ≡ inLimits (columnFrom (now (column .entry))) (fromTwos x) ⌝ }
+{
+    let low = limit(column, 31);
+    let high = limit(column, 39);
+    let l = at_most(low, x);
+    let h = at_most(x, high);
+    l & h
+}
+
+// Whether a length is in a column's limits.
+pub fn count_in_limits(column: &[u8; 48], n: u64) -> bool
+    ensures { λ r. ⌜ r ≡ inLimits (columnFrom (now (column .entry))) (pos n) ⌝ }
+{
+    let low = limit(column, 31);
+    let high = limit(column, 39);
+    let above = (9223372036854775808 <= low) | (low <= n);
+    let below = (high < 9223372036854775808) & (n <= high);
+    above & below
+}
+
+// Whether an atom is in its column's limits.
+pub fn within(column: &[u8; 48], cell: &[u8; 25]) -> bool
+    ensures { λ r. ⌜ r ≡ atomInLimits (columnFrom (now (column .entry))) (columnFrom (now (column .entry)) .base) (now (cell .entry)) ⌝ }
+{
+    let kind = column[25];
+    if kind == 0 {
+        return in_limits(column, octets::number(cell, 8));
+    }
+    if kind == 2 {
+        let n = atom::count_chars(atom::text_of(cell));
+        return count_in_limits(column, n as u64);
+    }
+    true
+}
+
+// What is seen of the element at `at`.
+fn see(text: &[u8], ends: &[u16], ops: Found, fresh: &[u8], column: &[u8; 48], at: usize) -> Seen
+    requires { ⌜ Running (now text) (now ends) ops (now fresh) ⌝ }
+    requires { ⌜ wellAt (now text) at ≡ true ⌝ }
+    ensures { λ r. ⌜ Sees (namesAt (now (text .entry)) ops (now (fresh .entry))) (columnFrom (now (column .entry))) (treeAt (now (text .entry)) at) (r .typed) (r .short) (r .within) ⌝ }
+{
+    let mut cell = [0u8; 25];
+    let kind = column[25];
+    let a = written::atom_at(text, ends, ops, fresh, kind, at, &mut cell);
+    match a {
+        Atom::Wrong => {
+            let w = within(column, &cell);
+            Seen {
+                typed: false,
+                short: true,
+                within: w,
+            }
+        }
+        Atom::Long => {
+            let n = written::long_chars(text, at);
+            let w = count_in_limits(column, n as u64);
+            Seen {
+                typed: true,
+                short: false,
+                within: w,
+            }
+        }
+        Atom::Fits => {
+            let w = within(column, &cell);
+            Seen {
+                typed: true,
+                short: true,
+                within: w,
+            }
+        }
+    }
+}
+
+// What is seen of all elements from f on.
+pub fn tally_from(
+    text: &[u8],
+    ends: &[u16],
+    ops: Found,
+    fresh: &[u8],
+    column: &[u8; 48],
+    set: bool,
+    f: Found,
+) -> Tally
+    requires { ⌜ Running (now text) (now ends) ops (now fresh) ⌝ }
+    requires { ⌜ elementsFine (now text) set f ≡ true ⌝ }
+    ensures { λ r. ⌜ Tallied (namesAt (now (text .entry)) ops (now (fresh .entry))) (columnFrom (now (column .entry))) (elementsFrom (now (text .entry)) set f) (r .count) (r .typed) (r .short) (r .within) ⌝ }
+{
+    let mut g = f;
+    let mut count: usize = 0;
+    let mut typed = true;
+    let mut short = true;
+    let mut inside = true;
+    loop {
+        match g {
+            Found::At(p) => {
+                let s = see(text, ends, ops, fresh, column, p);
+                count += 1;
+                typed = typed & s.typed;
+                short = short & s.short;
+                inside = inside & s.within;
+                g = elements::next_element(text, ends, p, set);
+            }
+            Found::Nothing => {
+                return Tally {
+                    count: count,
+                    typed: typed,
+                    short: short,
+                    within: inside,
+                };
+            }
+        }
+    }
+}
+
+// Whether the element at `at` is again among those from f on.
+fn again(
+    text: &[u8],
+    ends: &[u16],
+    ops: Found,
+    fresh: &[u8],
+    kind: u8,
+    set: bool,
+    f: Found,
+    at: usize,
+) -> bool
+    requires { ⌜ Running (now text) (now ends) ops (now fresh) ⌝ }
+    requires { ⌜ wellAt (now text) at ≡ true ⌝ }
+    requires { ⌜ elementsFine (now text) set f ≡ true ⌝ }
+    ensures { λ r. ⌜ r ≡ member (atomAs (namesAt (now (text .entry)) ops (now (fresh .entry))) (baseOf kind) (treeAt (now (text .entry)) at)) (atomsOf (namesAt (now (text .entry)) ops (now (fresh .entry))) (baseOf kind) (elementsFrom (now (text .entry)) set f)) ⌝ }
+{
+    let mut cell = [0u8; 25];
+    let a = written::atom_at(text, ends, ops, fresh, kind, at, &mut cell);
+    match a {
+        Atom::Wrong => written::cell_among(text, ends, ops, fresh, kind, set, f, &cell),
+        Atom::Long => written::long_among(text, ends, set, f, at),
+        Atom::Fits => written::cell_among(text, ends, ops, fresh, kind, set, f, &cell),
+    }
+}
+
+// Whether all elements from f on are different.
+pub fn distinct_from(
+    text: &[u8],
+    ends: &[u16],
+    ops: Found,
+    fresh: &[u8],
+    kind: u8,
+    set: bool,
+    f: Found,
+) -> bool
+    requires { ⌜ Running (now text) (now ends) ops (now fresh) ⌝ }
+    requires { ⌜ elementsFine (now text) set f ≡ true ⌝ }
+    ensures { λ r. ⌜ r ≡ distinct (atomsOf (namesAt (now (text .entry)) ops (now (fresh .entry))) (baseOf kind) (elementsFrom (now (text .entry)) set f)) ⌝ }
+{
+    let mut g = f;
+    loop {
+        match g {
+            Found::At(p) => {
+                let n = elements::next_element(text, ends, p, set);
+                let d = again(text, ends, ops, fresh, kind, set, n, p);
+                if d {
+                    return false;
+                }
+                g = n;
+            }
+            Found::Nothing => return true,
+        }
+    }
+}
+
+// The atom of the element at `at`, which is not a long string.
+fn cell_at(text: &[u8], ends: &[u16], ops: Found, fresh: &[u8], kind: u8, at: usize) -> [u8; 25]
+    requires { ⌜ Running (now text) (now ends) ops (now fresh) ⌝ }
+    requires { ⌜ wellAt (now text) at ≡ true ⌝ }
+    requires { ⌜ longAtom (baseOf kind) (atomAs (namesAt (now text) ops (now fresh)) (baseOf kind) (treeAt (now text) at)) ≡ false ⌝ }
+    ensures { λ r. ⌜ r ≡ atomAs (namesAt (now (text .entry)) ops (now (fresh .entry))) (baseOf kind) (treeAt (now (text .entry)) at) ⌝ }
+{
+    let mut cell = [0u8; 25];
+    written::atom_at(text, ends, ops, fresh, kind, at, &mut cell);
+    cell
+}
+
+// The atoms of the elements from f on, of which there are at most four.
+pub fn gather(
+    text: &[u8],
+    ends: &[u16],
+    ops: Found,
+    fresh: &[u8],
+    kind: u8,
+    set: bool,
+    f: Found,
+) -> [[u8; 25]; 4]
+    requires { ⌜ Running (now text) (now ends) ops (now fresh) ⌝ }
+    requires { ⌜ elementsFine (now text) set f ≡ true ⌝ }
+    requires { ⌜ allShort (namesAt (now text) ops (now fresh)) (baseOf kind) (elementsFrom (now text) set f) ≡ true ⌝ }
+    requires { ⌜ length (elementsFrom (now text) set f) ≤ 4 ⌝ }
+    ensures { λ r. ⌜ r ≡ valueOf (atomsOf (namesAt (now (text .entry)) ops (now (fresh .entry))) (baseOf kind) (elementsFrom (now (text .entry)) set f)) .atoms ⌝ }
+{
+    let mut atoms = [[0u8; 25]; 4];
+    let mut g = f;
+    let mut n = 0;
+    while n < 4 {
+        match g {
+            Found::At(p) => {
+                let x = cell_at(text, ends, ops, fresh, kind, p);
+                atoms[n] = x;
+                n += 1;
+                g = elements::next_element(text, ends, p, set);
+            }
+            Found::Nothing => return atoms,
+        }
+    }
+    atoms
+}

@@ -1,0 +1,79 @@
+-- `uuids::named_at` meets its contract. Assumes nothing.
+use mathlib.Core.Path.{sym, ap, _∙_}
+use mathlib.Core.Option.{some}
+use Rattle.model.specs.Nav.{treeAt, isText}
+use Rattle.uuids.specs.Named.{answered}
+use Rattle.uuids.proofs.Names.{named-not, named-some, named-none}
+use borrow.Author.Needs.{needs}
+use Rattle.uuids.proofs.named_at.Statement.{statement}
+use Rattle.uuids.proofs.named_at.Tie as tie
+
+kind-at-requires : tie.Need-kind-at-requires
+kind-at-requires c κs = search needs
+
+is-text-requires : tie.Need-is-text-requires
+is-text-requires c κs = search needs
+
+slice-aggregate-string-at : tie.Need-slice-aggregate-string-at
+slice-aggregate-string-at c = search needs
+
+string-at-requires : tie.Need-string-at-requires
+string-at-requires c κs = c .before .before .before .before .before .before .before .pre .short
+
+slice-aggregate-bytes : tie.Need-slice-aggregate-bytes
+slice-aggregate-bytes c = search needs
+
+bytes-requires : tie.Need-bytes-requires
+bytes-requires c κs = c .before .before .string-at .ensures .fits
+
+place-of-requires : tie.Need-place-of-requires
+place-of-requires c κs = (c .before .before .before .before .before .before .before .before .before .before .before .pre .says, c .before .before .before .before .before .before .before .before .before .before .before .pre .fine)
+
+enum-known-f : tie.Need-enum-known-f
+enum-known-f c = search needs
+
+put-fresh-requires : tie.Need-put-fresh-requires
+put-fresh-requires c κs = (c .before .before .before .before .before .before .before .before .before .before .before .before .before .before .before .before .pre .ids, search needs)
+
+returns : tie.Need-returns
+unfolding answered
+returns c =
+    let a = c .before .before .before .before .before .before .before .before .before .before .before .before .before .before .before .before .before .args in
+    let j = treeAt (a .text .now) (a .at) in
+    let h = ap isText (sym (c .before .before .before .before .before .before .before .before .before .before .before .before .before .kind-at .ensures)) ∙ sym (c .before .before .before .before .before .before .before .before .before .before .before .before .is-text .ensures) ∙ c .before .before .before .before .before .before .before .before .before .before .before .if1 .taken in
+    named-some (a .text .now) (a .ops) (a .fresh .now) j h (c .before .before .before .before .before .before .bytes .ensures ∙ c .before .before .before .before .before .before .before .before .before .string-at .ensures .bytes) (c .before .before .before .before .before .place-of .ensures) (c .before .before .before .f .given .1) ∙ ap some (sym (c .put-fresh .ensures))
+
+enum-told : tie.Need-enum-told
+enum-told c = search needs
+
+returns-2 : tie.Need-returns-2
+unfolding answered
+returns-2 c =
+    let a = c .before .before .before .before .before .before .before .before .before .before .before .before .before .before .args in
+    let j = treeAt (a .text .now) (a .at) in
+    let h = ap isText (sym (c .before .before .before .before .before .before .before .before .before .before .kind-at .ensures)) ∙ sym (c .before .before .before .before .before .before .before .before .before .is-text .ensures) ∙ c .before .before .before .before .before .before .before .before .if1 .taken in
+    named-none (a .text .now) (a .ops) (a .fresh .now) j h (c .before .before .before .bytes .ensures ∙ c .before .before .before .before .before .before .string-at .ensures .bytes) (c .before .before .place-of .ensures) (c .enum-told .given .1)
+
+returns-3 : tie.Need-returns-3
+unfolding answered
+returns-3 c =
+    let a = c .before .before .before .before .before .before .args in
+    named-not (a .text .now) (a .ops) (a .fresh .now) (treeAt (a .text .now) (a .at)) (ap isText (sym (c .before .before .kind-at .ensures)) ∙ sym (c .before .is-text .ensures) ∙ c .if1 .left)
+
+pub named-at-spec : {M : Type 1} → statement M
+named-at-spec =
+    tie.close
+    (tie.spec
+    kind-at-requires
+    is-text-requires
+    slice-aggregate-string-at
+    string-at-requires
+    slice-aggregate-bytes
+    bytes-requires
+    place-of-requires
+    enum-known-f
+    put-fresh-requires
+    returns
+    enum-told
+    returns-2
+    returns-3)

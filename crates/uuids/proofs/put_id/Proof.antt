@@ -1,0 +1,54 @@
+-- `uuids::put_id` meets its contract. Assumes nothing.
+use mathlib.Core.Path.{_≡_, ap, _∙_}
+use mathlib.Core.List.{List, _++_}
+use Prim.Native.Nat.{ℕ}
+use lib.ListN.{length, drop, replicate}
+use Rattle.model.specs.Octets.{big}
+use Rattle.octets.proofs.Rests.{write-next}
+use Rattle.model.proofs.Octets.{length-big}
+use borrow.Author.Needs.{needs}
+use Rattle.uuids.proofs.put_id.Statement.{statement}
+use Rattle.uuids.proofs.put_id.Tie as tie
+
+clear-requires : tie.Need-clear-requires
+clear-requires c κs = search needs
+
+put-number-requires : tie.Need-put-number-requires
+put-number-requires c κs = search needs
+
+sub-put-number : tie.Need-sub-put-number
+sub-put-number c = search needs
+
+part-put-number-start : tie.Need-part-put-number-start
+part-put-number-start c = search needs
+
+part-put-number-end : tie.Need-part-put-number-end
+part-put-number-end c = search needs
+
+put-number-requires-2 : tie.Need-put-number-requires-2
+put-number-requires-2 c κs = search needs
+
+same-length : tie.Need-same-length
+same-length c = search needs
+
+returns : tie.Need-returns
+returns c =
+    let s = c .before .before .before .before .before .before .before .before .before .before .before .before .before in
+    let h = big 8 (s .args .high) in
+    let l = big 8 (s .args .low) in
+    let xs = c .before .before .before .before .before .before .before .before .before .before .clear .last .0 in
+    let e = write-next h l xs _ _ 8 8 (length-big 8 (s .args .high)) (c .before .before .before .before .before .before .put-number .ensures) (c .before .before .put-number2 .ensures) in
+    e ∙ ap (λ (z : List ℕ). (h ++ l) ++ drop 16 z) (c .before .before .before .before .before .before .before .before .before .before .clear .ensures ∙ ap (λ (n : ℕ). replicate {A = ℕ} n 0) (s .pre))
+
+pub put-id-spec : {M : Type 1} → statement M
+put-id-spec =
+    tie.close
+    (tie.spec
+    clear-requires
+    put-number-requires
+    sub-put-number
+    part-put-number-start
+    part-put-number-end
+    put-number-requires-2
+    same-length
+    returns)

@@ -1,0 +1,264 @@
+// Elements as written in a request, by positions of its text: the atom that one stands for, of a base type by its number.
+use model::Found;
+use model::Whole;
+use text::Written;
+ghost use mathlib.Core.Path.{_≡_};
+ghost use mathlib.Core.Bool.{true};
+ghost use mathlib.Core.List.{_∷_};
+ghost use Prim.Native.Nat.{_≤_};
+ghost use lib.ListN.{length, drop};
+ghost use Rattle.model.specs.Octets.{big, eqBytes};
+ghost use Rattle.model.specs.Base.{any, member};
+ghost use Rattle.model.specs.Nav.{Says, wellAt, treeAt};
+ghost use Rattle.model.specs.Text.{isWord, chars, stringIn};
+ghost use Rattle.model.specs.Whole.{isWhole};
+ghost use Rattle.model.specs.Schema.{baseOf};
+ghost use Rattle.model.specs.Value.{pad, boolAtom, textAtom};
+ghost use Rattle.elements.specs.Elements.{elementsFrom, elementsFine};
+ghost use Rattle.uuids.specs.Named.{namesAt, answered, Running};
+ghost use Rattle.written.specs.Atoms.{integerIn, booleanIn, TextReads, Told, atomAs, atomsOf, Reads};
+
+// What an element is as an atom of a base type: mistyped, a string above 24 bytes, or an atom of 25 bytes.
+pub enum Atom {
+    Wrong,
+    Long,
+    Fits,
+}
+
+fn is_whole(w: Whole) -> bool
+    ensures { λ r. ⌜ r ≡ isWhole w ⌝ }
+{
+    match w {
+        Whole::Plus(_) => true,
+        Whole::Minus(_) => true,
+        Whole::Other => false,
+    }
+}
+
+// The atom of 64 bits of two's complement.
+fn put_integer(x: u64, out: &mut [u8])
+    requires { ⌜ length (now out) ≡ 25 ⌝ }
+    ensures { λ _. ⌜ now (out .exit) ≡ pad (big 8 x) ⌝ }
+{
+    octets::clear(out);
+    octets::put_number(out, x, 8);
+}
+
+// The atom of a truth value.
+fn put_boolean(b: bool, out: &mut [u8])
+    requires { ⌜ length (now out) ≡ 25 ⌝ }
+    ensures { λ _. ⌜ now (out .exit) ≡ boolAtom b ⌝ }
+{
+    octets::clear(out);
+    if b {
+        out[0] = 1;
+    }
+}
+
+// The first byte.
+fn put_first(out: &mut [u8], b: u8)
+    requires { ⌜ 1 ≤ length (now out) ⌝ }
+    ensures { λ _. ⌜ now (out .exit) ≡ b ∷ drop 1 (now (out .entry)) ⌝ }
+{
+    out[0] = b;
+}
+
+// The atom of a string.
+fn put_text(t: &[u8], out: &mut [u8])
+    requires { ⌜ length (now out) ≡ 25 ⌝ }
+    requires { ⌜ length (now t) ≤ 24 ⌝ }
+    ensures { λ _. ⌜ now (out .exit) ≡ textAtom (now (t .entry)) ⌝ }
+{
+    octets::clear(out);
+    put_first(out, t.len() as u8);
+    octets::put_bytes(&mut out[1..], t);
+}
+
+// The integer at `at`.
+fn integer_at(text: &[u8], ends: &[u16], at: usize, out: &mut [u8; 25]) -> bool
+    requires { ⌜ Says (now text) (now ends) ⌝ }
+    ensures { λ r. ⌜ integerIn (treeAt (now (text .entry)) at) ≡ answered r (now (out .exit)) ⌝ }
+{
+    let w = nav::integer_at(text, ends, at);
+    let ok = is_whole(w);
+    if ok {
+        put_integer(octets::bits(w), &mut out[..]);
+        return true;
+    }
+    false
+}
+
+// The truth value at `at`.
+fn boolean_at(text: &[u8], at: usize, out: &mut [u8; 25]) -> bool
+    ensures { λ r. ⌜ booleanIn (treeAt (now (text .entry)) at) ≡ answered r (now (out .exit)) ⌝ }
+{
+    let k = nav::kind_at(text, at);
+    let t = nav::is_truth(k);
+    if t {
+        let b = nav::truth_at(text, at);
+        put_boolean(b, &mut out[..]);
+        return true;
+    }
+    false
+}
+
+// The string at `at`.
+fn text_at(text: &[u8], at: usize, out: &mut [u8; 25]) -> Atom
+    ensures { λ r. ⌜ TextReads (treeAt (now (text .entry)) at) r (now (out .exit)) ⌝ }
+{
+    let k = nav::kind_at(text, at);
+    let t = nav::is_text(k);
+    if t {
+        let i = scan::spaces(text, at);
+        let mut buf = [0u8; 24];
+        let w = text::decode(text, i + 1, &mut buf);
+        match w {
+            Written::To(n) => {
+                put_text(&buf[..n], &mut out[..]);
+                return Atom::Fits;
+            }
+            Written::Full => return Atom::Long,
+        }
+    }
+    Atom::Wrong
+}
+
+// That an element fits, if so; else that it is mistyped, and a blank atom.
+fn told(ok: bool, out: &mut [u8; 25]) -> Atom
+    ensures { λ r. ⌜ Told ok (now (out .entry)) r (now (out .exit)) ⌝ }
+{
+    if ok {
+        return Atom::Fits;
+    }
+    octets::clear(&mut out[..]);
+    Atom::Wrong
+}
+
+// The atom that the element at `at` stands for.
+pub fn atom_at(
+    text: &[u8],
+    ends: &[u16],
+    ops: Found,
+    fresh: &[u8],
+    kind: u8,
+    at: usize,
+    out: &mut [u8; 25],
+) -> Atom
+    requires { ⌜ Running (now text) (now ends) ops (now fresh) ⌝ }
+    requires { ⌜ wellAt (now text) at ≡ true ⌝ }
+    ensures { λ r. ⌜ Reads (namesAt (now (text .entry)) ops (now (fresh .entry))) (baseOf kind) (treeAt (now (text .entry)) at) r (now (out .exit)) ⌝ }
+{
+    if kind == 0 {
+        let ok = integer_at(text, ends, at, out);
+        return told(ok, out);
+    }
+    if kind == 1 {
+        let ok = boolean_at(text, at, out);
+        return told(ok, out);
+    }
+    if kind == 2 {
+        let a = text_at(text, at, out);
+        match a {
+            Atom::Wrong => return told(false, out),
+            Atom::Long => return Atom::Long,
+            Atom::Fits => return Atom::Fits,
+        }
+    }
+    let ok = uuids::uuid_at(text, ends, ops, fresh, at, out);
+    told(ok, out)
+}
+
+// Whether the element at `at` is the atom x.
+pub fn same_at(
+    text: &[u8],
+    ends: &[u16],
+    ops: Found,
+    fresh: &[u8],
+    kind: u8,
+    at: usize,
+    x: &[u8; 25],
+) -> bool
+    requires { ⌜ Running (now text) (now ends) ops (now fresh) ⌝ }
+    requires { ⌜ wellAt (now text) at ≡ true ⌝ }
+    ensures { λ r. ⌜ r ≡ eqBytes (now (x .entry)) (atomAs (namesAt (now (text .entry)) ops (now (fresh .entry))) (baseOf kind) (treeAt (now (text .entry)) at)) ⌝ }
+{
+    let y = &x[..];
+    let mut cell = [0u8; 25];
+    let a = atom_at(text, ends, ops, fresh, kind, at, &mut cell);
+    match a {
+        Atom::Wrong => atom::same(x, &cell),
+        Atom::Long => y.len() != 25,
+        Atom::Fits => atom::same(x, &cell),
+    }
+}
+
+// The length in characters of the string at `at`.
+pub fn long_chars(text: &[u8], at: usize) -> usize
+    requires { ⌜ length (now text) ≤ 8192 ⌝ }
+    ensures { λ r. ⌜ r ≡ chars (stringIn (treeAt (now (text .entry)) at)) ⌝ }
+{
+    let mut buf = [0u8; 8192];
+    let p = text::string_at(text, at, &mut buf);
+    text::characters(text::bytes(text, &buf, p))
+}
+
+// Whether a string is among the elements from f on.
+fn word_among(text: &[u8], ends: &[u16], set: bool, f: Found, word: &[u8]) -> bool
+    requires { ⌜ Says (now text) (now ends) ⌝ }
+    ensures { λ r. ⌜ r ≡ any (isWord (now (word .entry))) (elementsFrom (now (text .entry)) set f) ⌝ }
+{
+    let mut g = f;
+    loop {
+        match g {
+            Found::At(p) => {
+                let w = text::is_word(text, p, word);
+                if w {
+                    return true;
+                }
+                g = elements::next_element(text, ends, p, set);
+            }
+            Found::Nothing => return false,
+        }
+    }
+}
+
+// Whether the string at `at` is among the elements from f on.
+pub fn long_among(text: &[u8], ends: &[u16], set: bool, f: Found, at: usize) -> bool
+    requires { ⌜ Says (now text) (now ends) ⌝ }
+    requires { ⌜ length (now text) ≤ 8192 ⌝ }
+    ensures { λ r. ⌜ r ≡ any (isWord (stringIn (treeAt (now (text .entry)) at))) (elementsFrom (now (text .entry)) set f) ⌝ }
+{
+    let mut buf = [0u8; 8192];
+    let p = text::string_at(text, at, &mut buf);
+    word_among(text, ends, set, f, text::bytes(text, &buf, p))
+}
+
+// Whether the atom x is among the elements from f on.
+pub fn cell_among(
+    text: &[u8],
+    ends: &[u16],
+    ops: Found,
+    fresh: &[u8],
+    kind: u8,
+    set: bool,
+    f: Found,
+    x: &[u8; 25],
+) -> bool
+    requires { ⌜ Running (now text) (now ends) ops (now fresh) ⌝ }
+    requires { ⌜ elementsFine (now text) set f ≡ true ⌝ }
+    ensures { λ r. ⌜ r ≡ member (now (x .entry)) (atomsOf (namesAt (now (text .entry)) ops (now (fresh .entry))) (baseOf kind) (elementsFrom (now (text .entry)) set f)) ⌝ }
+{
+    let mut g = f;
+    loop {
+        match g {
+            Found::At(p) => {
+                let same = same_at(text, ends, ops, fresh, kind, p, x);
+                if same {
+                    return true;
+                }
+                g = elements::next_element(text, ends, p, set);
+            }
+            Found::Nothing => return false,
+        }
+    }
+}
