@@ -45,14 +45,14 @@ unfolding counting
 counting-less m ms h = rw (counting, h)
 
 -- a name by its cell
-cell-id : (t : List ℕ) → isId (textOf (shortCell t)) ≡ isId t
+pub cell-id : (t : List ℕ) → isId (textOf (shortCell t)) ≡ isId t
 cell-id t = go (cell-of t)
   where
     go : Cell t → isId (textOf (shortCell t)) ≡ isId t
     go (short q) = ap isId q
     go (long n q) = ap isId q ∙ id-none [] refl ∙ sym n
 
-cell-short : (t : List ℕ) → isId (textOf (shortCell t)) ≡ true → textOf (shortCell t) ≡ t
+pub cell-short : (t : List ℕ) → isId (textOf (shortCell t)) ≡ true → textOf (shortCell t) ≡ t
 cell-short t h = go (cell-of t)
   where
     go : Cell t → textOf (shortCell t) ≡ t
@@ -63,7 +63,7 @@ and-none : (b : Bool) → (b && false) ≡ false
 and-none true = refl
 and-none false = refl
 
-map-snoc : {A B : Type 0} (f : A → B) (l : List A) (a : A) → map f (l ++ (a ∷ [])) ≡ map f l ++ (f a ∷ [])
+pub map-snoc : {A B : Type 0} (f : A → B) (l : List A) (a : A) → map f (l ++ (a ∷ [])) ≡ map f l ++ (f a ∷ [])
 map-snoc f [] a = refl
 map-snoc f (x ∷ l) a = ap (λ (r : List _). f x ∷ r) (map-snoc f l a)
 

@@ -2,3 +2,6 @@
 pub mod Walk
 pub mod Bytes
 pub mod Gathering
+pub mod Sizes
+pub mod Cells
+pub mod Listing

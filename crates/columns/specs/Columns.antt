@@ -1,19 +1,22 @@
 -- A column as its cell. Assumes nothing: these are definitions.
 use Prim.Native.Nat.{ℕ}
 use mathlib.Core.Path.{_≡_}
-use mathlib.Core.Bool.{Bool, true, false}
+use mathlib.Core.Bool.{Bool, true, false, _||_}
 use mathlib.Core.List.{List, [], _∷_, _++_, map}
-use lib.Dec.{leb, ltb}
-use lib.ListN.{length, take, drop}
+use lib.Dec.{eqb, leb, ltb}
+use lib.ListN.{length, getD, take, drop}
+use Rattle.model.specs.Base.{all, every}
 use Rattle.model.specs.Octets.{big, twos}
 use Rattle.model.specs.Json.{Json, Named}
 use Rattle.model.specs.Members.{membersIn, counting}
 use Rattle.model.specs.declared.Whole.{Whole}
 use Rattle.model.specs.Whole.{intOf}
-use Rattle.model.specs.Value.{textOf}
-use Rattle.model.specs.Packed.{cellName, columnFrom}
-use Rattle.model.specs.SchemaText.{columnFits, columnOf, columnsFit}
+use Rattle.model.specs.Packed.{columnFrom}
+use Rattle.model.specs.SchemaText.{names, isBool, isId, columnFits, columnOf, columnsFit}
+use Rattle.fields.specs.Fields.{slotTree}
 use Rattle.types.specs.declared.Shape.{Shape}
+use Rattle.types.specs.Types.{TypeRead}
+use Rattle.columns.specs.Parts.{memberOf}
 use Rattle.columns.specs.declared.Read.{Read}
 
 -- a number that is a byte, 0 where it is none; a test as a byte
@@ -33,11 +36,28 @@ unfoldable pub shapeBytes : Shape → Bool → List ℕ
 shapeBytes t mutable =
     (t .key .base ∷ t .key .how ∷ t .key .target ∷ small (t .min) ∷ small (t .max) ∷ bit mutable ∷ []) ++ limitBytes (t .key .low) (t .key .high)
 
--- what was read of the column j, which has the name w
-pub record ColumnRead (tables : List (List ℕ)) (w : List ℕ) (j : Json) (r : Read) : Type 0 where
-  pub fits : r .fits ≡ columnFits tables j
-  pub column : r .fits ≡ true → columnFrom (r .cell) ≡ columnOf tables (record { name = w; value = j })
-  pub name : cellName (r .cell) ≡ w
+-- the type in a slot
+pub record TypeIn (s : List ℕ) (tables : List (List ℕ)) (p : ℕ) (r : Shape) : Type 0 where
+  pub none : eqb p 0 ≡ true → r .fits ≡ false
+  pub some : eqb p 0 ≡ false → TypeRead tables (slotTree s p) r
+
+-- the tests of a column by its slots
+abbrev pub truthTold : List ℕ → ℕ → Bool
+truthTold s p = eqb p 0 || isBool (slotTree s p)
+
+unfoldable pub columnTold : List ℕ → List ℕ → Bool → Bool
+columnTold s f typed = every (eqb (getD f 9 0) 0 ∷ typed ∷ truthTold s (getD f 1 0) ∷ truthTold s (getD f 2 0) ∷ [])
+
+-- what was read of the column m
+pub record ColumnRead (tables : List (List ℕ)) (m : Named) (r : Read) : Type 0 where
+  pub fits : r .fits ≡ columnFits tables (m .value)
+  pub column : isId (m .name) ≡ true → r .fits ≡ true → columnFrom (r .cell) ≡ columnOf tables m
+
+-- and of the columns at n places, in the order of the places
+pub record ColumnsPut (s : List ℕ) (tables : List (List ℕ)) (n : ℕ) (places : List ℕ) (r : Bool) (before after : List (List ℕ)) : Type 0 where
+  pub fits : r ≡ all (λ (m : Named). columnFits tables (m .value)) (map (memberOf s) (take n places))
+  pub columns : all isId (names (map (memberOf s) (take n places))) ≡ true → r ≡ true → map columnFrom (take n after) ≡ map (columnOf tables) (map (memberOf s) (take n places))
+  pub rest : drop 6 after ≡ drop 6 before
 
 -- what was read of the columns j: r of them, above 6 where they do not fit, at the front of some cells
 pub record ColumnsRead (tables : List (List ℕ)) (j : Json) (r : ℕ) (before after : List (List ℕ)) : Type 0 where

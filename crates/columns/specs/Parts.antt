@@ -1,11 +1,11 @@
 -- The members of an object that count, by their places. Assumes nothing: these are definitions.
 use Prim.Native.Nat.{ℕ, _<_}
 use mathlib.Core.Path.{_≡_}
-use mathlib.Core.List.{List, [], _∷_, map}
+use mathlib.Core.List.{List, map}
 use mathlib.Core.Bool.{Bool, true, _&&_}
 use lib.Dec.{leb}
 use lib.ListN.{length, getD, take}
-use Rattle.model.specs.Base.{all, every}
+use Rattle.model.specs.Base.{all}
 use Rattle.model.specs.Json.{Json, Named, memberAt, valueAt}
 use Rattle.model.specs.Nav.{kindOf, isObject, isEnd}
 use Rattle.model.specs.Members.{membersIn, counting}

@@ -1,22 +1,22 @@
 // Columns as a schema writes them, read into cells.
 use model::Found;
 use model::Whole;
+use types::Key;
 use types::Shape;
 ghost use mathlib.Core.Path.{_≡_};
 ghost use mathlib.Core.Bool.{true, false};
 ghost use mathlib.Core.List.{map, [], _∷_, _++_};
-ghost use Prim.Native.Nat.{_≤_, _<_};
+ghost use Prim.Native.Nat.{ℕ, _≤_, _<_};
 ghost use lib.Dec.{eqb};
 ghost use lib.ListN.{length, getD, drop};
 ghost use Rattle.model.specs.Base.{all};
-ghost use Rattle.model.specs.Nav.{Says, wellAt, treeAt, membersFrom, membersFine};
+ghost use Rattle.model.specs.Json.{memberAt, valueAt};
+ghost use Rattle.model.specs.Nav.{Says, wellAt, treeAt, isEnd, membersFrom, membersFine};
 ghost use Rattle.model.specs.Members.{has};
-ghost use Rattle.model.specs.Value.{textOf};
 ghost use Rattle.model.specs.Packed.{cellName};
 ghost use Rattle.model.specs.SchemaText.{isId};
-ghost use Rattle.fields.specs.Fields.{slotTree};
-ghost use Rattle.columns.specs.Parts.{Collected};
-ghost use Rattle.columns.specs.Columns.{small, bit, limitBytes, shapeBytes, ColumnRead, ColumnsRead};
+ghost use Rattle.columns.specs.Parts.{memberOf, Collected};
+ghost use Rattle.columns.specs.Columns.{small, bit, limitBytes, shapeBytes, TypeIn, truthTold, columnTold, ColumnRead, ColumnsPut, ColumnsRead};
 
 // A column: whether it fits, and its cell.
 pub struct Read {
@@ -93,6 +93,106 @@ fn put_column(out: &mut [u8], name: &[u8; 25], t: Shape, mutable: bool)
     put_shape(&mut out[25..], t, mutable);
 }
 
+// No type.
+fn no_type() -> Shape
+    ensures { λ r. ⌜ r .fits ≡ false ⌝ }
+{
+    Shape {
+        fits: false,
+        key: Key {
+            fits: false,
+            base: 0,
+            how: 0,
+            target: 0,
+            low: Whole::Other,
+            high: Whole::Other,
+        },
+        min: 0,
+        max: 0,
+    }
+}
+
+// The type in a slot.
+fn type_in(text: &[u8], ends: &[u16], tables: &[[u8; 48]], p: usize) -> Shape
+    requires { ⌜ Says (now text) (now ends) ⌝ }
+    requires { ⌜ (eqb p 0 ≡ false → wellAt (now text) p ≡ true) ⌝ }
+    requires { ⌜ all isId (map cellName (now tables)) ≡ true ⌝ }
+    requires { ⌜ length (now tables) ≤ 4 ⌝ }
+    ensures { λ r. ⌜ TypeIn (now (text .entry)) (map cellName (now (tables .entry))) p r ⌝ }
+{
+    if p == 0 {
+        return no_type();
+    }
+    types::read_type(text, ends, tables, p)
+}
+
+// Whether a slot is empty, or holds true or false.
+fn truth_fits(text: &[u8], p: usize) -> bool
+    ensures { λ r. ⌜ r ≡ truthTold (now (text .entry)) p ⌝ }
+{
+    let k = fields::kind_in(text, p);
+    let t = nav::is_truth(k);
+    (p == 0) | t
+}
+
+// Whether a column fits: f has its slots, and typed says whether its type fits.
+fn column_fits(text: &[u8], f: [usize; 10], typed: bool) -> bool
+    ensures { λ r. ⌜ r ≡ columnTold (now (text .entry)) f typed ⌝ }
+{
+    let e = truth_fits(text, f[1]);
+    let m = truth_fits(text, f[2]);
+    (f[9] == 0) & (typed & (e & m))
+}
+
+// The column that is the member at `at`.
+fn read_column(text: &[u8], ends: &[u16], at: usize, tables: &[[u8; 48]]) -> Read
+    requires { ⌜ Says (now text) (now ends) ⌝ }
+    requires { ⌜ isEnd (memberAt (valueAt 12 (now text)) (now text) at .read) ≡ true ⌝ }
+    requires { ⌜ all isId (map cellName (now tables)) ≡ true ⌝ }
+    requires { ⌜ length (now tables) ≤ 4 ⌝ }
+    ensures { λ r. ⌜ ColumnRead (map cellName (now (tables .entry))) (memberOf (now (text .entry)) at) r ⌝ }
+{
+    let name = names::name_at(text, at);
+    let v = nav::member_value(text, at);
+    let f = fields::fields(text, ends, v, b"\x04type\x09ephemeral\x07mutable");
+    let t = type_in(text, ends, tables, f[0]);
+    let fits = column_fits(text, f, t.fits);
+    let mutable = fields::truth_in(text, f[2], true);
+    let mut cell = [0u8; 48];
+    put_column(&mut cell, &name, t, mutable);
+    Read { fits, cell }
+}
+
+// The columns that are the members at n places, and whether all fit.
+fn put_columns(
+    text: &[u8],
+    ends: &[u16],
+    places: &[usize],
+    n: usize,
+    tables: &[[u8; 48]],
+    cells: &mut [[u8; 48]],
+) -> bool
+    requires { ⌜ Says (now text) (now ends) ⌝ }
+    requires { ⌜ ((i : ℕ) → i < n → isEnd (memberAt (valueAt 12 (now text)) (now text) (getD (now places) i 0) .read) ≡ true) ⌝ }
+    requires { ⌜ all isId (map cellName (now tables)) ≡ true ⌝ }
+    requires { ⌜ length (now tables) ≤ 4 ⌝ }
+    requires { ⌜ n ≤ 6 ⌝ }
+    requires { ⌜ n ≤ length (now places) ⌝ }
+    requires { ⌜ 6 ≤ length (now cells) ⌝ }
+    ensures { λ r. ⌜ ColumnsPut (now (text .entry)) (map cellName (now (tables .entry))) n (now (places .entry)) r (now (cells .entry)) (now (cells .exit)) ⌝ }
+{
+    let mut good = true;
+    let mut i = 0;
+    while i < n {
+        let c = read_column(text, ends, places[i], tables);
+        good = good & c.fits;
+        let cell = c.cell;
+        cells[i] = cell;
+        i += 1;
+    }
+    good
+}
+
 // Whether a member from g on has that name.
 fn has_from(text: &[u8], ends: &[u16], g: Found, word: &[u8]) -> bool
     requires { ⌜ Says (now text) (now ends) ⌝ }
@@ -150,6 +250,32 @@ pub fn collect(text: &[u8], ends: &[u16], at: usize, most: usize, places: &mut [
                 }
                 Found::Nothing => return n,
             }
+        }
+    }
+    9
+}
+
+// The columns of the object at `at`, into the first cells: how many, 9 where they do not fit.
+pub fn read_columns(
+    text: &[u8],
+    ends: &[u16],
+    at: usize,
+    tables: &[[u8; 48]],
+    cells: &mut [[u8; 48]],
+) -> usize
+    requires { ⌜ Says (now text) (now ends) ⌝ }
+    requires { ⌜ wellAt (now text) at ≡ true ⌝ }
+    requires { ⌜ all isId (map cellName (now tables)) ≡ true ⌝ }
+    requires { ⌜ length (now tables) ≤ 4 ⌝ }
+    requires { ⌜ 6 ≤ length (now cells) ⌝ }
+    ensures { λ r. ⌜ ColumnsRead (map cellName (now (tables .entry))) (treeAt (now (text .entry)) at) r (now (cells .entry)) (now (cells .exit)) ⌝ }
+{
+    let mut places = [0usize; 6];
+    let n = collect(text, ends, at, 6, &mut places);
+    if n <= 6 {
+        let good = put_columns(text, ends, &places, n, tables, cells);
+        if good {
+            return n;
         }
     }
     9

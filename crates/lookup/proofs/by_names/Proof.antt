@@ -1,0 +1,51 @@
+-- `lookup::by_names` meets its contract. Assumes nothing.
+use mathlib.Core.Path.{_≡_, refl, sym, ap, _∙_}
+use mathlib.Core.Bool.{Bool, true, false, _&&_}
+use Prim.Native.Nat.{ℕ}
+use Rattle.model.specs.Nav.{treeAt, kindOf, isText}
+use Rattle.lookup.specs.declared.Triple.the-variants.{Of, Other}
+use Rattle.lookup.specs.Lookup.{byNames}
+use borrow.Author.Needs.{needs}
+use Rattle.lookup.proofs.by_names.Statement.{statement}
+use Rattle.lookup.proofs.by_names.Tie as tie
+
+chosen : (x y p q t : Bool) (a b c : ℕ) → x ≡ p → y ≡ q → (x && y) ≡ t → (elim t [ true ↦ Of a b c | false ↦ Other ]) ≡ byNames p q a b c
+unfolding byNames
+chosen x y p q t a b c e f h = ap (λ z. elim z [ true ↦ Of a b c | false ↦ Other ]) (sym h ∙ ap (λ z. z && y) e ∙ ap (λ z. p && z) f)
+
+kind-at-requires : tie.Need-kind-at-requires
+kind-at-requires c κs = search needs
+
+kind-at-requires-2 : tie.Need-kind-at-requires-2
+kind-at-requires-2 c κs = search needs
+
+is-text-requires : tie.Need-is-text-requires
+is-text-requires c κs = search needs
+
+is-text-requires-2 : tie.Need-is-text-requires-2
+is-text-requires-2 c κs = search needs
+
+returns : tie.Need-returns
+returns c =
+    let k = c .before .before .before .before in
+    let st = k .before .before in
+    let s = st .args .text .now in
+    chosen (c .before .before .is-text .result) (c .before .is-text2 .result) (isText (kindOf (treeAt s (st .args .a)))) (isText (kindOf (treeAt s (st .args .b)))) true (st .args .a) (st .args .b) (st .args .c) (c .before .before .is-text .ensures ∙ ap isText (k .kind-at .ensures)) (c .before .is-text2 .ensures ∙ ap isText (c .before .before .before .kind-at2 .ensures)) (c .if1 .taken)
+
+returns-2 : tie.Need-returns-2
+returns-2 c =
+    let k = c .before .before .before .before in
+    let st = k .before .before in
+    let s = st .args .text .now in
+    chosen (c .before .before .is-text .result) (c .before .is-text2 .result) (isText (kindOf (treeAt s (st .args .a)))) (isText (kindOf (treeAt s (st .args .b)))) false (st .args .a) (st .args .b) (st .args .c) (c .before .before .is-text .ensures ∙ ap isText (k .kind-at .ensures)) (c .before .is-text2 .ensures ∙ ap isText (c .before .before .before .kind-at2 .ensures)) (c .if1 .left)
+
+pub by-names-spec : {M : Type 1} → statement M
+by-names-spec =
+    tie.close
+    (tie.spec
+    kind-at-requires
+    kind-at-requires-2
+    is-text-requires
+    is-text-requires-2
+    returns
+    returns-2)

@@ -1,0 +1,79 @@
+-- `lookup::column_at` meets its contract. Assumes nothing.
+use borrow.Author.Needs.{needs}
+use mathlib.Core.Path.{_≡_, sym, ap, _∙_}
+use mathlib.Core.List.{map}
+use Prim.Native.Nat.{_≤_, _-_}
+use native.Mathlib.Omega.{arith}
+use lib.ListN.{length}
+use Rattle.model.specs.Nav.{treeAt}
+use Rattle.model.specs.Text.{isWord}
+use Rattle.model.specs.Packed.{columnFrom}
+use Rattle.names.specs.Names.{foundAt}
+use Rattle.lookup.specs.Lookup.{columnIn}
+use Rattle.lookup.proofs.Columns.{columnFound, column-start, column-here, column-next, column-end}
+use Rattle.lookup.proofs.column_at.Statement.{statement}
+use Rattle.lookup.proofs.column_at.Tie as tie
+
+abbrev Inv-loop : tie.InvT-loop
+Inv-loop text at columns i₀ i = (i ≤ length columns) × (foundAt (columnIn (map columnFrom columns) (treeAt text at)) ≡ columnFound columns (treeAt text at) i)
+
+abbrev μ-loop : tie.MeasureT-loop
+μ-loop text at columns i₀ i = length columns - i
+
+loop-holds : tie.Need-loop-holds Inv-loop μ-loop
+loop-holds c = (omega arith, column-start (c .before .args .columns .now) (treeAt (c .before .args .text .now) (c .before .args .at)))
+
+mul-cell-name : tie.Need-mul-cell-name Inv-loop μ-loop
+mul-cell-name c = search needs
+
+shared-slice-element-cell-name : tie.Need-shared-slice-element-cell-name Inv-loop μ-loop
+shared-slice-element-cell-name c = search needs
+
+cell-name-requires : tie.Need-cell-name-requires Inv-loop μ-loop
+cell-name-requires c κs = tt
+
+is-word-requires : tie.Need-is-word-requires Inv-loop μ-loop
+is-word-requires c κs = tt
+
+returns : tie.Need-returns Inv-loop μ-loop
+returns c =
+    let l = c .before .before .before .before .before in
+    let st = l .before .before in
+    let j = treeAt (st .args .text .now) (st .args .at) in
+    sym (l .loop .inv .1 ∙ column-here (st .args .columns .now) (l .loop .i) j (c .before .before .before .before .loop-test .taken) (sym (c .before .is-word .ensures ∙ ap (λ w. isWord w j) (c .before .before .cell-name .ensures)) ∙ c .if1 .taken))
+
+add-i : tie.Need-add-i Inv-loop μ-loop
+add-i c = omega arith
+
+loop-less : tie.Need-loop-less Inv-loop μ-loop
+loop-less c = omega arith
+
+loop-again : tie.Need-loop-again Inv-loop μ-loop
+loop-again c =
+    let l = c .before .before .before .before .before in
+    let st = l .before .before in
+    let j = treeAt (st .args .text .now) (st .args .at) in
+    (omega arith, l .loop .inv .1 ∙ column-next (st .args .columns .now) (l .loop .i) j (c .before .before .before .before .loop-test .taken) (sym (c .before .is-word .ensures ∙ ap (λ w. isWord w j) (c .before .before .cell-name .ensures)) ∙ c .if1 .left))
+
+returns-2 : tie.Need-returns-2 Inv-loop μ-loop
+returns-2 c =
+    let l = c .before in
+    let st = l .before .before in
+    sym (l .loop .inv .1 ∙ column-end (st .args .columns .now) (l .loop .i) (treeAt (st .args .text .now) (st .args .at)) (c .loop-test .left))
+
+pub column-at-spec : {M : Type 1} → statement M
+column-at-spec =
+    tie.close
+    (tie.spec
+    Inv-loop
+    μ-loop
+    loop-holds
+    mul-cell-name
+    shared-slice-element-cell-name
+    cell-name-requires
+    is-word-requires
+    returns
+    add-i
+    loop-less
+    loop-again
+    returns-2)

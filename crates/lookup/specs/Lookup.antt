@@ -1,0 +1,33 @@
+-- Columns named by values of a text, and arrays of a name, a word and a value. Assumes nothing: these are definitions.
+use Prim.Native.Nat.{ℕ}
+use mathlib.Core.Path.{_≡_}
+use mathlib.Core.Bool.{Bool, true, false, _&&_}
+use mathlib.Core.List.{List}
+use mathlib.Core.Option.{Option, none, some}
+use Rattle.model.specs.Json.{Json}
+use Rattle.model.specs.Nav.{treeAt, wellAt}
+use Rattle.model.specs.Text as Text
+use Rattle.model.specs.Schema.{Column, columnNamed}
+use Rattle.model.specs.Written.{stringIn}
+use Rattle.model.specs.Conditions.{tripleIn}
+use Rattle.lookup.specs.declared.Triple.{Triple}
+use Rattle.lookup.specs.declared.Triple.the-variants.{Of, Other}
+
+-- the place of the column that a value names, none where it is no string or names none
+abbrev pub columnIn : List Column → Json → Option ℕ
+columnIn cs j = elim (stringIn j) [ none ↦ none | some w ↦ columnNamed cs w ]
+
+-- three places stand for a name, a word and a value
+pub record Thrice (s : List ℕ) (a b c : ℕ) (j : Json) : Type 0 where
+  pub all : tripleIn j ≡ some (record { name = Text.stringIn (treeAt s a); word = Text.stringIn (treeAt s b); value = treeAt s c })
+  pub name : stringIn (treeAt s a) ≡ some (Text.stringIn (treeAt s a))
+  pub word : stringIn (treeAt s b) ≡ some (Text.stringIn (treeAt s b))
+  pub well : wellAt s c ≡ true
+
+unfoldable pub Triples : List ℕ → Triple → Json → Type 0
+Triples s (Of a b c) j = Thrice s a b c j
+Triples s Other j = tripleIn j ≡ none
+
+-- three places, where the first two are those of strings
+unfoldable pub byNames : Bool → Bool → ℕ → ℕ → ℕ → Triple
+byNames x y a b c = elim (x && y) [ true ↦ Of a b c | false ↦ Other ]

@@ -1,0 +1,5 @@
+-- What the proofs of several functions use.
+pub mod Cells
+pub mod Shapes
+pub mod Each
+pub mod All
