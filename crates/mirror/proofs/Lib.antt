@@ -1,0 +1,6 @@
+-- The mathematics of this crate's proofs.
+pub mod Opening
+pub mod Asking
+pub mod Hearing
+pub mod Starting
+pub mod Following

@@ -1,0 +1,107 @@
+-- `mirror::column` meets its contract. Assumes nothing.
+use mathlib.Core.Path.{sym, _∙_}
+use native.Mathlib.Omega.{arith}
+use borrow.Author.Tests.{not-true, not-false}
+use lib.ListN.{length}
+use Rattle.model.specs.Calls.{noContents, contentsOf}
+use Rattle.mirror.proofs.Opening.{state-bad, state-good}
+use Rattle.mirror.proofs.Asking.{contents-are, ask-bad, ask-good, column-other, column-asked, both-sized}
+use borrow.Author.Needs.{needs}
+use Rattle.mirror.proofs.column.Statement.{statement}
+use Rattle.mirror.proofs.column.Tie as tie
+
+no-contents-requires : tie.Need-no-contents-requires
+no-contents-requires c κs = search needs
+
+same-length : tie.Need-same-length
+same-length c = search needs
+
+returns : tie.Need-returns
+returns c =
+    let q = c .before .before in
+    let t = q .before .before in
+    let a = t .before .before .before .args in
+    let z = q .no-contents .ensures in
+    column-other (a .area .now) (a .table) (a .id .now) (a .column) (a .out .now) (t .if1 .taken) ∙ (λ j. record { answer = sym (z .0) j; out = sym (z .1) j })
+
+slice-aggregate-opened : tie.Need-slice-aggregate-opened
+slice-aggregate-opened c = search needs
+
+opened-requires : tie.Need-opened-requires
+opened-requires c κs =
+    let e = c .before .before in
+    let a = e .before .before .before .args in
+    (both-sized (length (a .out .now)) (length (a .area .now)) (e .if1 .left) .1, omega arith)
+
+no-contents-requires-2 : tie.Need-no-contents-requires-2
+no-contents-requires-2 c κs = search needs
+
+same-length-2 : tie.Need-same-length-2
+same-length-2 c = search needs
+
+returns-2 : tie.Need-returns-2
+returns-2 c =
+    let q = c .before .before in
+    let t = q .before .before in
+    let o = t .before .before in
+    let e = o .before .before .before in
+    let a = e .before .before .before .args in
+    let l = both-sized (length (a .out .now)) (length (a .area .now)) (e .if1 .left) in
+    let z = q .no-contents2 .ensures in
+    column-asked (a .area .now) (a .table) (a .id .now) (a .column) (a .out .now) (l .0)
+    ∙ ask-bad (a .area .now) (noContents (a .out .now)) (contentsOf (a .table) (a .id .now) (a .column)) (l .1) (state-bad (o .opened .ensures) (not-true _ (t .if2 .taken)))
+    ∙ (λ j. record { answer = sym (z .0) j; out = sym (z .1) j })
+
+row-count-requires : tie.Need-row-count-requires
+row-count-requires c κs =
+    let e = c .before .before .before .before .before in
+    let a = e .before .before .before .args in
+    omega (arith, both-sized (length (a .out .now)) (length (a .area .now)) (e .if1 .left) .1)
+
+slice-aggregate-column : tie.Need-slice-aggregate-column
+slice-aggregate-column c = search needs
+
+column-requires : tie.Need-column-requires
+column-requires c κs =
+    let k = c .before .before .before in
+    let f = k .before in
+    let o = f .before .before in
+    let e = o .before .before .before in
+    let a = e .before .before .before .args in
+    let h = o .opened .ensures .held (not-false _ (f .if2 .left)) in
+    (h .fit, (record { few = omega (arith, h .few, k .row-count .ensures); room = search needs }, both-sized (length (a .out .now)) (length (a .area .now)) (e .if1 .left) .0))
+
+same-length-3 : tie.Need-same-length-3
+same-length-3 c = search needs
+
+returns-3 : tie.Need-returns-3
+returns-3 c =
+    let q = c .before .before in
+    let k = q .before .before .before .before in
+    let f = k .before in
+    let o = f .before .before in
+    let e = o .before .before .before in
+    let a = e .before .before .before .args in
+    let l = both-sized (length (a .out .now)) (length (a .area .now)) (e .if1 .left) in
+    let b = not-false _ (f .if2 .left) in
+    column-asked (a .area .now) (a .table) (a .id .now) (a .column) (a .out .now) (l .0)
+    ∙ ask-good (a .area .now) (noContents (a .out .now)) (contentsOf (a .table) (a .id .now) (a .column)) (l .1) (state-good (o .opened .ensures) b)
+    ∙ contents-are (o .opened .ensures .held b) (k .row-count .result) (k .row-count .ensures) (a .table) (a .id .now) (a .column) _ (q .column .ensures)
+
+pub column-spec : {M : Type 1} → statement M
+column-spec =
+    tie.close
+    (tie.spec
+    no-contents-requires
+    same-length
+    returns
+    slice-aggregate-opened
+    opened-requires
+    no-contents-requires-2
+    same-length-2
+    returns-2
+    row-count-requires
+    slice-aggregate-column
+    column-requires
+    same-length-3
+    returns-3)

@@ -1,0 +1,79 @@
+-- `mirror::has_row` meets its contract. Assumes nothing.
+use mathlib.Core.Path.{sym, ap, _∙_}
+use native.Mathlib.Omega.{arith}
+use borrow.Author.Tests.{not-true, not-false}
+use Rattle.model.specs.Packed.{tablesIn}
+use Rattle.model.specs.Calls.{noPresence, presenceOf, mirrorHasRow}
+use Rattle.mirror.proofs.Opening.{state-bad, state-good}
+use Rattle.mirror.proofs.Asking.{presenceIn, there-is, ask-other, ask-bad, ask-good}
+use borrow.Author.Needs.{needs}
+use Rattle.mirror.proofs.has_row.Statement.{statement}
+use Rattle.mirror.proofs.has_row.Tie as tie
+
+no-presence-requires : tie.Need-no-presence-requires
+no-presence-requires c κs = search needs
+
+returns : tie.Need-returns
+unfolding mirrorHasRow
+returns c =
+    let t = c .before in
+    let a = t .before .before .args in
+    ask-other (a .area .now) noPresence (presenceOf (a .table) (a .id .now)) (t .if1 .taken) ∙ ap presenceIn (sym (c .no-presence .ensures))
+
+slice-aggregate-opened : tie.Need-slice-aggregate-opened
+slice-aggregate-opened c = search needs
+
+opened-requires : tie.Need-opened-requires
+opened-requires c κs = search needs
+
+no-presence-requires-2 : tie.Need-no-presence-requires-2
+no-presence-requires-2 c κs = search needs
+
+returns-2 : tie.Need-returns-2
+unfolding mirrorHasRow
+returns-2 c =
+    let t = c .before in
+    let o = t .before .before in
+    let e = o .before .before .before in
+    let a = e .before .before .args in
+    ask-bad (a .area .now) noPresence (presenceOf (a .table) (a .id .now)) (e .if1 .left) (state-bad (o .opened .ensures) (not-true _ (t .if2 .taken))) ∙ ap presenceIn (sym (c .no-presence2 .ensures))
+
+row-count-requires : tie.Need-row-count-requires
+row-count-requires c κs = search needs
+
+slice-aggregate-has-row : tie.Need-slice-aggregate-has-row
+slice-aggregate-has-row c = search needs
+
+has-row-requires : tie.Need-has-row-requires
+has-row-requires c κs =
+    let k = c .before in
+    let f = k .before in
+    let h = f .before .before .opened .ensures .held (not-false _ (f .if2 .left)) in
+    omega (arith, h .few, k .row-count .ensures)
+
+returns-3 : tie.Need-returns-3
+unfolding mirrorHasRow
+returns-3 c =
+    let k = c .before .before in
+    let f = k .before in
+    let o = f .before .before in
+    let e = o .before .before .before in
+    let a = e .before .before .args in
+    let b = not-false _ (f .if2 .left) in
+    ask-good (a .area .now) noPresence (presenceOf (a .table) (a .id .now)) (e .if1 .left) (state-good (o .opened .ensures) b)
+    ∙ there-is (o .opened .ensures .held b) (k .row-count .result) (k .row-count .ensures) (a .table) (a .id .now) (c .has-row .result) (c .has-row .ensures (tablesIn (o .opened .last .1 .0)))
+
+pub has-row-spec : {M : Type 1} → statement M
+has-row-spec =
+    tie.close
+    (tie.spec
+    no-presence-requires
+    returns
+    slice-aggregate-opened
+    opened-requires
+    no-presence-requires-2
+    returns-2
+    row-count-requires
+    slice-aggregate-has-row
+    has-row-requires
+    returns-3)

@@ -1,0 +1,92 @@
+-- `mirror::hear` meets its contract. Assumes nothing.
+use native.Mathlib.Omega.{arith}
+use borrow.Author.Tests.{not-true, not-false}
+use Rattle.area.proofs.Writes.{octets}
+use Rattle.mirror.proofs.Opening.{state-bad, state-good}
+use Rattle.mirror.proofs.Hearing.{hear-other, hear-bad, hear-got}
+use borrow.Author.Needs.{needs}
+use Rattle.mirror.proofs.hear.Statement.{statement}
+use Rattle.mirror.proofs.hear.Tie as tie
+
+returns : tie.Need-returns
+returns c =
+    let a = c .before .before .before .args in
+    hear-other (a .area .now) (a .bytes .now) (c .if1 .taken)
+
+slice-aggregate-opened : tie.Need-slice-aggregate-opened
+slice-aggregate-opened c = search needs
+
+opened-requires : tie.Need-opened-requires
+opened-requires c κs = search needs
+
+same-length : tie.Need-same-length
+same-length c = search needs
+
+returns-2 : tie.Need-returns-2
+returns-2 c =
+    let o = c .before .before in
+    let e = o .before .before .before .before in
+    let a = e .before .before .before .args in
+    hear-bad (a .area .now) (a .bytes .now) (e .if1 .left) (state-bad (o .opened .ensures) (not-true _ (c .if2 .taken)))
+
+numbers-of-requires : tie.Need-numbers-of-requires
+numbers-of-requires c κs = search needs
+
+row-count-requires : tie.Need-row-count-requires
+row-count-requires c κs = search needs
+
+run-of-requires : tie.Need-run-of-requires
+run-of-requires c κs = search needs
+
+slice-aggregate-step : tie.Need-slice-aggregate-step
+slice-aggregate-step c = search needs
+
+step-requires : tie.Need-step-requires
+step-requires c κs =
+    let k = c .before .before .before .before in
+    let f = k .before .before .before .before in
+    let h = f .before .before .opened .ensures .held (not-false _ (f .if2 .left)) in
+    (h .fit, record { few = omega (arith, h .few, k .row-count .ensures); room = search needs })
+
+slice-aggregate-rewrite : tie.Need-slice-aggregate-rewrite
+slice-aggregate-rewrite c = search needs
+
+rewrite-requires : tie.Need-rewrite-requires
+rewrite-requires c κs = search needs
+
+same-length-2 : tie.Need-same-length-2
+same-length-2 c = search needs
+
+returns-3 : tie.Need-returns-3
+returns-3 c =
+    let t = c .before .before .before .before .before .before in
+    let u = t .before .before .before in
+    let k = u .before .before in
+    let m = k .before .before in
+    let f = m .before .before in
+    let o = f .before .before in
+    let e = o .before .before .before .before in
+    let x = e .before in
+    let a = x .before .before .args in
+    let b = not-false _ (f .if2 .left) in
+    hear-got (a .area .now) (a .bytes .now) _ _ _ (t .step .result) (u .run-of .result) (m .numbers-of .result) (k .row-count .result) (u .run-of .ensures) (m .numbers-of .ensures) (k .row-count .ensures)
+    (state-good (o .opened .ensures) b) (o .opened .ensures .held b) (t .step .ensures) (octets (a .bytes .now) (λ i. x .shared-slice-known .given i .fits)) (search needs) _ (c .before .before .rewrite .ensures)
+
+pub hear-spec : {M : Type 1} → statement M
+hear-spec =
+    tie.close
+    (tie.spec
+    returns
+    slice-aggregate-opened
+    opened-requires
+    same-length
+    returns-2
+    numbers-of-requires
+    row-count-requires
+    run-of-requires
+    slice-aggregate-step
+    step-requires
+    slice-aggregate-rewrite
+    rewrite-requires
+    same-length-2
+    returns-3)

@@ -1,0 +1,64 @@
+-- `mirror::progress` meets its contract. Assumes nothing.
+use mathlib.Core.Path.{sym, ap, _∙_}
+use borrow.Author.Tests.{not-true, not-false}
+use Rattle.model.specs.Calls.{noProgress, progressOf, mirrorProgress}
+use Rattle.mirror.proofs.Opening.{state-bad, state-good}
+use Rattle.mirror.proofs.Asking.{progress-is, progressIn, ask-other, ask-bad, ask-good}
+use borrow.Author.Needs.{needs}
+use Rattle.mirror.proofs.progress.Statement.{statement}
+use Rattle.mirror.proofs.progress.Tie as tie
+
+no-standing-requires : tie.Need-no-standing-requires
+no-standing-requires c κs = search needs
+
+returns : tie.Need-returns
+unfolding mirrorProgress
+returns c =
+    ask-other (c .before .before .before .args .area .now) noProgress progressOf (c .before .if1 .taken) ∙ ap progressIn (sym (c .no-standing .ensures))
+
+slice-aggregate-opened : tie.Need-slice-aggregate-opened
+slice-aggregate-opened c = search needs
+
+opened-requires : tie.Need-opened-requires
+opened-requires c κs = search needs
+
+no-standing-requires-2 : tie.Need-no-standing-requires-2
+no-standing-requires-2 c κs = search needs
+
+returns-2 : tie.Need-returns-2
+unfolding mirrorProgress
+returns-2 c =
+    let t = c .before in
+    let o = t .before .before in
+    let e = o .before .before .before in
+    ask-bad (e .before .before .args .area .now) noProgress progressOf (e .if1 .left) (state-bad (o .opened .ensures) (not-true _ (t .if2 .taken))) ∙ ap progressIn (sym (c .no-standing2 .ensures))
+
+numbers-of-requires : tie.Need-numbers-of-requires
+numbers-of-requires c κs = search needs
+
+level-requires : tie.Need-level-requires
+level-requires c κs = search needs
+
+returns-3 : tie.Need-returns-3
+unfolding mirrorProgress
+returns-3 c =
+    let m = c .before in
+    let f = m .before in
+    let o = f .before .before in
+    let e = o .before .before .before in
+    let a = e .before .before .args .area .now in
+    ask-good a noProgress progressOf (e .if1 .left) (state-good (o .opened .ensures) (not-false _ (f .if2 .left))) ∙ progress-is a (m .numbers-of .result) (c .level .result) (m .numbers-of .ensures) (c .level .ensures)
+
+pub progress-spec : {M : Type 1} → statement M
+progress-spec =
+    tie.close
+    (tie.spec
+    no-standing-requires
+    returns
+    slice-aggregate-opened
+    opened-requires
+    no-standing-requires-2
+    returns-2
+    numbers-of-requires
+    level-requires
+    returns-3)

@@ -1,0 +1,198 @@
+// The mirror that a display keeps: starting it, arrivals, and questions, on areas of any bytes.
+// Each promise is the equation of the model's definition for that call (crates/model/specs/Calls.antt): its answer, and its area or output afterwards. Demand 3
+// (crates/model/specs/Demands.antt, proved in crates/model/proofs/Demand3Bytes.antt) speaks of those same definitions, so with these equations it speaks of this code;
+// specs/Following.antt says it once more of areas that these calls leave, with what every question answers of them.
+use arrival::Numbers;
+use model::Answer;
+ghost use mathlib.Core.Path.{_≡_};
+ghost use mathlib.Core.Bool.{false};
+ghost use Prim.Native.Nat.{_≤_};
+ghost use lib.ListN.{length};
+ghost use Rattle.model.specs.Calls.{zeroed, mirrorStart, mirrorHear, mirrorProgress, mirrorHasRow, mirrorColumn};
+ghost use Rattle.mirror.specs.Held.{Opened, numbersIn, rewritten};
+
+// What a mirror tells of itself: n, and whether it is level. A refused question has 0 and false.
+pub struct Standing {
+    pub answer: Answer,
+    pub n: u32,
+    pub level: bool,
+}
+
+// Whether a row is there; false where the question is refused.
+pub struct Presence {
+    pub answer: Answer,
+    pub there: bool,
+}
+
+// Whether an area of a mirror's length is in good order. The cells of its schema and its rows are read on the way.
+fn opened(area: &[u8], schema: &mut [[u8; 48]; 29], rows: &mut [[[u8; 25]; 25]]) -> bool
+    requires { ⌜ (length (now area) ≡ 24113) × (32 ≤ length (now rows)) ⌝ }
+    ensures { λ r. ⌜ Opened (now (area .entry)) (now (schema .exit)) (now (rows .exit)) r ⌝ }
+{
+    let k = area::text_length(area);
+    if 4096 < k {
+        return false;
+    }
+    if !schema::read(&area[10..10 + k], schema) {
+        return false;
+    }
+    if !area::part_good(area, schema, rows) {
+        return false;
+    }
+    area::mirror_part(area)
+}
+
+// A mirror's numbers, where they lie in its area.
+fn numbers_of(area: &[u8]) -> Numbers
+    requires { ⌜ 24113 ≤ length (now area) ⌝ }
+    ensures { λ r. ⌜ r ≡ numbersIn (now (area .entry)) ⌝ }
+{
+    let n = area::number_of(area);
+    let top = area::top_of(area);
+    Numbers {
+        n,
+        top,
+        heard: area[24111] == 1,
+        whole: area[24112] == 1,
+    }
+}
+
+// What an arrival changed, written to the area.
+fn rewrite(area: &mut [u8], was: Numbers, is: Numbers, rows: &[[[u8; 25]; 25]], count: usize)
+    requires { ⌜ (24113 ≤ length (now area)) × (count ≤ 32) × (32 ≤ length (now rows)) ⌝ }
+    ensures { λ _. ⌜ now (area .exit) ≡ rewritten was is count (now (rows .entry)) (now (area .entry)) ⌝ }
+{
+    if is.n != was.n {
+        area::write_number(area, is.n);
+        area::write_rows(area, rows, count);
+        area::write_tail(area, is.top, is.heard, is.whole);
+        return;
+    }
+    if (is.top == was.top) & !(is.heard & !was.heard) {
+        return;
+    }
+    area::write_tail(area, is.top, is.heard, is.whole);
+}
+
+// A new mirror of a schema and a run: no rows, and nothing heard.
+pub fn start(area: &mut [u8], schema: &[u8], run: u32) -> Answer
+    ensures { λ r. ⌜ mirrorStart (now (area .entry)) (now (schema .entry)) run ≡ record { answer = r; area = now (area .exit) } ⌝ }
+{
+    if area.len() != 24113 {
+        return Answer::WrongLength;
+    }
+    let mut cells = [[0u8; 48]; 29];
+    if !schema::read(schema, &mut cells) {
+        return Answer::BadSchema;
+    }
+    let rows = [[[0u8; 25]; 25]; 1];
+    area::write_store(area, run, 0, schema, &rows, 0);
+    area::write_tail(area, 0, false, true);
+    Answer::Accepted
+}
+
+// One arrival: its bytes are a change record or a mark, or are refused.
+pub fn hear(area: &mut [u8], bytes: &[u8]) -> Answer
+    ensures { λ r. ⌜ mirrorHear (now (area .entry)) (now (bytes .entry)) ≡ record { answer = r; area = now (area .exit) } ⌝ }
+{
+    if area.len() != 24113 {
+        return Answer::WrongLength;
+    }
+    let mut schema = [[0u8; 48]; 29];
+    let mut rows = [[[0u8; 25]; 25]; 32];
+    if !opened(area, &mut schema, &mut rows) {
+        return Answer::Disordered;
+    }
+    let was = numbers_of(area);
+    let count = area::row_count(area);
+    let run = area::run_of(area);
+    let left = arrival::step(&schema, &mut rows, count, was, run, bytes);
+    let answer = left.answer;
+    rewrite(area, was, left.numbers, &rows, left.count);
+    answer
+}
+
+// A question that is refused.
+fn no_standing(answer: Answer) -> Standing
+    ensures { λ r. ⌜ r ≡ record { answer = answer; n = 0; level = false } ⌝ }
+{
+    Standing {
+        answer,
+        n: 0,
+        level: false,
+    }
+}
+
+// How many records made the mirror's rows, and whether it is level.
+pub fn progress(area: &[u8]) -> Standing
+    ensures { λ r. ⌜ mirrorProgress (now (area .entry)) ≡ record { answer = r .answer; n = r .n; level = r .level } ⌝ }
+{
+    if area.len() != 24113 {
+        return no_standing(Answer::WrongLength);
+    }
+    let mut schema = [[0u8; 48]; 29];
+    let mut rows = [[[0u8; 25]; 25]; 32];
+    if !opened(area, &mut schema, &mut rows) {
+        return no_standing(Answer::Disordered);
+    }
+    let m = numbers_of(area);
+    Standing {
+        answer: Answer::Accepted,
+        n: m.n,
+        level: arrival::level(m),
+    }
+}
+
+// A question that is refused.
+fn no_presence(answer: Answer) -> Presence
+    ensures { λ r. ⌜ r ≡ record { answer = answer; there = false } ⌝ }
+{
+    Presence {
+        answer,
+        there: false,
+    }
+}
+
+// Whether a row is there, by table and id.
+pub fn has_row(area: &[u8], table: u8, id: &[u8; 16]) -> Presence
+    ensures { λ r. ⌜ mirrorHasRow (now (area .entry)) table (now (id .entry)) ≡ record { answer = r .answer; there = r .there } ⌝ }
+{
+    if area.len() != 24113 {
+        return no_presence(Answer::WrongLength);
+    }
+    let mut schema = [[0u8; 48]; 29];
+    let mut rows = [[[0u8; 25]; 25]; 32];
+    if !opened(area, &mut schema, &mut rows) {
+        return no_presence(Answer::Disordered);
+    }
+    let count = area::row_count(area);
+    Presence {
+        answer: Answer::Accepted,
+        there: rows::has_row(&rows, count, table, id),
+    }
+}
+
+// A question that is refused: its output is all zero.
+fn no_contents(out: &mut [u8], answer: Answer) -> Answer
+    ensures { λ r. ⌜ (r ≡ answer) × (now (out .exit) ≡ zeroed (now (out .entry))) ⌝ }
+{
+    octets::clear(out);
+    answer
+}
+
+// The count and the atoms of a column, by table, id and column, as a column record has them: 101 bytes, all zero where the row or the column is missing or the question is refused.
+pub fn column(area: &[u8], table: u8, id: &[u8; 16], column: u8, out: &mut [u8]) -> Answer
+    ensures { λ r. ⌜ mirrorColumn (now (area .entry)) table (now (id .entry)) column (now (out .entry)) ≡ record { answer = r; out = now (out .exit) } ⌝ }
+{
+    if (out.len() != 101) | (area.len() != 24113) {
+        return no_contents(out, Answer::WrongLength);
+    }
+    let mut schema = [[0u8; 48]; 29];
+    let mut rows = [[[0u8; 25]; 25]; 32];
+    if !opened(area, &mut schema, &mut rows) {
+        return no_contents(out, Answer::Disordered);
+    }
+    let count = area::row_count(area);
+    arrival::column(&schema, &rows, count, table, id, column, out);
+    Answer::Accepted
+}
