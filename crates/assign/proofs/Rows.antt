@@ -1,0 +1,153 @@
+-- What is written put into rows: one column, all columns, a new row, the rows that meet conditions. Assumes nothing.
+use mathlib.Core.Path.{_≡_, refl, sym, ap, _∙_}
+use mathlib.Core.List.{List, [], _∷_, _++_, map, append-assoc}
+use mathlib.Core.Option.{Option, none, some}
+use Prim.Native.Nat.{ℕ, zero, suc, _+_, _-_, _^_, _≤_, _<_}
+use native.Mathlib.Numerals.{add-one}
+use native.Mathlib.Omega.{arith}
+use lib.ListN.{length, getD, take, set, replicate, length-map}
+use lib.Seq.{length-take-le, take-suc, take-all, set-at}
+use Rattle.model.specs.Schema.{Column, Schema, columnsOf}
+use Rattle.model.specs.Value.{Value}
+use Rattle.model.specs.Rows.{Row, add, setColumn}
+use Rattle.model.specs.Operations.{assigned}
+use Rattle.model.specs.Areas.{rowCells, rowFrom}
+use Rattle.model.specs.Packed.{columnFrom}
+use Rattle.model.specs.Working.{working, tableIn, minimums, newRow, TidyRow}
+use Rattle.model.proofs.Working.{row-table}
+use Rattle.model.proofs.NewRows.{new-row-read, new-row-tidy}
+use Rattle.rows.specs.Post.{Added, ColumnSet}
+use Rattle.assign.specs.Assigned.{putColumn, putColumns, ColumnAssigned, RowAssigned, Inserted}
+
+-- ── one column ──
+module _ (c : ℕ) (entry : List (List ℕ)) where
+  pub column-set : {exit : List (List ℕ)} {v w : Value} {o : Option Value} → ColumnSet c v entry exit → v ≡ w → o ≡ some w → ColumnAssigned c o entry exit
+  unfolding putColumn
+  column-set t e f = record {
+    row = λ s. t .row s ∙ ap (λ (x : Value). setColumn c x (rowFrom s entry)) e ∙ sym (ap (λ (x : Option Value). putColumn c x (rowFrom s entry)) f);
+    tidy = t .tidy;
+  }
+
+  pub column-kept : {o : Option Value} → o ≡ none → ColumnAssigned c o entry entry
+  unfolding putColumn
+  column-kept f = record { row = λ s. sym (ap (λ (x : Option Value). putColumn c x (rowFrom s entry)) f); tidy = λ s h g t. t }
+
+-- ── one column after another ──
+putAt : ℕ → Option Value → List Value → List Value
+putAt c none l = l
+putAt c (some v) l = set l c v
+
+put-empty : (c : ℕ) (o : Option Value) → putAt c o [] ≡ []
+unfolding putAt
+put-empty c none = refl
+put-empty c (some v) = refl
+
+put-cons : (c : ℕ) (o : Option Value) (v : Value) (l : List Value) → putAt (suc c) o (v ∷ l) ≡ v ∷ putAt c o l
+unfolding putAt
+put-cons c none v l = refl
+put-cons c (some w) v l = refl
+
+assigned-on : (os : List (Option Value)) (vs : List Value) (c : ℕ) → c < length os → putAt c (getD os c none) (assigned (take c os) vs) ≡ assigned (take (suc c) os) vs
+unfolding putAt
+assigned-on [] vs c h = absurd (omega arith)
+assigned-on (o ∷ os) [] zero h = put-empty 0 o
+assigned-on (none ∷ os) (v ∷ vs) zero h = refl
+assigned-on (some w ∷ os) (v ∷ vs) zero h = refl
+assigned-on (o ∷ os) [] (suc c) h = put-empty (suc c) (getD os c none)
+assigned-on (none ∷ os) (v ∷ vs) (suc c) h = put-cons c (getD os c none) v (assigned (take c os) vs) ∙ ap (λ (l : List Value). v ∷ l) (assigned-on os vs c (omega arith))
+assigned-on (some w ∷ os) (v ∷ vs) (suc c) h = put-cons c (getD os c none) w (assigned (take c os) vs) ∙ ap (λ (l : List Value). w ∷ l) (assigned-on os vs c (omega arith))
+
+put-row : (c : ℕ) (o : Option Value) (xs : List (Option Value)) (r : Row) → putColumn c o (putColumns xs r) ≡ record { table = r .table; id = r .id; columns = putAt c o (assigned xs (r .columns)) }
+unfolding putColumn putAt
+put-row c none xs r = refl
+put-row c (some v) xs r = refl
+
+module _ (os : List (Option Value)) (entry : List (List ℕ)) where
+  -- the columns before c are done
+  pub record Assigning (c : ℕ) (row : List (List ℕ)) : Type 0 where
+    pub row-is : (s : Schema) → rowFrom s row ≡ putColumns (take c os) (rowFrom s entry)
+    pub tidy : (s : Schema) → length (columnsOf s (tableIn entry)) ≡ length os → TidyRow s entry → TidyRow s row
+
+  pub assigning-none : Assigning 0 entry
+  assigning-none = record { row-is = λ s. refl; tidy = λ s h t. t }
+
+  pub assigning-end : (c : ℕ) (row : List (List ℕ)) → length os ≤ c → Assigning c row → RowAssigned os entry row
+  assigning-end c row h w = record { row = λ s. w .row-is s ∙ ap (λ (l : List (Option Value)). putColumns l (rowFrom s entry)) (take-all c os h); tidy = w .tidy }
+
+  pub assigning-on : (c : ℕ) {o : Option Value} {row next : List (List ℕ)} → c < length os → length os ≤ 6 → getD os c none ≡ o → ColumnAssigned c o row next → Assigning c row → Assigning (c + 1) next
+  assigning-on c {o} {row} {next} h few e k w = record {
+    row-is = λ s.
+        k .row s ∙ ap (putColumn c o) (w .row-is s) ∙ put-row c o (take c os) (rowFrom s entry)
+        ∙ (λ i. record {
+          table = rowFrom s entry .table;
+          id = rowFrom s entry .id;
+          columns = (ap (λ (x : Option Value). putAt c x (assigned (take c os) (rowFrom s entry .columns))) (sym e)
+              ∙ assigned-on os (rowFrom s entry .columns) c h
+              ∙ ap (λ (m : ℕ). assigned (take m os) (rowFrom s entry .columns)) (sym (add-one c))) i;
+        });
+    tidy = λ s n t.
+        let u : tableIn row ≡ tableIn entry = sym (row-table s row) ∙ ap (λ (r : Row). r .table) (w .row-is s) ∙ row-table s entry in
+        let v : length (columnsOf s (tableIn row)) ≡ length os = ap (λ (m : ℕ). length (columnsOf s m)) u ∙ n in
+        k .tidy s (omega arith) (omega arith) (w .tidy s n t);
+  }
+
+pub assigned-as : {os ps : List (Option Value)} {entry exit : List (List ℕ)} → os ≡ ps → RowAssigned ps entry exit → RowAssigned os entry exit
+assigned-as e r = rw e r
+
+-- ── a new row ──
+-- the minimums of columns, filled in one after another
+abbrev pub minsOf : List (List ℕ) → List ℕ
+minsOf cells = map (λ (x : Column). x .min) (map columnFrom cells)
+
+pub mins-length : (cells : List (List ℕ)) → length (minsOf cells) ≡ length cells
+mins-length cells = length-map (map columnFrom cells) (λ (x : Column). x .min) ∙ length-map cells columnFrom
+
+mins-at : (cells : List (List ℕ)) (c : ℕ) → c < length cells → getD (minsOf cells) c 0 ≡ getD (getD cells c []) 28 0
+mins-at [] c h = absurd (omega arith)
+mins-at (x ∷ cells) zero h = refl
+mins-at (x ∷ cells) (suc c) h = mins-at cells c (omega arith)
+
+fill-more : (l : List ℕ) (c : ℕ) → c < length l → length l ≤ 6 → set (take c l ++ replicate (6 - c) 0) c (getD l c 0) ≡ take (c + 1) l ++ replicate (6 - (c + 1)) 0
+fill-more l c h g =
+    let e : 6 - c ≡ suc (6 - (c + 1)) = omega arith in
+    rw (e, add-one c)
+    (set-at (take c l) 0 (replicate (6 - suc c) 0) (getD l c 0) c (length-take-le c l (omega arith))
+    ∙ sym (ap (λ (q : List ℕ). q ++ replicate (6 - suc c) 0) (take-suc l c 0 h) ∙ append-assoc (take c l) (getD l c 0 ∷ []) (replicate (6 - suc c) 0)))
+
+module _ (cells : List (List ℕ)) (few : length cells ≤ 6) (c : ℕ) {mins : List ℕ} (so : mins ≡ take c (minsOf cells) ++ replicate (6 - c) 0) where
+  pub mins-more : c < length cells → set mins c (getD (getD cells c []) 28 0) ≡ take (c + 1) (minsOf cells) ++ replicate (6 - (c + 1)) 0
+  mins-more h =
+      ap (λ (m : List ℕ). set m c (getD (getD cells c []) 28 0)) so
+      ∙ ap (set (take c (minsOf cells) ++ replicate (6 - c) 0) c) (sym (mins-at cells c h))
+      ∙ fill-more (minsOf cells) c (omega (arith, mins-length cells)) (omega (arith, mins-length cells))
+
+  pub mins-end : c ≡ length cells → mins ≡ minimums (map columnFrom cells)
+  unfolding minimums
+  mins-end e =
+      so ∙ ap (λ (l : List ℕ). l ++ replicate (6 - c) 0) (take-all c (minsOf cells) (omega (arith, mins-length cells)))
+      ∙ ap (λ (k : ℕ). minsOf cells ++ replicate (6 - k) 0) (e ∙ sym (length-map cells columnFrom))
+
+pub few-columns : (cells : List (List ℕ)) → length cells ≤ 6 → length (map columnFrom cells) ≤ 6
+few-columns cells h = omega (arith, length-map cells columnFrom)
+
+module _ (cs : List Column) (os : List (Option Value)) (t i n : ℕ) (few : length cs ≤ 6) (same : length os ≡ length cs) (short : i < 256 ^ 16) where
+  pub inserted-new : {entry exit : List (List (List ℕ))} {born row : List (List ℕ)} → born ≡ rowCells (newRow t i cs) → RowAssigned os born row → Added n row entry exit → Inserted cs os t i n entry exit
+  inserted-new {entry} {exit} {born} {row} b r a = record {
+    rows = λ s e. a .rows s ∙ ap (λ (x : Row). add x (working s n entry)) (r .row s ∙ ap (putColumns os) (new s e));
+    tidy = λ s e d. a .tidy s d (r .tidy s (ap (λ (m : ℕ). length (columnsOf s m)) (table s e) ∙ ap length e ∙ sym same) (tidy s e));
+  }
+    where
+      cells : (s : Schema) → columnsOf s t ≡ cs → born ≡ rowCells (newRow t i (columnsOf s t))
+      cells s e = b ∙ ap (λ (l : List Column). rowCells (newRow t i l)) (sym e)
+
+      narrow : (s : Schema) → columnsOf s t ≡ cs → length (columnsOf s t) ≤ 6
+      narrow s e = rw e few
+
+      new : (s : Schema) → columnsOf s t ≡ cs → rowFrom s born ≡ newRow t i cs
+      new s e = ap (rowFrom s) (cells s e) ∙ new-row-read s t i (narrow s e) short ∙ ap (newRow t i) e
+
+      table : (s : Schema) → columnsOf s t ≡ cs → tableIn born ≡ t
+      table s e = sym (row-table s born) ∙ ap (λ (x : Row). x .table) (new s e)
+
+      tidy : (s : Schema) → columnsOf s t ≡ cs → TidyRow s born
+      tidy s e = rw (cells s e) (new-row-tidy s t i (narrow s e) short)

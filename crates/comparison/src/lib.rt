@@ -1,0 +1,322 @@
+// What a condition says of the elements of a column: the value at a position of the text, compared with stored atoms.
+use model::Found;
+use model::Function;
+use number::Int;
+use written::Atom;
+ghost use mathlib.Core.Path.{_≡_};
+ghost use mathlib.Core.Bool.{true};
+ghost use Prim.Native.Nat.{_≤_};
+ghost use lib.ListN.{length};
+ghost use Rattle.model.specs.Base.{any, all, member, eqLists};
+ghost use Rattle.model.specs.Nav.{wellAt, treeAt};
+ghost use Rattle.model.specs.Schema.{integer, baseOf};
+ghost use Rattle.model.specs.Value.{sorted};
+ghost use Rattle.model.specs.Written.{elementsIn, longAtom};
+ghost use Rattle.model.specs.Conditions.{firstInt, compare};
+ghost use Rattle.number.specs.Ints.{asInt};
+ghost use Rattle.elements.specs.Elements.{elementsFrom, elementsFine};
+ghost use Rattle.uuids.specs.Named.{namesAt, Running};
+ghost use Rattle.written.specs.Atoms.{atomAs, atomsOf};
+ghost use Rattle.sets.specs.Tallies.{allTyped};
+ghost use Rattle.judged.specs.Weights.{atomsAs};
+ghost use Rattle.comparison.specs.Comparing.{sized, stored, order, Comparable};
+
+// Whether the element at `at` is among stored atoms.
+fn is_stored(
+    text: &[u8],
+    ends: &[u16],
+    ops: Found,
+    fresh: &[u8],
+    kind: u8,
+    at: usize,
+    xs: &[[u8; 25]],
+) -> bool
+    requires { ⌜ Running (now text) (now ends) ops (now fresh) ⌝ }
+    requires { ⌜ wellAt (now text) at ≡ true ⌝ }
+    ensures { λ r. ⌜ r ≡ member (atomAs (namesAt (now (text .entry)) ops (now (fresh .entry))) (baseOf kind) (treeAt (now (text .entry)) at)) (now (xs .entry)) ⌝ }
+{
+    let mut i = 0;
+    while i < xs.len() {
+        if written::same_at(text, ends, ops, fresh, kind, at, &xs[i]) {
+            return true;
+        }
+        i += 1;
+    }
+    false
+}
+
+// Whether some element from f on is stored.
+fn some_stored(
+    text: &[u8],
+    ends: &[u16],
+    ops: Found,
+    fresh: &[u8],
+    kind: u8,
+    set: bool,
+    f: Found,
+    xs: &[[u8; 25]],
+) -> bool
+    requires { ⌜ Running (now text) (now ends) ops (now fresh) ⌝ }
+    requires { ⌜ elementsFine (now text) set f ≡ true ⌝ }
+    ensures { λ r. ⌜ r ≡ any (λ a. member a (now (xs .entry))) (atomsOf (namesAt (now (text .entry)) ops (now (fresh .entry))) (baseOf kind) (elementsFrom (now (text .entry)) set f)) ⌝ }
+{
+    let mut g = f;
+    loop {
+        match g {
+            Found::At(p) => {
+                let m = is_stored(text, ends, ops, fresh, kind, p, xs);
+                if m {
+                    return true;
+                }
+                g = elements::next_element(text, ends, p, set);
+            }
+            Found::Nothing => return false,
+        }
+    }
+}
+
+// Whether each element from f on is stored.
+fn each_stored(
+    text: &[u8],
+    ends: &[u16],
+    ops: Found,
+    fresh: &[u8],
+    kind: u8,
+    set: bool,
+    f: Found,
+    xs: &[[u8; 25]],
+) -> bool
+    requires { ⌜ Running (now text) (now ends) ops (now fresh) ⌝ }
+    requires { ⌜ elementsFine (now text) set f ≡ true ⌝ }
+    ensures { λ r. ⌜ r ≡ all (λ a. member a (now (xs .entry))) (atomsOf (namesAt (now (text .entry)) ops (now (fresh .entry))) (baseOf kind) (elementsFrom (now (text .entry)) set f)) ⌝ }
+{
+    let mut g = f;
+    loop {
+        match g {
+            Found::At(p) => {
+                let m = is_stored(text, ends, ops, fresh, kind, p, xs);
+                if m {
+                    g = elements::next_element(text, ends, p, set);
+                } else {
+                    return false;
+                }
+            }
+            Found::Nothing => return true,
+        }
+    }
+}
+
+// Whether the element at `at` is a string above 24 bytes.
+fn is_long(text: &[u8], ends: &[u16], ops: Found, fresh: &[u8], kind: u8, at: usize) -> bool
+    requires { ⌜ Running (now text) (now ends) ops (now fresh) ⌝ }
+    requires { ⌜ wellAt (now text) at ≡ true ⌝ }
+    ensures { λ r. ⌜ r ≡ longAtom (baseOf kind) (atomAs (namesAt (now (text .entry)) ops (now (fresh .entry))) (baseOf kind) (treeAt (now (text .entry)) at)) ⌝ }
+{
+    let mut cell = [0u8; 25];
+    let a = written::atom_at(text, ends, ops, fresh, kind, at, &mut cell);
+    match a {
+        Atom::Wrong => false,
+        Atom::Long => true,
+        Atom::Fits => false,
+    }
+}
+
+// Whether some element from f on is.
+fn some_long(
+    text: &[u8],
+    ends: &[u16],
+    ops: Found,
+    fresh: &[u8],
+    kind: u8,
+    set: bool,
+    f: Found,
+) -> bool
+    requires { ⌜ Running (now text) (now ends) ops (now fresh) ⌝ }
+    requires { ⌜ elementsFine (now text) set f ≡ true ⌝ }
+    ensures { λ r. ⌜ r ≡ any (longAtom (baseOf kind)) (atomsOf (namesAt (now (text .entry)) ops (now (fresh .entry))) (baseOf kind) (elementsFrom (now (text .entry)) set f)) ⌝ }
+{
+    let mut g = f;
+    loop {
+        match g {
+            Found::At(p) => {
+                let l = is_long(text, ends, ops, fresh, kind, p);
+                if l {
+                    return true;
+                }
+                g = elements::next_element(text, ends, p, set);
+            }
+            Found::Nothing => return false,
+        }
+    }
+}
+
+// That every atom has 25 bytes.
+fn all_sized(xs: &[[u8; 25]]) -> bool
+    ensures { λ r. ⌜ r ≡ true ⌝ }
+    ensures { λ r. ⌜ all sized (now (xs .entry)) ≡ true ⌝ }
+{
+    let mut ok = true;
+    let mut i = 0;
+    while i < xs.len() {
+        let x = &xs[i];
+        let y = &x[..];
+        ok = ok & (y.len() == 25);
+        i += 1;
+    }
+    ok
+}
+
+// Whether the elements of the value at `at`, sorted, are the stored ones.
+fn equal_at(
+    text: &[u8],
+    ends: &[u16],
+    ops: Found,
+    fresh: &[u8],
+    kind: u8,
+    at: usize,
+    xs: &[[u8; 25]],
+) -> bool
+    requires { ⌜ Running (now text) (now ends) ops (now fresh) ⌝ }
+    requires { ⌜ wellAt (now text) at ≡ true ⌝ }
+    requires { ⌜ allTyped (namesAt (now text) ops (now fresh)) (baseOf kind) (elementsIn (treeAt (now text) at)) ≡ true ⌝ }
+    requires { ⌜ length (now xs) ≤ 4 ⌝ }
+    ensures { λ r. ⌜ r ≡ eqLists (now (xs .entry)) (sorted (baseOf kind) (atomsAs (namesAt (now (text .entry)) ops (now (fresh .entry))) (baseOf kind) (treeAt (now (text .entry)) at))) ⌝ }
+{
+    let n = judged::count_at(text, ends, at);
+    if n != xs.len() {
+        return false;
+    }
+    let e = elements::elements_at(text, ends, at);
+    let set = e.set;
+    let f = e.first;
+    let long = some_long(text, ends, ops, fresh, kind, set, f);
+    if long {
+        return !all_sized(xs);
+    }
+    let a = judged::atoms_at(text, ends, ops, fresh, kind, at);
+    let b = value::sort(kind, a, n);
+    value::equal(xs, &b[..n])
+}
+
+// The first of stored atoms as an integer, 0 where there is none.
+fn first_of(xs: &[[u8; 25]]) -> Int
+    ensures { λ r. ⌜ r ≡ asInt (firstInt (now (xs .entry))) ⌝ }
+{
+    if 0 < xs.len() {
+        return number::of_atom(&xs[0]);
+    }
+    let none = [0u8; 25];
+    number::of_atom(&none)
+}
+
+// The atom of the integer at `at`.
+fn integer_at(text: &[u8], ends: &[u16], ops: Found, fresh: &[u8], at: usize) -> [u8; 25]
+    requires { ⌜ Running (now text) (now ends) ops (now fresh) ⌝ }
+    requires { ⌜ wellAt (now text) at ≡ true ⌝ }
+    ensures { λ r. ⌜ r ≡ atomAs (namesAt (now (text .entry)) ops (now (fresh .entry))) integer (treeAt (now (text .entry)) at) ⌝ }
+{
+    let mut cell = [0u8; 25];
+    written::atom_at(text, ends, ops, fresh, 0, at, &mut cell);
+    cell
+}
+
+// The first of the integers of the value at `at`, 0 where there is none.
+fn first_at(text: &[u8], ends: &[u16], ops: Found, fresh: &[u8], at: usize) -> Int
+    requires { ⌜ Running (now text) (now ends) ops (now fresh) ⌝ }
+    requires { ⌜ wellAt (now text) at ≡ true ⌝ }
+    ensures { λ r. ⌜ r ≡ asInt (firstInt (atomsAs (namesAt (now (text .entry)) ops (now (fresh .entry))) integer (treeAt (now (text .entry)) at))) ⌝ }
+{
+    let e = elements::elements_at(text, ends, at);
+    let f = e.first;
+    match f {
+        Found::At(p) => {
+            let cell = integer_at(text, ends, ops, fresh, p);
+            number::of_atom(&cell)
+        }
+        Found::Nothing => {
+            let none = [0u8; 25];
+            number::of_atom(&none)
+        }
+    }
+}
+
+// What a function of order says of stored atoms and the integers of the value at `at`.
+fn ordered_at(
+    text: &[u8],
+    ends: &[u16],
+    ops: Found,
+    fresh: &[u8],
+    f: Function,
+    at: usize,
+    xs: &[[u8; 25]],
+) -> bool
+    requires { ⌜ Running (now text) (now ends) ops (now fresh) ⌝ }
+    requires { ⌜ wellAt (now text) at ≡ true ⌝ }
+    ensures { λ r. ⌜ r ≡ order f (firstInt (now (xs .entry))) (firstInt (atomsAs (namesAt (now (text .entry)) ops (now (fresh .entry))) integer (treeAt (now (text .entry)) at))) ⌝ }
+{
+    let x = first_of(xs);
+    let y = first_at(text, ends, ops, fresh, at);
+    match f {
+        Function::Less => number::less(x, y),
+        Function::AtMost => number::at_most(x, y),
+        Function::Equal => false,
+        Function::Unequal => false,
+        Function::AtLeast => number::at_most(y, x),
+        Function::Greater => number::less(y, x),
+        Function::Includes => false,
+        Function::Excludes => false,
+    }
+}
+
+// Whether every element of the value at `at` is stored, or some.
+fn stored_at(
+    text: &[u8],
+    ends: &[u16],
+    ops: Found,
+    fresh: &[u8],
+    kind: u8,
+    at: usize,
+    every: bool,
+    xs: &[[u8; 25]],
+) -> bool
+    requires { ⌜ Running (now text) (now ends) ops (now fresh) ⌝ }
+    requires { ⌜ wellAt (now text) at ≡ true ⌝ }
+    ensures { λ r. ⌜ r ≡ stored every (now (xs .entry)) (atomsAs (namesAt (now (text .entry)) ops (now (fresh .entry))) (baseOf kind) (treeAt (now (text .entry)) at)) ⌝ }
+{
+    let e = elements::elements_at(text, ends, at);
+    let set = e.set;
+    let f = e.first;
+    if every {
+        return each_stored(text, ends, ops, fresh, kind, set, f, xs);
+    }
+    some_stored(text, ends, ops, fresh, kind, set, f, xs)
+}
+
+// What the function of a condition without a fault says of stored atoms and the value at `at`.
+pub fn compare_at(
+    text: &[u8],
+    ends: &[u16],
+    ops: Found,
+    fresh: &[u8],
+    kind: u8,
+    f: Function,
+    at: usize,
+    xs: &[[u8; 25]],
+) -> bool
+    requires { ⌜ Running (now text) (now ends) ops (now fresh) ⌝ }
+    requires { ⌜ wellAt (now text) at ≡ true ⌝ }
+    requires { ⌜ Comparable (namesAt (now text) ops (now fresh)) (baseOf kind) f (treeAt (now text) at) ⌝ }
+    requires { ⌜ length (now xs) ≤ 4 ⌝ }
+    ensures { λ r. ⌜ r ≡ compare f (baseOf kind) (now (xs .entry)) (atomsAs (namesAt (now (text .entry)) ops (now (fresh .entry))) (baseOf kind) (treeAt (now (text .entry)) at)) ⌝ }
+{
+    match f {
+        Function::Less => ordered_at(text, ends, ops, fresh, f, at, xs),
+        Function::AtMost => ordered_at(text, ends, ops, fresh, f, at, xs),
+        Function::Equal => equal_at(text, ends, ops, fresh, kind, at, xs),
+        Function::Unequal => !equal_at(text, ends, ops, fresh, kind, at, xs),
+        Function::AtLeast => ordered_at(text, ends, ops, fresh, f, at, xs),
+        Function::Greater => ordered_at(text, ends, ops, fresh, f, at, xs),
+        Function::Includes => stored_at(text, ends, ops, fresh, kind, at, true, xs),
+        Function::Excludes => !stored_at(text, ends, ops, fresh, kind, at, false, xs),
+    }
+}

@@ -1,0 +1,3 @@
+pub mod Calculating
+pub mod Uniting
+pub mod Stepping

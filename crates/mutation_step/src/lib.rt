@@ -1,0 +1,259 @@
+// A step: one mutation on one column of a row.
+use model::Fault;
+use model::Found;
+use model::Mutator;
+use number::Exact;
+use number::Int;
+ghost use mathlib.Core.Path.{_≡_};
+ghost use mathlib.Core.Bool.{true};
+ghost use mathlib.Core.List.{_++_};
+ghost use Prim.Native.Nat.{_≤_, _<_};
+ghost use lib.ListN.{length, take, drop};
+ghost use Rattle.model.specs.Nav.{wellAt, treeAt};
+ghost use Rattle.model.specs.Schema.{baseOf};
+ghost use Rattle.model.specs.Value.{intOf, allInLimits, valueOf, union, without};
+ghost use Rattle.model.specs.Faults.{isFine};
+ghost use Rattle.model.specs.Mutations.{suits};
+ghost use Rattle.model.specs.Packed.{columnFrom};
+ghost use Rattle.number.specs.Ints.{intIn};
+ghost use Rattle.uuids.specs.Named.{namesAt, Running};
+ghost use Rattle.judged.specs.Weights.{atomsAs};
+ghost use Rattle.mutation_step.specs.Steps.{resultAtoms, Calculated, elementsOf, arithmeticOn, insertedOn, deletedOn, operandOf, mutatedOn, Reckoned, Stepped};
+
+// Whether there is no fault.
+pub fn is_fine(f: Fault) -> bool
+    ensures { λ r. ⌜ r ≡ isFine f ⌝ }
+{
+    match f {
+        Fault::Fine => true,
+        Fault::Syntax => false,
+        Fault::Resources => false,
+        Fault::Duplicate => false,
+        Fault::Constraint => false,
+        Fault::Domain => false,
+        Fault::Range => false,
+        Fault::Aborted => false,
+        Fault::Integrity => false,
+    }
+}
+
+// What the mutator makes of each element with the operand, in front of `out`; or that this divides by zero or is outside 64 bits.
+fn calculate_each(m: Mutator, b: Int, xs: &[[u8; 25]], out: &mut [[u8; 25]]) -> Fault
+    requires { ⌜ length (now xs) ≤ length (now out) ⌝ }
+    ensures { λ r. ⌜ Calculated m (intIn b) (now (xs .entry)) r (now (out .entry)) (now (out .exit)) ⌝ }
+{
+    let mut i = 0;
+    while i < xs.len() {
+        let e = number::calculate(m, number::of_atom(&xs[i]), b);
+        match e {
+            Exact::Number(z) => {
+                let a = number::to_atom(z);
+                out[i] = a;
+                i += 1;
+            }
+            Exact::ByZero => return Fault::Domain,
+            Exact::Outside => return Fault::Range,
+        }
+    }
+    Fault::Fine
+}
+
+// Whether all elements are in a column's limits.
+fn all_within(column: &[u8; 48], l: &[[u8; 25]]) -> bool
+    ensures { λ r. ⌜ r ≡ allInLimits (columnFrom (now (column .entry))) (now (l .entry)) ⌝ }
+{
+    let mut ok = true;
+    let mut i = 0;
+    while i < l.len() {
+        let w = sets::within(column, &l[i]);
+        ok = ok & w;
+        i += 1;
+    }
+    ok
+}
+
+// The results of arithmetic, in front of `out`, and how they are judged.
+fn reckon(column: &[u8; 48], m: Mutator, b: Int, xs: &[[u8; 25]], out: &mut [[u8; 25]]) -> Fault
+    requires { ⌜ length (now xs) ≤ length (now out) ⌝ }
+    ensures { λ r. ⌜ Reckoned (arithmeticOn (columnFrom (now (column .entry))) m (intIn b) (now (xs .entry))) (length (now (xs .entry))) (resultAtoms m (intIn b) (now (xs .entry))) r (now (out .exit)) ⌝ }
+{
+    let n = xs.len();
+    let f = calculate_each(m, b, xs, out);
+    let ok = is_fine(f);
+    if !ok {
+        return f;
+    }
+    let d = value::distinct(&out[..n]);
+    let w = all_within(column, &out[..n]);
+    if d & w {
+        return Fault::Fine;
+    }
+    Fault::Constraint
+}
+
+// Arithmetic on column c of a row, which acts on each element.
+fn arithmetic(
+    column: &[u8; 48],
+    m: Mutator,
+    operand: &[u8; 25],
+    row: &mut [[u8; 25]; 25],
+    c: usize,
+) -> Fault
+    requires { ⌜ c < 6 ⌝ }
+    ensures { λ r. ⌜ Stepped (arithmeticOn (columnFrom (now (column .entry))) m (intOf (now (operand .entry))) (elementsOf c (now (row .entry)))) c r (now (row .entry)) (now (row .exit)) ⌝ }
+{
+    let n = references::size(rows::count_of(row, c));
+    let atoms = rows::atoms_in(row, c);
+    let mut out = [[0u8; 25]; 4];
+    let f = reckon(column, m, number::of_atom(operand), &atoms[..n], &mut out);
+    let ok = is_fine(f);
+    if ok {
+        let sorted = value::sort(0, out, n);
+        rows::set_column(row, c, n as u8, &sorted);
+    }
+    f
+}
+
+// The first n of four atoms, and zeros.
+fn first_of(atoms: [[u8; 25]; 4], n: usize) -> [[u8; 25]; 4]
+    requires { ⌜ n ≤ 4 ⌝ }
+    ensures { λ r. ⌜ r ≡ valueOf (take n atoms) .atoms ⌝ }
+{
+    value::delete(atoms, n, &atoms[..0])
+}
+
+// The first n atoms are a set: the same with those of `more`, and zeros.
+fn unite(kind: u8, atoms: [[u8; 25]; 4], n: usize, more: &[[u8; 25]]) -> [[u8; 25]; 4]
+    requires { ⌜ n ≤ 4 ⌝ }
+    requires { ⌜ length (union (baseOf kind) (take n atoms) (now more)) ≤ 4 ⌝ }
+    ensures { λ r. ⌜ r ≡ valueOf (union (baseOf kind) (take n atoms) (now (more .entry))) .atoms ⌝ }
+{
+    let mut s = first_of(atoms, n);
+    let mut m = n;
+    let mut i = 0;
+    while i < more.len() {
+        let x = more[i];
+        let k = value::insert_count(&s[..m], &x);
+        let t = value::insert(kind, s, m, x);
+        s = t;
+        m = k;
+        i += 1;
+    }
+    s
+}
+
+// Elements inserted into column c of a row.
+fn insert(column: &[u8; 48], more: &[[u8; 25]], row: &mut [[u8; 25]; 25], c: usize) -> Fault
+    requires { ⌜ c < 6 ⌝ }
+    requires { ⌜ length (now more) ≤ 4 ⌝ }
+    ensures { λ r. ⌜ Stepped (insertedOn (columnFrom (now (column .entry))) (now (more .entry)) (elementsOf c (now (row .entry)))) c r (now (row .entry)) (now (row .exit)) ⌝ }
+{
+    let kind = column[25];
+    let max = atom::wide(column[29]);
+    let n = references::size(rows::count_of(row, c));
+    let atoms = rows::atoms_of(row, c);
+    let u = value::union_count(&atoms[..n], more);
+    if 4 < u {
+        return Fault::Resources;
+    }
+    if max < u {
+        return Fault::Constraint;
+    }
+    let all = unite(kind, atoms, n, more);
+    rows::set_column(row, c, u as u8, &all);
+    Fault::Fine
+}
+
+// The first elements that the value at `at` does not have, in their order, put in front; and how many they are.
+fn keep_others(
+    text: &[u8],
+    ends: &[u16],
+    ops: Found,
+    fresh: &[u8],
+    kind: u8,
+    at: usize,
+    atoms: &[[u8; 25]],
+    count: usize,
+    out: &mut [[u8; 25]],
+) -> usize
+    requires { ⌜ Running (now text) (now ends) ops (now fresh) ⌝ }
+    requires { ⌜ wellAt (now text) at ≡ true ⌝ }
+    requires { ⌜ (count ≤ length (now atoms)) × (count ≤ length (now out)) ⌝ }
+    ensures { λ r. ⌜ r ≡ length (without (atomsAs (namesAt (now (text .entry)) ops (now (fresh .entry))) (baseOf kind) (treeAt (now (text .entry)) at)) (take count (now (atoms .entry)))) ⌝ }
+    ensures { λ r. ⌜ now (out .exit) ≡ without (atomsAs (namesAt (now (text .entry)) ops (now (fresh .entry))) (baseOf kind) (treeAt (now (text .entry)) at)) (take count (now (atoms .entry))) ++ drop r (now (out .entry)) ⌝ }
+{
+    let mut kept = 0;
+    let mut k = 0;
+    while k < count {
+        let gone = judged::among(text, ends, ops, fresh, kind, at, &atoms[k]);
+        if !gone {
+            let a = atoms[k];
+            out[kept] = a;
+            kept += 1;
+        }
+        k += 1;
+    }
+    kept
+}
+
+// The elements of the value at `at` deleted from column c of a row.
+fn delete(
+    text: &[u8],
+    ends: &[u16],
+    ops: Found,
+    fresh: &[u8],
+    column: &[u8; 48],
+    at: usize,
+    row: &mut [[u8; 25]; 25],
+    c: usize,
+) -> Fault
+    requires { ⌜ Running (now text) (now ends) ops (now fresh) ⌝ }
+    requires { ⌜ wellAt (now text) at ≡ true ⌝ }
+    requires { ⌜ c < 6 ⌝ }
+    ensures { λ r. ⌜ Stepped (deletedOn (columnFrom (now (column .entry))) (atomsAs (namesAt (now (text .entry)) ops (now (fresh .entry))) (columnFrom (now (column .entry)) .base) (treeAt (now (text .entry)) at)) (elementsOf c (now (row .entry)))) c r (now (row .entry)) (now (row .exit)) ⌝ }
+{
+    let kind = column[25];
+    let min = atom::wide(column[28]);
+    let n = references::size(rows::count_of(row, c));
+    let atoms = rows::atoms_in(row, c);
+    let mut kept = [[0u8; 25]; 4];
+    let k = keep_others(text, ends, ops, fresh, kind, at, atoms, n, &mut kept);
+    if k < min {
+        return Fault::Constraint;
+    }
+    rows::set_column(row, c, k as u8, &kept);
+    Fault::Fine
+}
+
+// A mutation whose value, at `at`, has no fault, on column c of a row.
+pub fn step(
+    text: &[u8],
+    ends: &[u16],
+    ops: Found,
+    fresh: &[u8],
+    column: &[u8; 48],
+    m: Mutator,
+    at: usize,
+    row: &mut [[u8; 25]; 25],
+    c: usize,
+) -> Fault
+    requires { ⌜ Running (now text) (now ends) ops (now fresh) ⌝ }
+    requires { ⌜ wellAt (now text) at ≡ true ⌝ }
+    requires { ⌜ c < 6 ⌝ }
+    requires { ⌜ suits (columnFrom (now column)) m ≡ true ⌝ }
+    requires { ⌜ isFine (operandOf (namesAt (now text) ops (now fresh)) (columnFrom (now column)) m (treeAt (now text) at) .fault) ≡ true ⌝ }
+    ensures { λ r. ⌜ Stepped (mutatedOn (columnFrom (now (column .entry))) m (operandOf (namesAt (now (text .entry)) ops (now (fresh .entry))) (columnFrom (now (column .entry))) m (treeAt (now (text .entry)) at) .got) (elementsOf c (now (row .entry)))) c r (now (row .entry)) (now (row .exit)) ⌝ }
+{
+    match m {
+        Mutator::Insert => {
+            let l = judged::insert_atoms(text, ends, ops, fresh, column, at);
+            let n = judged::count_at(text, ends, at);
+            insert(column, &l[..n], row, c)
+        }
+        Mutator::Delete => delete(text, ends, ops, fresh, column, at, row, c),
+        _ => {
+            let b = judged::operand_at(text, ends, ops, fresh, at);
+            arithmetic(column, m, &b, row, c)
+        }
+    }
+}

@@ -1,0 +1,202 @@
+// Mutations, [column, mutator, value], and how they are judged.
+use lookup::Triple;
+use model::Fault;
+use model::Found;
+use model::Mutator;
+ghost use mathlib.Core.Path.{_≡_};
+ghost use mathlib.Core.Bool.{true};
+ghost use mathlib.Core.List.{map};
+ghost use Rattle.model.specs.Nav.{wellAt, treeAt, itemsFine};
+ghost use Rattle.model.specs.Faults.{check};
+ghost use Rattle.model.specs.Mutations.{suits};
+ghost use Rattle.model.specs.declared.Fault.the-variants.{Fine, Constraint};
+ghost use Rattle.model.specs.Packed.{columnFrom};
+ghost use Rattle.uuids.specs.Named.{namesAt, Running};
+ghost use Rattle.mutation_step.specs.Steps.{operandOf};
+ghost use Rattle.mutations.specs.Mutating.{chosen, mutatorBy, mutatorIn, columnFault, mutationAs, mutationAt, mutationsAt};
+
+// The mutator that a word is, or that it is none.
+pub enum Choice {
+    Of(Mutator),
+    Nothing,
+}
+
+// The mutator of a number.
+fn mutator_of(k: usize) -> Choice
+    ensures { λ r. ⌜ r ≡ mutatorBy k ⌝ }
+{
+    if k == 0 {
+        return Choice::Of(Mutator::Add);
+    }
+    if k == 1 {
+        return Choice::Of(Mutator::Subtract);
+    }
+    if k == 2 {
+        return Choice::Of(Mutator::Multiply);
+    }
+    if k == 3 {
+        return Choice::Of(Mutator::Divide);
+    }
+    if k == 4 {
+        return Choice::Of(Mutator::Remainder);
+    }
+    if k == 5 {
+        return Choice::Of(Mutator::Insert);
+    }
+    if k == 6 {
+        return Choice::Of(Mutator::Delete);
+    }
+    Choice::Nothing
+}
+
+// The mutator that the value at `at` names.
+pub fn mutator_at(text: &[u8], at: usize) -> Choice
+    ensures { λ r. ⌜ mutatorIn (treeAt (now (text .entry)) at) ≡ chosen r ⌝ }
+{
+    let k = fields::choose(
+        text,
+        at,
+        b"\x02+=\x02-=\x02*=\x02/=\x02%=\x06insert\x06delete",
+    );
+    mutator_of(k)
+}
+
+// Whether a column takes a mutator.
+fn suits(column: &[u8; 48], m: Mutator) -> bool
+    ensures { λ r. ⌜ r ≡ suits (columnFrom (now (column .entry))) m ⌝ }
+{
+    let integer = column[25] == 0;
+    let one = (column[28] == 1) & (column[29] == 1);
+    match m {
+        Mutator::Insert => !one,
+        Mutator::Delete => !one,
+        _ => integer,
+    }
+}
+
+// How the value of a mutation is judged.
+fn value_fault(
+    text: &[u8],
+    ends: &[u16],
+    ops: Found,
+    fresh: &[u8],
+    column: &[u8; 48],
+    m: Mutator,
+    at: usize,
+) -> Fault
+    requires { ⌜ Running (now text) (now ends) ops (now fresh) ⌝ }
+    requires { ⌜ wellAt (now text) at ≡ true ⌝ }
+    ensures { λ r. ⌜ r ≡ operandOf (namesAt (now (text .entry)) ops (now (fresh .entry))) (columnFrom (now (column .entry))) m (treeAt (now (text .entry)) at) .fault ⌝ }
+{
+    match m {
+        Mutator::Insert => judged::insert_fault(text, ends, ops, fresh, column, at),
+        Mutator::Delete => judged::delete_fault(text, ends, ops, fresh, column, at),
+        _ => judged::operand_fault(text, ends, ops, fresh, column, at),
+    }
+}
+
+// That a column cannot be changed, or no fault.
+fn fixed_fault(column: &[u8; 48]) -> Fault
+    ensures { λ r. ⌜ r ≡ check (columnFrom (now (column .entry)) .mutable) Constraint Fine ⌝ }
+{
+    if column[30] == 1 {
+        return Fault::Fine;
+    }
+    Fault::Constraint
+}
+
+// How a mutation on a column is judged.
+fn column_fault(
+    text: &[u8],
+    ends: &[u16],
+    ops: Found,
+    fresh: &[u8],
+    column: &[u8; 48],
+    m: Mutator,
+    at: usize,
+) -> Fault
+    requires { ⌜ Running (now text) (now ends) ops (now fresh) ⌝ }
+    requires { ⌜ wellAt (now text) at ≡ true ⌝ }
+    ensures { λ r. ⌜ r ≡ columnFault (namesAt (now (text .entry)) ops (now (fresh .entry))) (columnFrom (now (column .entry))) m (treeAt (now (text .entry)) at) ⌝ }
+{
+    let ok = suits(column, m);
+    if ok {
+        let v = value_fault(text, ends, ops, fresh, column, m, at);
+        let w = fixed_fault(column);
+        return conditions::earlier(v, w);
+    }
+    Fault::Syntax
+}
+
+// How a mutation is judged, whose name stands at a, its word at b and its value at v.
+fn triple_fault(
+    text: &[u8],
+    ends: &[u16],
+    ops: Found,
+    fresh: &[u8],
+    columns: &[[u8; 48]],
+    a: usize,
+    b: usize,
+    v: usize,
+) -> Fault
+    requires { ⌜ Running (now text) (now ends) ops (now fresh) ⌝ }
+    requires { ⌜ wellAt (now text) v ≡ true ⌝ }
+    ensures { λ r. ⌜ r ≡ mutationAs (namesAt (now (text .entry)) ops (now (fresh .entry))) (map columnFrom (now (columns .entry))) (treeAt (now (text .entry)) a) (mutatorIn (treeAt (now (text .entry)) b)) (treeAt (now (text .entry)) v) .fault ⌝ }
+{
+    let f = lookup::column_at(text, a, columns);
+    let Found::At(i) = f else {
+        return Fault::Syntax;
+    };
+    let c = mutator_at(text, b);
+    match c {
+        Choice::Of(m) => column_fault(text, ends, ops, fresh, &columns[i], m, v),
+        Choice::Nothing => Fault::Syntax,
+    }
+}
+
+// How the mutation at `at` is judged.
+fn mutation_fault(
+    text: &[u8],
+    ends: &[u16],
+    ops: Found,
+    fresh: &[u8],
+    columns: &[[u8; 48]],
+    at: usize,
+) -> Fault
+    requires { ⌜ Running (now text) (now ends) ops (now fresh) ⌝ }
+    requires { ⌜ wellAt (now text) at ≡ true ⌝ }
+    ensures { λ r. ⌜ r ≡ mutationAt (now (text .entry)) ops (now (fresh .entry)) (now (columns .entry)) at .fault ⌝ }
+{
+    let t = lookup::triple_at(text, ends, at);
+    match t {
+        Triple::Of(a, b, v) => triple_fault(text, ends, ops, fresh, columns, a, b, v),
+        Triple::Other => Fault::Syntax,
+    }
+}
+
+// How the mutations from f on are judged.
+pub fn mutations_fault(
+    text: &[u8],
+    ends: &[u16],
+    ops: Found,
+    fresh: &[u8],
+    columns: &[[u8; 48]],
+    f: Found,
+) -> Fault
+    requires { ⌜ Running (now text) (now ends) ops (now fresh) ⌝ }
+    requires { ⌜ itemsFine (now text) f ≡ true ⌝ }
+    ensures { λ r. ⌜ r ≡ mutationsAt (now (text .entry)) ops (now (fresh .entry)) (now (columns .entry)) f .fault ⌝ }
+{
+    let mut g = f;
+    let mut w = Fault::Fine;
+    loop {
+        match g {
+            Found::At(p) => {
+                let t = mutation_fault(text, ends, ops, fresh, columns, p);
+                w = conditions::earlier(w, t);
+                g = nav::next_item(text, ends, p);
+            }
+            Found::Nothing => return w,
+        }
+    }
+}
