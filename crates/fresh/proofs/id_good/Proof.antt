@@ -1,0 +1,67 @@
+-- `fresh::id_good` meets its contract. Assumes nothing.
+use Prim.Native.Nat.{ℕ, _+_}
+use mathlib.Core.Path.{_≡_, refl, sym, ap, _∙_}
+use mathlib.Core.Bool.{not, _&&_}
+use native.Mathlib.Omega.{arith}
+use lib.Dec.{eqb}
+use lib.ListN.{replicate}
+use Rattle.model.specs.Octets.{value}
+use Rattle.model.specs.Base.{any}
+use Rattle.model.specs.Rows.{hasId}
+use Rattle.model.specs.Working.{working}
+use Rattle.fresh.specs.Fresh.{freshFrom, freshAt}
+use Rattle.fresh.proofs.Ids.{blank-value, copied, good-is}
+use borrow.Author.Needs.{needs}
+use Rattle.fresh.proofs.id_good.Statement.{statement}
+use Rattle.fresh.proofs.id_good.Tie as tie
+
+id-at-requires : tie.Need-id-at-requires
+id-at-requires c κs = search needs
+
+slice-aggregate-same : tie.Need-slice-aggregate-same
+slice-aggregate-same c = search needs
+
+same-requires : tie.Need-same-requires
+same-requires c κs = search needs
+
+slice-aggregate-put-bytes : tie.Need-slice-aggregate-put-bytes
+slice-aggregate-put-bytes c = search needs
+
+put-bytes-requires : tie.Need-put-bytes-requires
+put-bytes-requires c κs = search needs
+
+has-id-requires : tie.Need-has-id-requires
+has-id-requires c κs = search needs
+
+add-among : tie.Need-add-among
+add-among c = search needs
+
+among-requires : tie.Need-among-requires
+among-requires c κs = search needs
+
+returns : tie.Need-returns
+returns c s =
+    let a = c .before .before .before .before .before .before .before .before .before .before in
+    let f = a .args .fresh .now in
+    let k = a .args .k in
+    let rows = working s (a .args .n) (a .args .rows .now) in
+    let i = c .before .before .before .before .before .before .before .before .id-at .ensures in
+    let x : c .before .before .before .before .before .before .same .result ≡ eqb (freshAt f k) 0 = c .before .before .before .before .before .before .same .ensures ∙ (λ j. eqb (i .is j) (blank-value j)) in
+    let y : c .before .has-id .result ≡ hasId (freshAt f k) rows =
+    c .before .has-id .ensures s ∙ ap (λ v. hasId v rows) (ap value (c .before .before .before .before .put-bytes .ensures ∙ copied (c .before .before .before .before .before .before .before .before .id-at .result .now) (replicate 16 0) (i .size) refl) ∙ i .is) in
+    let z : c .among .result ≡ any (eqb (freshAt f k)) (freshFrom (k + 1) f) = c .among .ensures ∙ ap (λ v. any (eqb v) (freshFrom (k + 1) f)) (i .is) in
+    (λ j. not (x j) && not (y j) && not (z j)) ∙ good-is f rows k (a .pre .1 .0)
+
+pub id-good-spec : {M : Type 1} → statement M
+id-good-spec =
+    tie.close
+    (tie.spec
+    id-at-requires
+    slice-aggregate-same
+    same-requires
+    slice-aggregate-put-bytes
+    put-bytes-requires
+    has-id-requires
+    add-among
+    among-requires
+    returns)

@@ -1,0 +1,20 @@
+-- `fresh::same` meets its contract. Assumes nothing.
+use mathlib.Core.Path.{sym, _∙_}
+use native.Mathlib.Omega.{arith}
+use Rattle.model.proofs.Working.{octets-of, eqb-value}
+use borrow.Author.Needs.{needs}
+use Rattle.fresh.proofs.same.Statement.{statement}
+use Rattle.fresh.proofs.same.Tie as tie
+
+equal-requires : tie.Need-equal-requires
+equal-requires c κs = search needs
+
+returns : tie.Need-returns
+returns c =
+    let s = c .before .before .before in
+    let x = s .args .a .now in
+    let y = s .args .b .now in
+    c .equal .ensures ∙ sym (eqb-value x y (omega arith) (octets-of x (λ i h. omega (arith, c .before .before .shared-slice-known .given i))) (octets-of y (λ i h. omega (arith, c .before .shared-slice-known2 .given i))))
+
+pub same-spec : {M : Type 1} → statement M
+same-spec = tie.close (tie.spec equal-requires returns)

@@ -1,0 +1,126 @@
+-- Where a run stands between two operations. Assumes nothing.
+use mathlib.Core.Path.{_≡_, refl, sym, ap, subst, _∙_}
+use mathlib.Core.List.{List, [], _∷_, _++_, append-nil}
+use mathlib.Core.Bool.{Bool, true, false}
+use Prim.Native.Nat.{ℕ, _+_, _*_, _≤_, _<_}
+use native.Mathlib.Omega.{arith}
+use lib.Dec.{eqb}
+use borrow.Author.Tests.{eqb-true}
+use lib.ListN.{length, take}
+use Rattle.model.specs.declared.Found.{Found}
+use Rattle.model.specs.declared.Found.the-variants.{At, Nothing}
+use Rattle.model.specs.declared.Fault.{Fault}
+use Rattle.model.specs.declared.Fault.the-variants.{Fine}
+use Rattle.model.specs.Nav.{treeAt, nextItem, itemsFrom, itemsFine}
+use Rattle.model.specs.Members.{membersIn}
+use Rattle.model.specs.Schema.{Schema}
+use Rattle.model.specs.Rows.{Row}
+use Rattle.model.specs.Faults.{isFine}
+use Rattle.model.specs.Working.{working, Tidy}
+use Rattle.model.specs.Transact as model
+use Rattle.model.specs.Transact.{insertName, withName, followed, stopped}
+use Rattle.model.proofs.Tests.{split, clash}
+use Rattle.nav.proofs.Walk.{walk-rest, walk-fine}
+use Rattle.answer.specs.Put.{Put}
+use Rattle.answer.specs.Texts.{commaText, joined, errorResult}
+use Rattle.answer.proofs.Putting.{put-then, put-is, Due, due-all, due-is, due-next, due-none}
+use Rattle.run.specs.declared.Ran.{Ran}
+use Rattle.table_operations.specs.declared.Done.{Done}
+use Rattle.clauses.specs.Clauses.{Earlier}
+use Rattle.table_operations.specs.Ran as single
+use Rattle.run.specs.Running.{runFrom, runWhole, nullsFrom, RunAll}
+use Rattle.run.proofs.Turns.{Told, told-first, told-earlier, told-on, run-first, done, run-end, run-fine, run-bad, stopped-text}
+
+not-first : (i : ℕ) → eqb (i + 1) 0 ≡ false
+not-first i = split (eqb (i + 1) 0) (λ t. absurd (omega (arith, eqb-true (i + 1) 0 t))) (λ t. t)
+
+module _ (s : Schema) (text : List ℕ) (ops : Found) (fresh : List ℕ) (rows₀ : List (List (List ℕ))) (n : ℕ) (answer₀ : List ℕ) (at₀ : ℕ) where
+  abbrev pub whole : model.Ran
+  whole = runWhole s text ops fresh (working s n rows₀)
+
+  -- after i operations, with m rows left: what the operations from g on do is what is still due
+  pub record Going (rows : List (List (List ℕ))) (answer : List ℕ) (at : ℕ) (g : Found) (i m : ℕ) : Type 0 where
+    pub given : List (List ℕ)
+    pub told : (w : List ℕ) → Told text ops given i g w
+    pub fault : whole .fault ≡ runFrom s text ops fresh given i (working s m rows) g .fault
+    pub left : whole .rows ≡ runFrom s text ops fresh given i (working s m rows) g .rows
+    pub due : Due answer₀ at₀ (joined true (whole .results)) answer at (joined (eqb i 0) (runFrom s text ops fresh given i (working s m rows) g .results))
+    pub fine : itemsFine text g ≡ true
+    pub size : i + length (itemsFrom text g) ≤ 16
+    pub short : at ≤ at₀ + 200001 * i
+    pub few : m ≤ 32
+    pub tidy : Tidy s (take n rows₀) → Tidy s (take m rows)
+
+  pub going-start : itemsFine text ops ≡ true → length (itemsFrom text ops) ≤ 16 → n ≤ 32 → Going rows₀ answer₀ at₀ ops 0 n
+  going-start f l h =
+      let e = run-first s text ops fresh (working s n rows₀) in
+      record {
+        given = [];
+        told = told-first text ops;
+        fault = ap (λ r. r .fault) e;
+        left = ap (λ r. r .rows) e;
+        due = due-is (due-all answer₀ at₀ (joined true (whole .results))) (ap (λ r. joined true (r .results)) e);
+        fine = f;
+        size = omega arith;
+        short = omega arith;
+        few = h;
+        tidy = λ t. t;
+      }
+
+  module _ {rows : List (List (List ℕ))} {answer : List ℕ} {at : ℕ} {g : Found} {i m : ℕ} (c : Going rows answer at g i m) where
+    pub going-earlier : Earlier text ops i (c .given)
+    going-earlier = told-earlier text ops (c .told)
+
+    pub going-end : {before : List ℕ} → Put 1 before 0 (91 ∷ []) at₀ answer₀ → g ≡ Nothing → RunAll s whole n rows₀ rows before answer (record { fault = Fine; count = m; at = at })
+    going-end first h =
+        let e = run-end s text ops fresh (c .given) i (working s m rows) h in
+        record {
+          fault = sym (c .fault ∙ ap (λ r. r .fault) e);
+          few = c .few;
+          rows = λ f. sym (c .left ∙ ap (λ r. r .rows) e);
+          tidy = λ f t. c .tidy t;
+          answer = put-then first (due-none (due-is (c .due) (ap (λ r. joined (eqb i 0) (r .results)) e)) 3999999 (omega (arith, c .short, c .size)));
+        }
+
+    module _ {p : ℕ} (h : g ≡ At p) where
+      pub going-more : i < 16
+      going-more = omega (arith, c .size, ap length (walk-rest text h))
+
+      module _ {answer1 answer2 : List ℕ} {at1 : ℕ} {rows2 : List (List (List ℕ))} {r : Done} (comma : Put 1 answer at (commaText (eqb i 0)) at1 answer1)
+          (did : single.Ran s (done s text ops fresh (c .given) i (working s m rows) p) m rows rows2 at1 answer1 answer2 r) where
+        pub going-on : isFine (r .fault) ≡ true → {k : ℕ} → k ≡ i + 1 → {g2 : Found} → g2 ≡ nextItem text p → Going rows2 answer2 (r .at) g2 k (r .count)
+        going-on f {k} ek {g2} eg =
+            let o = done s text ops fresh (c .given) i (working s m rows) p in
+            let names = withName (insertName (membersIn (treeAt text p))) (c .given) in
+            let e : runFrom s text ops fresh (c .given) i (working s m rows) g ≡ followed (o .answer) (runFrom s text ops fresh names (i + 1) (working s (r .count) rows2) (nextItem text p)) =
+            run-fine s text ops fresh (c .given) i (working s m rows) h (ap isFine (sym (did .fault)) ∙ f)
+            ∙ ap (λ l. followed (o .answer) (runFrom s text ops fresh names (i + 1) l (nextItem text p))) (sym (did .rows f)) in
+            rw (ek, eg) (record {
+              given = names;
+              told = told-on text ops h (c .told);
+              fault = c .fault ∙ ap (λ r. r .fault) e;
+              left = c .left ∙ ap (λ r. r .rows) e;
+              due = due-is (due-next (due-next (due-is (c .due) (ap (λ r. joined (eqb i 0) (r .results)) e)) comma) (did .answer f)) (ap (λ b. joined b (runFrom s text ops fresh names (i + 1) (working s (r .count) rows2) (nextItem text p) .results)) (sym (not-first i)));
+              fine = walk-fine text h (c .fine) .1;
+              size = omega (arith, c .size, ap length (walk-rest text h));
+              short = omega (arith, c .short, comma .short, did .answer f .short);
+              few = did .few;
+              tidy = λ t. did .tidy f (c .tidy t);
+            })
+
+        pub going-stop : {before : List ℕ} → Put 1 before 0 (91 ∷ []) at₀ answer₀ → isFine (r .fault) ≡ false → {answer3 answer4 : List ℕ} {at2 at3 : ℕ} → Put 43 answer2 at1 (errorResult (r .fault)) at2 answer3
+            → Put 80 answer3 at2 (joined false (nullsFrom text (nextItem text p))) at3 answer4
+            → {exit : List (List (List ℕ))} → RunAll s whole n rows₀ exit before answer4 (record { fault = r .fault; count = m; at = at3 })
+        going-stop first f {answer3} {answer4} {at2} {at3} x y =
+            let o = done s text ops fresh (c .given) i (working s m rows) p in
+            let e = run-bad s text ops fresh (c .given) i (working s m rows) h (ap isFine (sym (did .fault)) ∙ f) in
+            let t = ap (λ r. joined (eqb i 0) (r .results)) e ∙ stopped-text text (o .fault) (working s m rows) (nextItem text p) (eqb i 0) in
+            let end = ap (λ l. commaText (eqb i 0) ++ (errorResult (o .fault) ++ l)) (sym (append-nil (joined false (nullsFrom text (nextItem text p))))) in
+            let x1 : Put 43 answer1 at1 (errorResult (o .fault)) at2 answer3 = put-is (subst (λ b. Put 43 b at1 (errorResult (r .fault)) at2 answer3) (did .still f .1) x) (ap errorResult (did .fault)) (omega arith) in
+            record {
+              fault = did .fault ∙ sym (c .fault ∙ ap (λ r. r .fault) e);
+              few = c .few;
+              rows = λ q. absurd (clash (isFine (r .fault)) q f);
+              tidy = λ q. absurd (clash (isFine (r .fault)) q f);
+              answer = put-then first (due-none (due-next (due-next (due-next (due-is (c .due) (t ∙ end)) comma) x1) y) 3999999 (omega (arith, c .short, comma .short, x .short, y .short, going-more)));
+            }

@@ -1,0 +1,175 @@
+-- One operation after another. Assumes nothing.
+use mathlib.Core.Path.{_≡_, refl, sym, ap, subst, _∙_}
+use mathlib.Core.List.{List, [], _∷_, _++_, map}
+use mathlib.Core.Bool.{Bool, true, false, _||_}
+use mathlib.Core.Option.{Option, none, some}
+use Prim.Native.Nat.{ℕ, zero, suc, _+_, _≤_, _<_}
+use native.Mathlib.Omega.{arith}
+use borrow.Author.Tests.{lt-ltb, le-ltb, ltb-true}
+use lib.Dec.{eqb, ltb}
+use lib.ListN.{length, getD, drop}
+use lib.Seq.{drop-drop, getD-drop}
+use Rattle.model.specs.declared.Found.{Found}
+use Rattle.model.specs.declared.Found.the-variants.{At, Nothing}
+use Rattle.model.specs.declared.Fault.{Fault}
+use Rattle.model.specs.declared.Fault.the-variants.{Fine}
+use Rattle.model.specs.Octets.{eqBytes}
+use Rattle.model.specs.Base.{member, ascii}
+use Rattle.model.specs.Json.{Json, Named}
+use Rattle.model.specs.Nav.{treeAt, nextItem, itemsFrom}
+use Rattle.model.specs.Members.{membersIn}
+use Rattle.model.specs.Schema.{Schema}
+use Rattle.model.specs.Rows.{Row}
+use Rattle.model.specs.Faults.{isFine}
+use Rattle.model.specs.Written.{Names}
+use Rattle.model.specs.Answers.{errorText}
+use Rattle.model.specs.Operations as model
+use Rattle.model.specs.Transact.{Ran, freshIds, insertName, isNamed, withName, followed, stopped, runAll}
+use Rattle.model.proofs.Tests.{split, clash, bytes-same}
+use Rattle.nav.proofs.Walk.{walk-end, walk-rest}
+use Rattle.answer.specs.Texts.{commaText, joined, errorResult, nullText}
+use Rattle.uuids.specs.Named.{operationsAt, placeNamed, namesAt}
+use Rattle.clauses.specs.Clauses.{foundBefore, Earlier}
+use Rattle.run.specs.Running.{runFrom, runWhole, nullsFrom}
+
+-- ── names that were given, by the operations before i ──
+-- a name was given before i, or the first insert of that name is still to come
+pub data Told (text : List ℕ) (ops : Found) (given : List (List ℕ)) (i : ℕ) (g : Found) (w : List ℕ) : Type 0 where
+  past : (k : ℕ) → member w given ≡ true → placeNamed 0 w (operationsAt text ops) ≡ At k → k < i → Told text ops given i g w
+  ahead : member w given ≡ false → placeNamed 0 w (operationsAt text ops) ≡ placeNamed i w (operationsAt text g) → Told text ops given i g w
+
+late : (i : ℕ) (w : List ℕ) (os : List (List Named)) → (j : ℕ) → j ≤ i → foundBefore j (placeNamed i w os) ≡ false
+unfolding foundBefore placeNamed
+late i w [] j h = refl
+late i w (o ∷ os) j h = turn (isNamed (insertName o) w) refl (late (i + 1) w os j (omega arith))
+  where
+    turn : (b : Bool) → isNamed (insertName o) w ≡ b → foundBefore j (placeNamed (i + 1) w os) ≡ false → foundBefore j (placeNamed i w (o ∷ os)) ≡ false
+    turn true e ih = rw (placeNamed, e) (le-ltb i j h)
+    turn false e ih = rw (placeNamed, e) ih
+
+bytes-flip : (v w : List ℕ) → eqBytes v w ≡ eqBytes w v
+bytes-flip v w =
+    split (eqBytes v w) (λ e. let q : v ≡ w = bytes-same v w e in rw q)
+    (λ e. split (eqBytes w v) (λ f. let q : w ≡ v = bytes-same w v f in rw q) (λ f. e ∙ sym f))
+
+or-true : (b : Bool) {c : Bool} → c ≡ true → (b || c) ≡ true
+or-true true e = refl
+or-true false e = e
+
+-- the name of an operation is given from then on
+given-now : (n : Option (List ℕ)) (given : List (List ℕ)) (w : List ℕ) → isNamed n w ≡ true → member w (withName n given) ≡ true
+given-now none given w e = absurd (clash false e refl)
+given-now (some v) given w e = let q : eqBytes w v ≡ true = bytes-flip w v ∙ e in rw q
+
+not-now : (n : Option (List ℕ)) (given : List (List ℕ)) (w : List ℕ) → isNamed n w ≡ false → member w given ≡ false → member w (withName n given) ≡ false
+not-now none given w e m = m
+not-now (some v) given w e m = let q : eqBytes w v ≡ false = bytes-flip w v ∙ e in rw (q, m)
+
+still-given : (n : Option (List ℕ)) (given : List (List ℕ)) (w : List ℕ) → member w given ≡ true → member w (withName n given) ≡ true
+still-given none given w m = m
+still-given (some v) given w m = or-true (eqBytes w v) m
+
+place-now : (i : ℕ) (w : List ℕ) (o : List Named) (os : List (List Named)) → isNamed (insertName o) w ≡ true → placeNamed i w (o ∷ os) ≡ At i
+unfolding placeNamed
+place-now i w o os e = rw (placeNamed, e)
+
+place-later : (i : ℕ) (w : List ℕ) (o : List Named) (os : List (List Named)) → isNamed (insertName o) w ≡ false → placeNamed i w (o ∷ os) ≡ placeNamed (i + 1) w os
+unfolding placeNamed
+place-later i w o os e = rw (placeNamed, e)
+
+module _ (text : List ℕ) (ops : Found) where
+  pub told-first : (w : List ℕ) → Told text ops [] 0 ops w
+  told-first w = ahead refl refl
+
+  pub told-earlier : {given : List (List ℕ)} {i : ℕ} {g : Found} → ((w : List ℕ) → Told text ops given i g w) → Earlier text ops i given
+  unfolding Earlier foundBefore
+  told-earlier {given} {i} {g} t w = go (t w)
+    where
+      go : Told text ops given i g w → member w given ≡ foundBefore i (placeNamed 0 w (operationsAt text ops))
+      go (past k m p h) = m ∙ sym (ap (foundBefore i) p ∙ lt-ltb k i h)
+      go (ahead m p) = m ∙ sym (ap (foundBefore i) p ∙ late i w (operationsAt text g) i (omega arith))
+
+  operations-next : {g : Found} {p : ℕ} → g ≡ At p → operationsAt text g ≡ membersIn (treeAt text p) ∷ operationsAt text (nextItem text p)
+  unfolding operationsAt
+  operations-next h = ap (map membersIn) (walk-rest text h)
+
+  pub told-on : {given : List (List ℕ)} {i p : ℕ} {g : Found} → g ≡ At p → ((w : List ℕ) → Told text ops given i g w)
+      → (w : List ℕ) → Told text ops (withName (insertName (membersIn (treeAt text p))) given) (i + 1) (nextItem text p) w
+  told-on {given} {i} {p} {g} h t w = go (t w)
+    where
+      o : List Named
+      o = membersIn (treeAt text p)
+
+      go : Told text ops given i g w → Told text ops (withName (insertName o) given) (i + 1) (nextItem text p) w
+      go (past k m q l) = past k (still-given (insertName o) given w m) q (omega arith)
+      go (ahead m q) = here (isNamed (insertName o) w) refl
+        where
+          here : (b : Bool) → isNamed (insertName o) w ≡ b → Told text ops (withName (insertName o) given) (i + 1) (nextItem text p) w
+          here true e = past i (given-now (insertName o) given w e) (q ∙ ap (placeNamed i w) (operations-next h) ∙ place-now i w o (operationsAt text (nextItem text p)) e) (omega arith)
+          here false e = ahead (not-now (insertName o) given w e m) (q ∙ ap (placeNamed i w) (operations-next h) ∙ place-later i w o (operationsAt text (nextItem text p)) e)
+
+-- ── a turn ──
+abbrev pick : Bool → Ran → Ran → Ran
+pick b x y = elim b [ true ↦ x | false ↦ y ]
+
+id-at : (i : ℕ) (ids : List ℕ) → getD (drop i ids) 0 0 ≡ getD ids i 0
+id-at i ids = let e : i + 0 ≡ i = omega arith in getD-drop i ids 0 0 ∙ ap (λ k. getD ids k 0) e
+
+module _ (s : Schema) (names : Names) (given : List (List ℕ)) (ids : List ℕ) (rows : List Row) (o : List Named) (os : List (List Named)) where
+  abbrev doneBy : ℕ → model.Done
+  doneBy x = model.operate s names given x rows o
+
+  abbrev nextBy : ℕ → Ran
+  nextBy x = followed (doneBy x .answer) (runAll s names (withName (insertName o) given) (drop 1 ids) (doneBy x .rows) os)
+
+  fine-first : isFine (doneBy (getD ids 0 0) .fault) ≡ true → runAll s names given ids rows (o ∷ os) ≡ nextBy (getD ids 0 0)
+  fine-first f = ap (λ (b : Bool). pick b (nextBy (getD ids 0 0)) (stopped (doneBy (getD ids 0 0) .fault) rows os)) f
+
+  bad-first : isFine (doneBy (getD ids 0 0) .fault) ≡ false → runAll s names given ids rows (o ∷ os) ≡ stopped (doneBy (getD ids 0 0) .fault) rows os
+  bad-first f = ap (λ (b : Bool). pick b (nextBy (getD ids 0 0)) (stopped (doneBy (getD ids 0 0) .fault) rows os)) f
+
+  module _ {x : ℕ} (e : getD ids 0 0 ≡ x) where
+    turn-fine : isFine (doneBy x .fault) ≡ true → runAll s names given ids rows (o ∷ os) ≡ nextBy x
+    turn-fine = subst (λ (x : ℕ). isFine (doneBy x .fault) ≡ true → runAll s names given ids rows (o ∷ os) ≡ nextBy x) e fine-first
+
+    turn-bad : isFine (doneBy x .fault) ≡ false → runAll s names given ids rows (o ∷ os) ≡ stopped (doneBy x .fault) rows os
+    turn-bad = subst (λ (x : ℕ). isFine (doneBy x .fault) ≡ false → runAll s names given ids rows (o ∷ os) ≡ stopped (doneBy x .fault) rows os) e bad-first
+
+module _ (s : Schema) (text : List ℕ) (ops : Found) (fresh : List ℕ) where
+  pub run-first : (rows : List Row) → runWhole s text ops fresh rows ≡ runFrom s text ops fresh [] 0 rows ops
+  unfolding runWhole runFrom
+  run-first rows = refl
+
+  abbrev pub done : List (List ℕ) → ℕ → List Row → ℕ → model.Done
+  done given i rows p = model.operate s (namesAt text ops fresh) given (getD (freshIds fresh) i 0) rows (membersIn (treeAt text p))
+
+  module _ (given : List (List ℕ)) (i : ℕ) (rows : List Row) {g : Found} where
+    pub run-end : g ≡ Nothing → runFrom s text ops fresh given i rows g ≡ record { fault = Fine; rows = rows; results = [] }
+    unfolding runFrom operationsAt
+    run-end h = ap (λ l. runAll s (namesAt text ops fresh) given (drop i (freshIds fresh)) rows (map membersIn l)) (walk-end text h)
+
+    module _ {p : ℕ} (h : g ≡ At p) where
+      turn : runFrom s text ops fresh given i rows g ≡ runAll s (namesAt text ops fresh) given (drop i (freshIds fresh)) rows (membersIn (treeAt text p) ∷ operationsAt text (nextItem text p))
+      unfolding runFrom
+      turn = ap (runAll s (namesAt text ops fresh) given (drop i (freshIds fresh)) rows) (operations-next text ops h)
+
+      pub run-fine : isFine (done given i rows p .fault) ≡ true
+          → runFrom s text ops fresh given i rows g ≡ followed (done given i rows p .answer) (runFrom s text ops fresh (withName (insertName (membersIn (treeAt text p))) given) (i + 1) (done given i rows p .rows) (nextItem text p))
+      unfolding runFrom
+      run-fine f =
+          turn
+          ∙ turn-fine s (namesAt text ops fresh) given (drop i (freshIds fresh)) rows (membersIn (treeAt text p)) (operationsAt text (nextItem text p)) (id-at i (freshIds fresh)) f
+          ∙ ap (λ (ids : List ℕ). followed (done given i rows p .answer) (runAll s (namesAt text ops fresh) (withName (insertName (membersIn (treeAt text p))) given) ids (done given i rows p .rows) (operationsAt text (nextItem text p)))) (drop-drop 1 i (freshIds fresh))
+
+      pub run-bad : isFine (done given i rows p .fault) ≡ false → runFrom s text ops fresh given i rows g ≡ stopped (done given i rows p .fault) rows (operationsAt text (nextItem text p))
+      run-bad f = turn ∙ turn-bad s (namesAt text ops fresh) given (drop i (freshIds fresh)) rows (membersIn (treeAt text p)) (operationsAt text (nextItem text p)) (id-at i (freshIds fresh)) f
+
+-- the results of operations that are stopped
+pub stopped-text : (text : List ℕ) (f : Fault) (rows : List Row) (g : Found) (first : Bool)
+    → joined first (stopped f rows (operationsAt text g) .results) ≡ commaText first ++ (errorResult f ++ joined false (nullsFrom text g))
+unfolding errorResult nullsFrom nullText operationsAt
+stopped-text text f rows g first = ap (λ l. commaText first ++ (errorText f ++ joined false l)) (nulls (itemsFrom text g))
+  where
+    nulls : (l : List Json) → map (λ (o : List Named). ascii "null") (map membersIn l) ≡ map (λ (j : Json). ascii "null") l
+    nulls [] = refl
+    nulls (j ∷ js) = ap (λ l. ascii "null" ∷ l) (nulls js)
