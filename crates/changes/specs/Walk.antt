@@ -1,0 +1,64 @@
+-- The records of a commit as they are written one after another into a buffer (document 01, "Records on the line"). Assumes nothing: these are definitions.
+use Prim.Native.Nat.{ℕ, suc, _+_, _*_, _≤_}
+use mathlib.Core.Path.{_≡_}
+use mathlib.Core.Bool.{Bool, true, false}
+use mathlib.Core.List.{List, [], _∷_, _++_}
+use lib.ListN.{length}
+use Rattle.model.specs.Limits.{mostColumns, leastRecords}
+use Rattle.model.specs.Schema.{Schema}
+use Rattle.model.specs.Value.{Value, sameValue}
+use Rattle.model.specs.Rows.{Row, key, find}
+use Rattle.model.specs.Records.{Change, gones, never, rowWrites, bornKind, goneKind, columnKind, recordBytes, numbered, encode}
+use Rattle.answer.specs.Put.{putAt}
+use Rattle.changes.specs.declared.Cursor.{Cursor}
+
+-- a buffer of records: how many are in it, where the next one begins, its bytes
+pub record Written : Type 0 where
+  pub count : ℕ
+  pub at : ℕ
+  pub bytes : List ℕ
+
+abbrev pub written : Cursor → List ℕ → Written
+written c b = record { count = c .count; at = c .at; bytes = b }
+
+-- one record more: "Numbers run on", where so many were given out before the commit
+unfoldable pub put : ℕ → ℕ → Change → Written → Written
+put run number e w =
+    let b = encode (numbered run (suc (number + w .count)) e) in
+    record { count = suc (w .count); at = w .at + length b; bytes = putAt (w .bytes) (w .at) b }
+
+abbrev pub puts : ℕ → ℕ → List Change → Written → Written
+puts run number [] w = w
+puts run number (e ∷ es) w = puts run number es (put run number e w)
+
+-- there is room for so many bytes more in a buffer of this size, and no more records than bytes so far
+pub record Room (most : ℕ) (c : Cursor) (size : ℕ) : Type 0 where
+  pub few : c .count ≤ c .at
+  pub room : c .at + most ≤ leastRecords
+  pub enough : leastRecords ≤ size
+
+-- changes were written, with at most so many bytes
+pub record Recorded (run number : ℕ) (es : List Change) (most : ℕ) (c : Cursor) (before : List ℕ) (r : Cursor) (after : List ℕ) : Type 0 where
+  pub all : written r after ≡ puts run number es (written c before)
+  pub short : r .at ≤ c .at + most
+  pub few : r .count ≤ r .at
+
+-- which columns are left out: none of a new row ("born and all its columns"), of another those that are like before ("its changed columns")
+unfoldable pub skips : Bool → Value → Value → Bool
+skips true = never
+skips false = sameValue
+
+-- what a row writes against the other rows: "all gone rows", of those before the commit; "each new row .., each changed row ..", of those after it
+unfoldable pub rowPass : Bool → Schema → List Row → Row → List Change
+rowPass true s others r = gones others (r ∷ [])
+rowPass false s others r = rowWrites s (find (key r) others) r
+
+-- and at most so many bytes: a gone record; a born record and six columns
+unfoldable pub rowMost : Bool → ℕ
+rowMost true = recordBytes goneKind
+rowMost false = recordBytes bornKind + mostColumns * recordBytes columnKind
+
+-- rows, one after another
+abbrev pub pass : Bool → Schema → List Row → List Row → List Change
+pass gone s others [] = []
+pass gone s others (r ∷ rs) = rowPass gone s others r ++ pass gone s others rs

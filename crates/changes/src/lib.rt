@@ -1,0 +1,265 @@
+// The change records of a commit: all gone rows, then each new row with all its columns and each changed row with its changed columns, then the end. One walk writes and counts them.
+use model::Found;
+use record::Born;
+use record::Column;
+use record::End;
+use record::Gone;
+ghost use mathlib.Core.Path.{_≡_};
+ghost use mathlib.Core.List.{[], _∷_, map};
+ghost use Prim.Native.Nat.{_+_, _*_, _%_, _≤_, _<_, min};
+ghost use lib.ListN.{length};
+ghost use Rattle.model.specs.Limits.{mostRows, leastRecords};
+ghost use Rattle.model.specs.Octets.{value, filled};
+ghost use Rattle.model.specs.Base.{flat};
+ghost use Rattle.model.specs.Schema.{Schema, columnsOf};
+ghost use Rattle.model.specs.Areas.{rowFrom};
+ghost use Rattle.model.specs.Packed.{tablesIn};
+ghost use Rattle.model.specs.Working.{working, tableIn, idIn, keyIn, valueIn, place};
+ghost use Rattle.model.specs.Records.{born, gone, column, end, writes, diff, numberFrom, encode};
+ghost use Rattle.references.specs.Links.{Accepted};
+ghost use Rattle.changes.specs.Walk.{Room, Recorded, skips, rowPass, pass, rowMost};
+
+// Where the next record goes: how many there are already, and where their bytes end.
+pub struct Cursor {
+    pub count: usize,
+    pub at: usize,
+}
+
+// The number of the record that comes after `count` others, as its four bytes hold it.
+fn next(number: u32, count: usize) -> u32
+    requires { ⌜ count ≤ leastRecords ⌝ }
+    ensures { λ r. ⌜ r ≡ (number + count + 1) % 4294967296 ⌝ }
+{
+    ((number as usize + count + 1) % 4294967296) as u32
+}
+
+// A row that went.
+fn put_gone(row: &[[u8; 25]; 25], run: u32, number: u32, to: Cursor, records: &mut [u8]) -> Cursor
+    requires { ⌜ Room 26 to (length (now records)) ⌝ }
+    ensures { λ r. ⌜ Recorded run number (gone (tableIn (now (row .entry))) (idIn (now (row .entry))) ∷ []) 26 to (now (records .entry)) r (now (records .exit)) ⌝ }
+{
+    let at = to.at;
+    let n = next(number, to.count);
+    let table = rows::table_of(row);
+    Gone::new(run, n, table).write(rows::id_of(row), &mut records[at..]);
+    Cursor {
+        count: to.count + 1,
+        at: at + Gone::LEN,
+    }
+}
+
+// A new row.
+fn put_born(row: &[[u8; 25]; 25], run: u32, number: u32, to: Cursor, records: &mut [u8]) -> Cursor
+    requires { ⌜ Room 26 to (length (now records)) ⌝ }
+    ensures { λ r. ⌜ Recorded run number (born (tableIn (now (row .entry))) (idIn (now (row .entry))) ∷ []) 26 to (now (records .entry)) r (now (records .exit)) ⌝ }
+{
+    let at = to.at;
+    let n = next(number, to.count);
+    let table = rows::table_of(row);
+    Born::new(run, n, table).write(rows::id_of(row), &mut records[at..]);
+    Cursor {
+        count: to.count + 1,
+        at: at + Born::LEN,
+    }
+}
+
+// Column c of a row.
+fn put_column(
+    row: &[[u8; 25]; 25],
+    c: usize,
+    run: u32,
+    number: u32,
+    to: Cursor,
+    records: &mut [u8],
+) -> Cursor
+    requires { ⌜ Room 128 to (length (now records)) ⌝ }
+    requires { ⌜ c < 6 ⌝ }
+    ensures { λ r. ⌜ Recorded run number (column (tableIn (now (row .entry))) (idIn (now (row .entry))) c (valueIn c (now (row .entry))) ∷ []) 128 to (now (records .entry)) r (now (records .exit)) ⌝ }
+{
+    let at = to.at;
+    let n = next(number, to.count);
+    let table = rows::table_of(row);
+    let count = rows::count_of(row, c);
+    let atoms = rows::atoms_in(row, c);
+    Column::new(run, n, table, c as u8, count).write(rows::id_of(row), atoms, &mut records[at..]);
+    Cursor {
+        count: to.count + 1,
+        at: at + Column::LEN,
+    }
+}
+
+// The end of a commit.
+fn put_end(run: u32, number: u32, to: Cursor, records: &mut [u8]) -> Cursor
+    requires { ⌜ Room 9 to (length (now records)) ⌝ }
+    ensures { λ r. ⌜ Recorded run number (end ∷ []) 9 to (now (records .entry)) r (now (records .exit)) ⌝ }
+{
+    let at = to.at;
+    let n = next(number, to.count);
+    End::new(run, n).write(&mut records[at..]);
+    Cursor {
+        count: to.count + 1,
+        at: at + End::LEN,
+    }
+}
+
+// A row's id, by value.
+fn id_at(row: &[[u8; 25]; 25]) -> [u8; 16]
+    ensures { λ r. ⌜ value r ≡ idIn (now (row .entry)) ⌝ }
+{
+    let mut id = [0u8; 16];
+    octets::put_bytes(&mut id, rows::id_of(row));
+    id
+}
+
+// The place of the row that has the table and id of this one.
+fn place_of(rows: &[[[u8; 25]; 25]], n: usize, row: &[[u8; 25]; 25]) -> Found
+    requires { ⌜ n ≤ length (now rows) ⌝ }
+    ensures { λ r. ⌜ ((s : Schema) → r ≡ place (keyIn (now (row .entry))) (working s n (now (rows .entry)))) ⌝ }
+{
+    let id = id_at(row);
+    rows::find(rows, n, rows::table_of(row), &id)
+}
+
+// Whether column c of a row is left out: never of a fresh row, and of another where it is like before.
+fn is_left(fresh: bool, old: &[[u8; 25]; 25], row: &[[u8; 25]; 25], c: usize) -> bool
+    requires { ⌜ c < 6 ⌝ }
+    ensures { λ r. ⌜ r ≡ skips fresh (valueIn c (now (old .entry))) (valueIn c (now (row .entry))) ⌝ }
+{
+    if fresh {
+        return false;
+    }
+    rows::same_column(old, row, c)
+}
+
+// How many columns both rows have.
+fn width_of(schema: &[[u8; 48]], old: &[[u8; 25]; 25], row: &[[u8; 25]; 25]) -> usize
+    requires { ⌜ Accepted (now schema) ⌝ }
+    ensures { λ r. ⌜ r ≡ min (length (columnsOf (tablesIn (now (schema .entry))) (tableIn (now (old .entry))))) (length (columnsOf (tablesIn (now (schema .entry))) (tableIn (now (row .entry))))) ⌝ }
+{
+    let w = references::width(schema, rows::table_of(old));
+    let x = references::width(schema, rows::table_of(row));
+    if x < w {
+        return x;
+    }
+    w
+}
+
+// The columns of a row in schema order: all of a fresh row, the changed ones of another.
+fn put_columns(
+    schema: &[[u8; 48]],
+    fresh: bool,
+    old: &[[u8; 25]; 25],
+    row: &[[u8; 25]; 25],
+    run: u32,
+    number: u32,
+    start: Cursor,
+    records: &mut [u8],
+) -> Cursor
+    requires { ⌜ Accepted (now schema) ⌝ }
+    requires { ⌜ Room 768 start (length (now records)) ⌝ }
+    ensures { λ r. ⌜ Recorded run number (writes (skips fresh) (tableIn (now (row .entry))) (idIn (now (row .entry))) 0 (rowFrom (tablesIn (now (schema .entry))) (now (old .entry)) .columns) (rowFrom (tablesIn (now (schema .entry))) (now (row .entry)) .columns)) 768 start (now (records .entry)) r (now (records .exit)) ⌝ }
+{
+    let w = width_of(schema, old, row);
+    let mut to = start;
+    let mut c = 0;
+    while c < w {
+        if !is_left(fresh, old, row, c) {
+            let past = put_column(row, c, run, number, to, records);
+            to = past;
+        }
+        c += 1;
+    }
+    to
+}
+
+// What a row writes against the other rows. Of a row before the commit: that it is gone, where those after it lack it.
+// Of a row after the commit: born with all its columns, where those before it lack it, else its changed columns.
+fn put_row(
+    gone: bool,
+    schema: &[[u8; 48]],
+    row: &[[u8; 25]; 25],
+    others: &[[[u8; 25]; 25]],
+    k: usize,
+    run: u32,
+    number: u32,
+    to: Cursor,
+    records: &mut [u8],
+) -> Cursor
+    requires { ⌜ Accepted (now schema) ⌝ }
+    requires { ⌜ k ≤ length (now others) ⌝ }
+    requires { ⌜ Room (rowMost gone) to (length (now records)) ⌝ }
+    ensures { λ r. ⌜ Recorded run number (rowPass gone (tablesIn (now (schema .entry))) (working (tablesIn (now (schema .entry))) k (now (others .entry))) (rowFrom (tablesIn (now (schema .entry))) (now (row .entry)))) (rowMost gone) to (now (records .entry)) r (now (records .exit)) ⌝ }
+{
+    let found = place_of(others, k, row);
+    match found {
+        Found::At(i) => {
+            if gone {
+                return to;
+            }
+            put_columns(schema, false, &others[i], row, run, number, to, records)
+        }
+        Found::Nothing => {
+            if gone {
+                return put_gone(row, run, number, to, records);
+            }
+            let past = put_born(row, run, number, to, records);
+            put_columns(schema, true, row, row, run, number, past, records)
+        }
+    }
+}
+
+// What rows write against the other rows, in their order: the gone ones of the rows before the commit, or the new and the changed ones of those after it.
+fn put_rows(
+    gone: bool,
+    schema: &[[u8; 48]],
+    rows: &[[[u8; 25]; 25]],
+    n: usize,
+    others: &[[[u8; 25]; 25]],
+    k: usize,
+    run: u32,
+    number: u32,
+    start: Cursor,
+    records: &mut [u8],
+) -> Cursor
+    requires { ⌜ Accepted (now schema) ⌝ }
+    requires { ⌜ (n ≤ length (now rows)) × (k ≤ length (now others)) ⌝ }
+    requires { ⌜ Room (rowMost gone * n) start (length (now records)) ⌝ }
+    ensures { λ r. ⌜ Recorded run number (pass gone (tablesIn (now (schema .entry))) (working (tablesIn (now (schema .entry))) k (now (others .entry))) (working (tablesIn (now (schema .entry))) n (now (rows .entry)))) (rowMost gone * n) start (now (records .entry)) r (now (records .exit)) ⌝ }
+{
+    let mut to = start;
+    let mut i = 0;
+    while i < n {
+        let past = put_row(gone, schema, &rows[i], others, k, run, number, to, records);
+        to = past;
+        i += 1;
+    }
+    to
+}
+
+// The records of a commit from the rows before it to the rows after it, numbered on from `number`, and zeros behind them; and how many they are.
+// Their numbers are as their four bytes hold them: where more are asked for than are left, the caller refuses.
+pub fn write(
+    schema: &[[u8; 48]],
+    before: &[[[u8; 25]; 25]],
+    m: usize,
+    after: &[[[u8; 25]; 25]],
+    n: usize,
+    run: u32,
+    number: u32,
+    records: &mut [u8],
+) -> usize
+    requires { ⌜ Accepted (now schema) ⌝ }
+    requires { ⌜ (m ≤ length (now before)) × (n ≤ length (now after)) × (m ≤ mostRows) × (n ≤ mostRows) × (leastRecords ≤ length (now records)) ⌝ }
+    ensures { λ r. ⌜ r ≡ length (diff (tablesIn (now (schema .entry))) (working (tablesIn (now (schema .entry))) m (now (before .entry))) (working (tablesIn (now (schema .entry))) n (now (after .entry)))) ⌝ }
+    ensures { λ _. ⌜ now (records .exit) ≡ filled (length (now (records .entry))) (flat (map encode (numberFrom run number (diff (tablesIn (now (schema .entry))) (working (tablesIn (now (schema .entry))) m (now (before .entry))) (working (tablesIn (now (schema .entry))) n (now (after .entry))))))) ⌝ }
+{
+    octets::clear(records);
+    let to = Cursor { count: 0, at: 0 };
+    let to = put_rows(true, schema, before, m, after, n, run, number, to, records);
+    let to = put_rows(false, schema, after, n, before, m, run, number, to, records);
+    if to.count == 0 {
+        return 0;
+    }
+    let to = put_end(run, number, to, records);
+    to.count
+}

@@ -1,0 +1,104 @@
+// The commit of a transaction: strong references, collection, weak references, and limits, in this order.
+use model::Fault;
+ghost use mathlib.Core.Path.{_≡_};
+ghost use mathlib.Core.Bool.{not};
+ghost use mathlib.Core.List.{[]};
+ghost use Prim.Native.Nat.{ℕ, _+_, _*_, _≤_, _<_};
+ghost use lib.ListN.{length, take, drop, getD};
+ghost use Rattle.model.specs.Base.{any, all};
+ghost use Rattle.model.specs.Commit.{loose, lawful};
+ghost use Rattle.model.specs.Packed.{tablesIn};
+ghost use Rattle.model.specs.Working.{working};
+ghost use Rattle.references.specs.Links.{Accepted, referred};
+ghost use Rattle.commit.specs.Steps.{Committed};
+
+// What a commit says, and how many rows it leaves.
+pub struct Settled {
+    pub fault: Fault,
+    pub count: usize,
+}
+
+// Whether every row that the rows refer to, strongly (how 1) or weakly (how 2), is there.
+fn all_found(schema: &[[u8; 48]], how: u8, rows: &[[[u8; 25]; 25]], n: usize) -> bool
+    requires { ⌜ Accepted (now schema) ⌝ }
+    requires { ⌜ n ≤ length (now rows) ⌝ }
+    ensures { λ r. ⌜ r ≡ all (referred (tablesIn (now (schema .entry))) how (working (tablesIn (now (schema .entry))) n (now (rows .entry)))) (working (tablesIn (now (schema .entry))) n (now (rows .entry))) ⌝ }
+{
+    let mut i = 0;
+    while i < n {
+        if !references::row_found(&rows[i], schema, how, rows, n) {
+            return false;
+        }
+        i += 1;
+    }
+    true
+}
+
+// Whether a row of a table that is not root is held by no other.
+fn any_loose(schema: &[[u8; 48]], rows: &[[[u8; 25]; 25]], n: usize) -> bool
+    requires { ⌜ Accepted (now schema) ⌝ }
+    requires { ⌜ n ≤ length (now rows) ⌝ }
+    ensures { λ r. ⌜ r ≡ any (loose (tablesIn (now (schema .entry))) (working (tablesIn (now (schema .entry))) n (now (rows .entry)))) (working (tablesIn (now (schema .entry))) n (now (rows .entry))) ⌝ }
+{
+    let mut i = 0;
+    while i < n {
+        if settle::is_loose(schema, rows, n, &rows[i]) {
+            return true;
+        }
+        i += 1;
+    }
+    false
+}
+
+// The four steps of a commit on the first n rows.
+pub fn commit(schema: &[[u8; 48]], rows: &mut [[[u8; 25]; 25]], n: usize) -> Settled
+    requires { ⌜ Accepted (now schema) ⌝ }
+    requires { ⌜ n ≤ length (now rows) ⌝ }
+    ensures { λ r. ⌜ Committed (tablesIn (now (schema .entry))) n (now (rows .entry)) (now (rows .exit)) r ⌝ }
+{
+    if !all_found(schema, 1, rows, n) {
+        return Settled {
+            fault: Fault::Integrity,
+            count: n,
+        };
+    }
+    let m = settle::collect(schema, rows, n);
+    settle::weaken(schema, rows, m);
+    if !limits::all_enough(schema, rows, m) {
+        return Settled {
+            fault: Fault::Constraint,
+            count: m,
+        };
+    }
+    if !limits::tables_good(schema, rows, m) {
+        return Settled {
+            fault: Fault::Constraint,
+            count: m,
+        };
+    }
+    Settled {
+        fault: Fault::Fine,
+        count: m,
+    }
+}
+
+// Whether every commit rule holds of the first n rows.
+pub fn lawful(schema: &[[u8; 48]], rows: &[[[u8; 25]; 25]], n: usize) -> bool
+    requires { ⌜ Accepted (now schema) ⌝ }
+    requires { ⌜ n ≤ length (now rows) ⌝ }
+    ensures { λ r. ⌜ r ≡ lawful (tablesIn (now (schema .entry))) (working (tablesIn (now (schema .entry))) n (now (rows .entry))) ⌝ }
+{
+    if !all_found(schema, 1, rows, n) {
+        return false;
+    }
+    if any_loose(schema, rows, n) {
+        return false;
+    }
+    if !all_found(schema, 2, rows, n) {
+        return false;
+    }
+    if !limits::all_enough(schema, rows, n) {
+        return false;
+    }
+    limits::tables_good(schema, rows, n)
+}
