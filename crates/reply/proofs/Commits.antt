@@ -1,0 +1,159 @@
+-- A transaction's end: the commit, and the answer's text with it. Assumes nothing.
+use mathlib.Core.Path.{_≡_, refl, sym, ap, subst, _∙_}
+use mathlib.Core.Bool.{Bool, true, false}
+use mathlib.Core.List.{List, [], _∷_, _++_}
+use Prim.Native.Nat.{ℕ, _≤_}
+use native.Mathlib.Omega.{arith}
+use Rattle.model.specs.declared.Found.{Found}
+use Rattle.model.specs.declared.Fault.{Fault}
+use Rattle.model.specs.Text.{isNothing}
+use Rattle.model.specs.Schema.{Schema}
+use Rattle.model.specs.Rows.{Row}
+use Rattle.model.specs.Faults.{isFine}
+use Rattle.model.specs.Working.{working}
+use Rattle.model.specs.Answers.{bracketed, errorText}
+use Rattle.model.specs.Transact as model
+use Rattle.model.specs.Transact.{atCommit}
+use Rattle.model.proofs.Tests.{split, clash}
+use Rattle.model.proofs.TextUtf8.{by-test}
+use Rattle.answer.specs.Put.{Put}
+use Rattle.answer.specs.Texts.{commaText, errorResult}
+use Rattle.answer.proofs.Putting.{put-then, put-is}
+use Rattle.answer.proofs.Joins.{bracketed-is}
+use Rattle.uuids.specs.Named.{namesAt}
+use Rattle.commit.specs.declared.Settled.{Settled}
+use Rattle.commit.specs.Steps.{Committed}
+use Rattle.run.specs.declared.Ran.{Ran}
+use Rattle.reply.specs.declared.Outcome.{Outcome}
+use Rattle.run.specs.Running.{runWhole, RunAll}
+use Rattle.reply.specs.Replying.{committed, transactOn, closing, Closed, Ended}
+use Rattle.reply.proofs.Texts.{end-fine, end-failed, run-empty}
+
+-- ── the commit and the closing text ──
+closing-fine : (f : Fault) (first : Bool) → isFine f ≡ true → (93 ∷ []) ≡ closing f first
+unfolding closing
+closing-fine f first h = by-test (λ (e : List ℕ). (93 ∷ []) ≡ e) (isFine f) (λ t. refl) (λ t. absurd (clash (isFine f) h t))
+
+closing-failed : (f : Fault) (first : Bool) → isFine f ≡ false → commaText first ++ (errorResult f ++ 93 ∷ []) ≡ closing f first
+unfolding closing
+closing-failed f first h =
+    by-test (λ (e : List ℕ). commaText first ++ (errorResult f ++ 93 ∷ []) ≡ e) (isFine f) (λ t. absurd (clash (isFine f) t h)) (λ t. refl)
+
+module _ {s : Schema} {n : ℕ} {entry exit : List (List (List ℕ))} {c : Settled} (d : Committed s n entry exit c) where
+  fault-is : c .fault ≡ committed s (working s n entry) .fault
+  unfolding committed
+  fault-is = d .fault
+
+  rows-are : isFine (c .fault) ≡ true → working s (c .count) exit ≡ committed s (working s n entry) .got
+  unfolding committed
+  rows-are = d .rows
+
+  module _ (first : Bool) {at : ℕ} {before : List ℕ} where
+    pub closed-fine : isFine (c .fault) ≡ true → {end : ℕ} {after : List ℕ} → Put 1 before at (93 ∷ []) end after
+        → Closed s (committed s (working s n entry)) n entry exit first at before after (record { commits = true; count = c .count; at = end })
+    closed-fine h p =
+        let f : isFine (committed s (working s n entry) .fault) ≡ true = ap isFine (sym fault-is) ∙ h in
+        record {
+          commits = sym f;
+          rows = λ t. rows-are h;
+          few = d .few;
+          tidy = λ t q. d .tidy q h;
+          text = put-is p (closing-fine _ first f) (omega arith);
+        }
+
+    pub closed-failed : isFine (c .fault) ≡ false → {one two end : ℕ} {after1 after2 after : List ℕ} → Put 1 before at (commaText first) one after1 → Put 43 after1 one (errorResult (c .fault)) two after2
+        → Put 1 after2 two (93 ∷ []) end after → Closed s (committed s (working s n entry)) n entry exit first at before after (record { commits = false; count = n; at = end })
+    closed-failed h p q z =
+        let f : isFine (committed s (working s n entry) .fault) ≡ false = ap isFine (sym fault-is) ∙ h in
+        record {
+          commits = sym f;
+          rows = λ t. absurd (clash false t refl);
+          few = omega arith;
+          tidy = λ t. absurd (clash false t refl);
+          text = put-is (put-then p (put-then q z)) (ap (λ (x : Fault). commaText first ++ (errorResult x ++ 93 ∷ [])) fault-is ∙ closing-failed _ first f) (omega arith);
+        }
+
+-- ── the whole transaction ──
+module _ (s : Schema) (text : List ℕ) (ops : Found) (fresh : List ℕ) (rows : List Row) where
+  abbrev whole : model.Ran
+  whole = runWhole s text ops fresh rows
+
+  stopped-is : isFine (whole .fault) ≡ false → transactOn s text ops fresh rows ≡ record { commits = false; rows = rows; text = bracketed (whole .results) }
+  unfolding transactOn runWhole namesAt
+  stopped-is h =
+      by-test (λ (t : model.Transacted). t ≡ record { commits = false; rows = rows; text = bracketed (whole .results) }) (isFine (whole .fault)) (λ t. absurd (clash _ t h)) (λ t. refl)
+
+  went-on : isFine (whole .fault) ≡ true → transactOn s text ops fresh rows ≡ atCommit s rows whole
+  unfolding transactOn runWhole namesAt
+  went-on h = by-test (λ (t : model.Transacted). t ≡ atCommit s rows whole) (isFine (whole .fault)) (λ t. refl) (λ t. absurd (clash _ h t))
+
+module _ (s : Schema) (rows : List Row) (r : model.Ran) where
+  fine-is : isFine (committed s (r .rows) .fault) ≡ true → atCommit s rows r ≡ record { commits = true; rows = committed s (r .rows) .got; text = bracketed (r .results) }
+  unfolding committed
+  fine-is h =
+      by-test (λ (t : model.Transacted). t ≡ record { commits = true; rows = committed s (r .rows) .got; text = bracketed (r .results) }) (isFine (committed s (r .rows) .fault))
+      (λ t. refl) (λ t. absurd (clash _ h t))
+
+  failed-is : isFine (committed s (r .rows) .fault) ≡ false
+      → atCommit s rows r ≡ record { commits = false; rows = rows; text = bracketed (r .results ++ errorText (committed s (r .rows) .fault) ∷ []) }
+  unfolding committed
+  failed-is h =
+      by-test (λ (t : model.Transacted). t ≡ record { commits = false; rows = rows; text = bracketed (r .results ++ errorText (committed s (r .rows) .fault) ∷ []) }) (isFine (committed s (r .rows) .fault))
+      (λ t. absurd (clash _ t h)) (λ t. refl)
+
+module _ (s : Schema) (text : List ℕ) (ops : Found) (fresh : List ℕ) (n : ℕ) (entry : List (List (List ℕ))) {mid : List (List (List ℕ))} {before answer : List ℕ} {q : Ran}
+    (ran : RunAll s (runWhole s text ops fresh (working s n entry)) n entry mid before answer q) where
+  abbrev run : model.Ran
+  run = runWhole s text ops fresh (working s n entry)
+
+  abbrev done : model.Transacted
+  done = transactOn s text ops fresh (working s n entry)
+
+  pub ended-stopped : isFine (q .fault) ≡ false → n ≤ 32 → {end : ℕ} {after : List ℕ} → Put 1 answer (q .at) (93 ∷ []) end after
+      → Ended s done n entry mid before after (record { commits = false; count = n; at = end })
+  ended-stopped h k p =
+      let e = stopped-is s text ops fresh (working s n entry) (ap isFine (sym (ran .fault)) ∙ h) in
+      record {
+        commits = sym (ap (λ (t : model.Transacted). t .commits) e);
+        rows = λ t. absurd (clash false t refl);
+        stays = λ t. ap (λ (t : model.Transacted). t .rows) e;
+        few = k;
+        tidy = λ t. absurd (clash false t refl);
+        text = put-is (put-then (ran .answer) p) (bracketed-is (run .results) ∙ sym (ap (λ (t : model.Transacted). t .text) e)) (omega arith);
+      }
+
+  module _ (f : isFine (q .fault) ≡ true) where
+    went : done ≡ atCommit s (working s n entry) run
+    went = went-on s text ops fresh (working s n entry) (ap isFine (sym (ran .fault)) ∙ f)
+
+    module _ {exit : List (List (List ℕ))} {after : List ℕ} {r : Outcome} (c : Closed s (committed s (run .rows)) (q .count) mid exit (isNothing ops) (q .at) answer after r) where
+      after-fine : isFine (committed s (run .rows) .fault) ≡ true → Ended s done n entry exit before after r
+      after-fine h =
+          let e = went ∙ fine-is s (working s n entry) run h in
+          record {
+            commits = c .commits ∙ h ∙ sym (ap (λ (t : model.Transacted). t .commits) e);
+            rows = λ t. c .rows t ∙ sym (ap (λ (t : model.Transacted). t .rows) e);
+            stays = λ t. absurd (clash (r .commits) (c .commits ∙ h) t);
+            few = omega (arith, c .few, ran .few);
+            tidy = λ t x. c .tidy t (ran .tidy f x);
+            text = put-is (put-then (ran .answer) (c .text)) (end-fine (run .results) _ (isNothing ops) h ∙ sym (ap (λ (t : model.Transacted). t .text) e)) (omega arith);
+          }
+
+      after-failed : isFine (committed s (run .rows) .fault) ≡ false → Ended s done n entry exit before after r
+      after-failed h =
+          let e = went ∙ failed-is s (working s n entry) run h in
+          record {
+            commits = c .commits ∙ h ∙ sym (ap (λ (t : model.Transacted). t .commits) e);
+            rows = λ t. absurd (clash (r .commits) t (c .commits ∙ h));
+            stays = λ t. ap (λ (t : model.Transacted). t .rows) e;
+            few = omega (arith, c .few, ran .few);
+            tidy = λ t. absurd (clash (r .commits) t (c .commits ∙ h));
+            text = put-is (put-then (ran .answer) (c .text)) (end-failed (run .results) _ (isNothing ops) h (run-empty s text ops fresh (working s n entry)) ∙ sym (ap (λ (t : model.Transacted). t .text) e)) (omega arith);
+          }
+
+    pub ended-commit : {first : Bool} → first ≡ isNothing ops → {exit : List (List (List ℕ))} {after : List ℕ} {r : Outcome}
+        → Closed s (committed s (working s (q .count) mid)) (q .count) mid exit first (q .at) answer after r → Ended s done n entry exit before after r
+    ended-commit {first} e {exit} {after} {r} c =
+        let c1 = subst (λ (b : Bool). Closed s (committed s (working s (q .count) mid)) (q .count) mid exit b (q .at) answer after r) e c in
+        let c2 = subst (λ (l : List Row). Closed s (committed s l) (q .count) mid exit (isNothing ops) (q .at) answer after r) (ran .rows f) c1 in
+        split (isFine (committed s (run .rows) .fault)) (after-fine c2) (after-failed c2)

@@ -1,0 +1,6 @@
+pub mod Texts
+pub mod Commits
+pub mod Asking
+pub mod Telling
+pub mod Replies
+pub mod Stored

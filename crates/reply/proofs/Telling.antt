@@ -1,0 +1,178 @@
+-- What is told in the end: refusals 7 and 10, and what is given where neither applies. Assumes nothing.
+use mathlib.Core.Path.{_≡_, refl, sym, ap, subst, _∙_}
+use mathlib.Core.Bool.{true, false}
+use mathlib.Core.List.{List, [], map}
+use Prim.Native.Nat.{ℕ, _+_, _≤_, _<_}
+use native.Mathlib.Omega.{arith}
+use borrow.Author.Tests.{le-leb, lt-leb}
+use lib.Dec.{leb}
+use lib.ListN.{length, take, replicate, length-replicate}
+use lib.Seq.{take-all}
+use Rattle.model.specs.declared.Found.{Found}
+use Rattle.model.specs.declared.Answer.{Answer}
+use Rattle.model.specs.declared.Answer.the-variants.{Accepted, AnswerTooLong, NumbersSpent}
+use Rattle.model.specs.Octets.{filled}
+use Rattle.model.specs.Limits.{lastNumber}
+use Rattle.model.specs.Base.{flat}
+use Rattle.model.specs.Schema.{Schema}
+use Rattle.model.specs.Rows.{Row}
+use Rattle.model.specs.Areas.{rowFrom}
+use Rattle.model.specs.Working.{working, Tidy}
+use Rattle.model.specs.Records.{Change, diff, numberFrom, encode}
+use Rattle.model.specs.Refusals.{isRefusal}
+use Rattle.model.specs.Transact.{Transacted}
+use Rattle.model.specs.Replies.{Reply, refused, changesOf, numbered}
+use Rattle.model.proofs.Tests.{clash}
+use Rattle.model.proofs.TextUtf8.{by-test}
+use Rattle.answer.specs.Put.{putAt}
+use Rattle.answer.proofs.Putting.{put-zeros}
+use Rattle.reply.specs.declared.Outcome.{Outcome}
+use Rattle.reply.specs.declared.Effect.{Effect}
+use Rattle.reply.specs.Replying.{transactOn, toldOf, Ended, Refused, Replied}
+
+-- a buffer to which nothing was written
+filled-none : (n : ℕ) → replicate n 0 ≡ filled n []
+filled-none n = sym (take-all n (replicate n 0) (omega (arith, length-replicate {A = ℕ} n 0)))
+
+-- ── the two refusals, and what is given else ──
+module _ (s : Schema) (number : ℕ) (rows : List Row) (room : ℕ) (t : Transacted) where
+  pub told-long : room < length (t .text) → toldOf s number rows room t ≡ refused AnswerTooLong rows
+  unfolding toldOf
+  told-long h = by-test (λ (r : Reply). r ≡ refused AnswerTooLong rows) (leb (length (t .text)) room) (λ e. absurd (clash _ e (lt-leb (length (t .text)) room h))) (λ e. refl)
+
+  module _ (h : length (t .text) ≤ room) where
+    told-fits : {es : List Change} → changesOf s rows t ≡ es → toldOf s number rows room t ≡ numbered number rows t es
+    unfolding toldOf
+    told-fits e =
+        by-test (λ (r : Reply). r ≡ numbered number rows t (changesOf s rows t)) (leb (length (t .text)) room) (λ e. refl) (λ e. absurd (clash _ (le-leb (length (t .text)) room h) e))
+        ∙ ap (numbered number rows t) e
+
+    module _ (es : List Change) where
+      enough : number + length es ≤ lastNumber → numbered number rows t es ≡ record { answer = Accepted; rows = t .rows; changes = es; text = t .text }
+      enough k =
+          by-test (λ (r : Reply). r ≡ record { answer = Accepted; rows = t .rows; changes = es; text = t .text }) (leb (number + length es) lastNumber) (λ e. refl)
+          (λ e. absurd (clash _ (le-leb (number + length es) lastNumber k) e))
+
+      spent : lastNumber < number + length es → numbered number rows t es ≡ refused NumbersSpent rows
+      spent k = by-test (λ (r : Reply). r ≡ refused NumbersSpent rows) (leb (number + length es) lastNumber) (λ e. absurd (clash _ e (lt-leb (number + length es) lastNumber k))) (λ e. refl)
+
+    pub told-stays : t .commits ≡ false → number ≤ lastNumber → toldOf s number rows room t ≡ record { answer = Accepted; rows = t .rows; changes = []; text = t .text }
+    told-stays c k =
+        let z : number + 0 ≤ lastNumber = omega arith in
+        told-fits (by-test (λ (l : List Change). l ≡ []) (t .commits) (λ e. absurd (clash _ e c)) (λ e. refl)) ∙ enough [] z
+
+    module _ (c : t .commits ≡ true) where
+      some-changes : changesOf s rows t ≡ diff s rows (t .rows)
+      some-changes = by-test (λ (l : List Change). l ≡ diff s rows (t .rows)) (t .commits) (λ e. refl) (λ e. absurd (clash _ c e))
+
+      pub told-given : number + length (diff s rows (t .rows)) ≤ lastNumber → toldOf s number rows room t ≡ record { answer = Accepted; rows = t .rows; changes = diff s rows (t .rows); text = t .text }
+      told-given k = told-fits some-changes ∙ enough (diff s rows (t .rows)) k
+
+      pub told-spent : lastNumber < number + length (diff s rows (t .rows)) → toldOf s number rows room t ≡ refused NumbersSpent rows
+      told-spent k = told-fits some-changes ∙ spent (diff s rows (t .rows)) k
+
+-- ── a transaction on a copy of the rows ──
+pub working-same : (s : Schema) (n : ℕ) (rows before : List (List (List ℕ))) → take n rows ≡ take n before → working s n rows ≡ working s n before
+unfolding working
+working-same s n rows before e = ap (map (rowFrom s)) e
+
+pub ended-same : (s : Schema) (text : List ℕ) (ops : Found) (fresh : List ℕ) (n : ℕ) {rows before exit : List (List (List ℕ))} {from to : List ℕ} {r : Outcome} → take n rows ≡ take n before
+    → Ended s (transactOn s text ops fresh (working s n rows)) n rows exit from to r → Ended s (transactOn s text ops fresh (working s n before)) n before exit from to r
+ended-same s text ops fresh n {rows} {before} {exit} {from} {to} {r} e d =
+    let w = working-same s n rows before e in
+    let x = subst (λ (l : List Row). Ended s (transactOn s text ops fresh l) n rows exit from to r) w d in
+    record {
+      commits = x .commits;
+      rows = x .rows;
+      stays = λ t. x .stays t ∙ w;
+      few = x .few;
+      tidy = λ t q. x .tidy t (subst (Tidy s) (sym e) q);
+      text = x .text;
+    }
+
+-- ── the whole ──
+module _ (s : Schema) (d : Reply) (run number n : ℕ) (before exit : List (List (List ℕ))) (recordsIn textIn : List ℕ) (low : number ≤ lastNumber) (records : List ℕ) (same : length records ≡ length recordsIn) where
+  pub replied-refused : {why : Answer} → d ≡ refused why (working s n before) → isRefusal why ≡ true → {text recordsOut textOut : List ℕ} {r : Effect} → Refused why records recordsOut text textOut r
+      → length text ≡ length textIn → Replied s d run number n before exit recordsIn recordsOut textIn textOut r
+  replied-refused {why} e h {text} {recordsOut} {textOut} {r} x l =
+      let b : recordsOut ≡ replicate (length recordsIn) 0 = x .records ∙ ap (λ (k : ℕ). replicate k 0) same in
+      let c : textOut ≡ replicate (length textIn) 0 = x .text ∙ ap (λ (k : ℕ). replicate k 0) l in
+      let no : r .commits ≡ false = ap (λ (r : Effect). r .commits) (x .is) in
+      record {
+        answer = ap (λ (r : Effect). r .answer) (x .is) ∙ sym (ap (λ (d : Reply). d .answer) e);
+        refuses = λ t. no;
+        rows = λ t. absurd (clash (r .commits) t no);
+        stays = λ t. ap (λ (d : Reply). d .rows) e;
+        few = omega (arith, ap (λ (r : Effect). r .count) (x .is));
+        tidy = λ t. absurd (clash (r .commits) t no);
+        changes = ap (λ (r : Effect). r .changes) (x .is) ∙ sym (ap (λ (d : Reply). length (d .changes)) e);
+        none = λ t. ap (λ (r : Effect). r .changes) (x .is);
+        last = omega (arith, low, ap (λ (r : Effect). r .changes) (x .is));
+        records = b ∙ filled-none (length recordsIn) ∙ ap (λ (d : Reply). filled (length recordsIn) (flat (map encode (numberFrom run number (d .changes))))) (sym e);
+        text = c ∙ filled-none (length textIn) ∙ ap (λ (d : Reply). filled (length textIn) (d .text)) (sym e);
+        blank = λ t. (b, c);
+      }
+
+  module _ {t : Transacted} (told : d ≡ toldOf s number (working s n before) (length textIn) t) {text textOut : List ℕ} (blank : text ≡ replicate (length textIn) 0) {o : Outcome} (e : Ended s t n before exit text textOut o) where
+    pub replied-long : length textIn < o .at → d ≡ refused AnswerTooLong (working s n before)
+    replied-long h = told ∙ told-long s number (working s n before) (length textIn) t (omega (arith, h, e .text .count))
+
+    module _ (short : o .at ≤ length textIn) where
+      fits : length (t .text) ≤ length textIn
+      fits = omega (arith, short, e .text .count)
+
+      text-is : textOut ≡ filled (length textIn) (t .text)
+      text-is = e .text .out ∙ ap (λ (l : List ℕ). putAt l 0 (t .text)) blank ∙ put-zeros (length textIn) (t .text)
+
+      pub replied-stays : o .commits ≡ false → n ≤ 32 → {recordsOut : List ℕ} → recordsOut ≡ replicate (length records) 0
+          → Replied s d run number n before exit recordsIn recordsOut textIn textOut (record { answer = Accepted; commits = false; count = n; changes = 0 })
+      replied-stays c k b =
+          let w = told ∙ told-stays s number (working s n before) (length textIn) t fits (sym (e .commits) ∙ c) low in
+          record {
+            answer = sym (ap (λ (d : Reply). d .answer) w);
+            refuses = λ x. refl;
+            rows = λ x. absurd (clash false x refl);
+            stays = λ x. ap (λ (d : Reply). d .rows) w ∙ e .stays c;
+            few = k;
+            tidy = λ x. absurd (clash false x refl);
+            changes = sym (ap (λ (d : Reply). length (d .changes)) w);
+            none = λ x. refl;
+            last = omega (arith, low);
+            records = b ∙ ap (λ (k : ℕ). replicate k 0) same ∙ filled-none (length recordsIn) ∙ ap (λ (d : Reply). filled (length recordsIn) (flat (map encode (numberFrom run number (d .changes))))) (sym w);
+            text = text-is ∙ ap (λ (d : Reply). filled (length textIn) (d .text)) (sym w);
+            blank = λ x. absurd (clash false x refl);
+          }
+
+      module _ (c : o .commits ≡ true) {k : ℕ} (count : k ≡ length (diff s (working s n before) (working s (o .count) exit))) where
+        rows-are : working s (o .count) exit ≡ t .rows
+        rows-are = e .rows c
+
+        count-is : k ≡ length (diff s (working s n before) (t .rows))
+        count-is = count ∙ ap (λ (l : List Row). length (diff s (working s n before) l)) rows-are
+
+        pub replied-spent : 4294967295 < number + k → d ≡ refused NumbersSpent (working s n before)
+        replied-spent h = told ∙ told-spent s number (working s n before) (length textIn) t fits (sym (e .commits) ∙ c) (subst (λ (k : ℕ). 4294967295 < number + k) count-is h)
+
+        pub replied-given : number + k ≤ 4294967295 → {recordsOut : List ℕ}
+            → recordsOut ≡ filled (length records) (flat (map encode (numberFrom run number (diff s (working s n before) (working s (o .count) exit)))))
+            → Replied s d run number n before exit recordsIn recordsOut textIn textOut (record { answer = Accepted; commits = true; count = o .count; changes = k })
+        replied-given h b =
+            let w = told ∙ told-given s number (working s n before) (length textIn) t fits (sym (e .commits) ∙ c) (subst (λ (k : ℕ). number + k ≤ 4294967295) count-is h) in
+            record {
+              answer = sym (ap (λ (d : Reply). d .answer) w);
+              refuses = λ x. absurd (clash false x refl);
+              rows = λ x. rows-are ∙ sym (ap (λ (d : Reply). d .rows) w);
+              stays = λ x. absurd (clash true refl x);
+              few = e .few;
+              tidy = λ x. e .tidy c;
+              changes = count-is ∙ sym (ap (λ (d : Reply). length (d .changes)) w);
+              none = λ x. absurd (clash true refl x);
+              last = h;
+              records =
+                  b
+                  ∙ ap (λ (m : ℕ). filled m (flat (map encode (numberFrom run number (diff s (working s n before) (working s (o .count) exit)))))) same
+                  ∙ ap (λ (l : List Row). filled (length recordsIn) (flat (map encode (numberFrom run number (diff s (working s n before) l))))) rows-are
+                  ∙ ap (λ (d : Reply). filled (length recordsIn) (flat (map encode (numberFrom run number (d .changes))))) (sym w);
+              text = text-is ∙ ap (λ (d : Reply). filled (length textIn) (d .text)) (sym w);
+              blank = λ x. absurd (clash false x refl);
+            }

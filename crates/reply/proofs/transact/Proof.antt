@@ -1,0 +1,64 @@
+-- `reply::transact` meets its contract. Assumes nothing.
+use mathlib.Core.Path.{sym, _∙_}
+use native.Mathlib.Omega.{arith}
+use Rattle.model.specs.Packed.{tablesIn}
+use Rattle.reply.proofs.Commits.{ended-commit, ended-stopped}
+use borrow.Author.Needs.{needs}
+use Rattle.reply.proofs.transact.Statement.{statement}
+use Rattle.reply.proofs.transact.Tie as tie
+
+run-requires : tie.Need-run-requires
+run-requires c κs = search needs
+
+is-fine-requires : tie.Need-is-fine-requires
+is-fine-requires c κs = search needs
+
+is-nothing-requires : tie.Need-is-nothing-requires
+is-nothing-requires c κs = search needs
+
+at-commit-requires : tie.Need-at-commit-requires
+at-commit-requires c κs =
+    let a = c .before .before .before .before .before .before .before .before .before .before .before .before .before .before .before in
+    let r = c .before .before .before .before .before .before .before .before .run in
+    (a .pre .1 .0, (omega (arith, r .ensures .few, r .kept .1 .1 .1 .1 .1 .0, a .pre .1 .1 .1 .1 .1), omega (arith, r .ensures .answer .short)))
+
+same-length : tie.Need-same-length
+same-length c = search needs
+
+same-length-2 : tie.Need-same-length-2
+same-length-2 c = search needs
+
+returns : tie.Need-returns
+returns c =
+    let a = c .before .before .before .before .before .before .before .before .before .before .before .before .before .before .before .before .before .before .before in
+    ended-commit (tablesIn (a .args .schema .now)) (a .args .text .now) (a .args .ops) (a .args .fresh .now) (a .args .n) (a .args .rows .now) (c .before .before .before .before .before .before .before .before .before .before .before .before .run .ensures) (sym (c .before .before .before .before .before .before .before .before .is-fine .ensures) ∙ c .before .before .before .before .before .before .before .if1 .taken) (c .before .before .before .before .before .before .is-nothing .ensures) (c .before .before .before .at-commit .ensures)
+
+put-byte-requires : tie.Need-put-byte-requires
+put-byte-requires c κs = search needs
+
+same-length-3 : tie.Need-same-length-3
+same-length-3 c = search needs
+
+same-length-4 : tie.Need-same-length-4
+same-length-4 c = search needs
+
+returns-2 : tie.Need-returns-2
+returns-2 c =
+    let a = c .before .before .before .before .before .before .before .before .before .before .before .before .before .before .before .before in
+    ended-stopped (tablesIn (a .args .schema .now)) (a .args .text .now) (a .args .ops) (a .args .fresh .now) (a .args .n) (a .args .rows .now) (c .before .before .before .before .before .before .before .before .before .run .ensures) (sym (c .before .before .before .before .before .is-fine .ensures) ∙ c .before .before .before .before .if1 .left) (a .pre .1 .1 .1 .1 .0) (c .before .before .put-byte .ensures)
+
+pub transact-spec : {M : Type 1} → statement M
+transact-spec =
+    tie.close
+    (tie.spec
+    run-requires
+    is-fine-requires
+    is-nothing-requires
+    at-commit-requires
+    same-length
+    same-length-2
+    returns
+    put-byte-requires
+    same-length-3
+    same-length-4
+    returns-2)

@@ -1,0 +1,241 @@
+// A transact on a store's state: from a request's text to the answer, the rows after it and the records.
+use model::Answer;
+use model::Fault;
+use model::Found;
+ghost use mathlib.Core.Path.{_≡_};
+ghost use Prim.Native.Nat.{_≤_, _<_, _+_, _^_};
+ghost use lib.ListN.{length, take};
+ghost use Rattle.model.specs.Nav.{itemsFrom};
+ghost use Rattle.model.specs.Text.{isNothing};
+ghost use Rattle.model.specs.Faults.{isFine};
+ghost use Rattle.model.specs.Working.{working};
+ghost use Rattle.model.specs.Packed.{tablesIn};
+ghost use Rattle.area.specs.Layout.{Sized};
+ghost use Rattle.references.specs.Links.{Accepted};
+ghost use Rattle.uuids.specs.Named.{Running};
+ghost use Rattle.reply.specs.Replying.{committed, transactOn, replyOn, Closed, Ended, Asked, Refused, Replied};
+
+// What a transaction comes to: whether it commits, how many rows there are then, and where the answer ends.
+pub struct Outcome {
+    pub commits: bool,
+    pub count: usize,
+    pub at: usize,
+}
+
+// What is asked: whether it is run, the refusal where it is not, and the place of the first operation.
+pub struct Question {
+    pub runs: bool,
+    pub answer: Answer,
+    pub ops: Found,
+}
+
+// What a transact answers: whether it commits, how many rows there are then, and how many record numbers it gives out.
+pub struct Effect {
+    pub answer: Answer,
+    pub commits: bool,
+    pub count: usize,
+    pub changes: usize,
+}
+
+// Whether there is no fault.
+fn is_fine(f: Fault) -> bool
+    ensures { λ r. ⌜ r ≡ isFine f ⌝ }
+{
+    match f {
+        Fault::Fine => true,
+        Fault::Syntax => false,
+        Fault::Resources => false,
+        Fault::Duplicate => false,
+        Fault::Constraint => false,
+        Fault::Domain => false,
+        Fault::Range => false,
+        Fault::Aborted => false,
+        Fault::Integrity => false,
+    }
+}
+
+// Whether there is no place.
+fn is_nothing(f: Found) -> bool
+    ensures { λ r. ⌜ r ≡ isNothing f ⌝ }
+{
+    match f {
+        Found::At(_) => false,
+        Found::Nothing => true,
+    }
+}
+
+// Commits the first n rows and ends the answer: by a bracket, and before it an error object where the commit fails.
+fn at_commit(
+    schema: &[[u8; 48]; 29],
+    rows: &mut [[[u8; 25]; 25]],
+    n: usize,
+    first: bool,
+    answer: &mut [u8],
+    at: usize,
+) -> Outcome
+    requires { ⌜ Accepted (now schema) ⌝ }
+    requires { ⌜ n ≤ length (now rows) ⌝ }
+    requires { ⌜ at + 45 < 2 ^ 64 ⌝ }
+    ensures { λ r. ⌜ Closed (tablesIn (now (schema .entry))) (committed (tablesIn (now (schema .entry))) (working (tablesIn (now (schema .entry))) n (now (rows .entry)))) n (now (rows .entry)) (now (rows .exit)) first at (now (answer .entry)) (now (answer .exit)) r ⌝ }
+{
+    let c = commit::commit(&schema[..], rows, n);
+    let f = c.fault;
+    if is_fine(f) {
+        let end = answer::put_byte(answer, at, 93);
+        return Outcome {
+            commits: true,
+            count: c.count,
+            at: end,
+        };
+    }
+    let end = answer::put_comma(answer, at, first);
+    let end = answer::put_error(answer, end, f);
+    let end = answer::put_byte(answer, end, 93);
+    Outcome {
+        commits: false,
+        count: n,
+        at: end,
+    }
+}
+
+// Runs the operations and commits, with the answer's whole text.
+fn transact(
+    text: &[u8],
+    ends: &[u16],
+    ops: Found,
+    fresh: &[u8],
+    schema: &[[u8; 48]; 29],
+    rows: &mut [[[u8; 25]; 25]],
+    n: usize,
+    answer: &mut [u8],
+) -> Outcome
+    requires { ⌜ Running (now text) (now ends) ops (now fresh) ⌝ }
+    requires { ⌜ Accepted (now schema) ⌝ }
+    requires { ⌜ Sized (now schema) ⌝ }
+    requires { ⌜ length (itemsFrom (now text) ops) ≤ 16 ⌝ }
+    requires { ⌜ (n ≤ 32) × (32 ≤ length (now rows)) ⌝ }
+    ensures { λ r. ⌜ Ended (tablesIn (now (schema .entry))) (transactOn (tablesIn (now (schema .entry))) (now (text .entry)) ops (now (fresh .entry)) (working (tablesIn (now (schema .entry))) n (now (rows .entry)))) n (now (rows .entry)) (now (rows .exit)) (now (answer .entry)) (now (answer .exit)) r ⌝ }
+{
+    let ran = run::run(text, ends, ops, fresh, schema, rows, n, answer);
+    let f = ran.fault;
+    if is_fine(f) {
+        let first = is_nothing(ops);
+        return at_commit(schema, rows, ran.count, first, answer, ran.at);
+    }
+    let end = answer::put_byte(answer, ran.at, 93);
+    Outcome {
+        commits: false,
+        count: n,
+        at: end,
+    }
+}
+
+// Reads a request, and judges its database's name and the fresh ids.
+fn judge(
+    schema: &[[u8; 48]; 29],
+    before: &[[[u8; 25]; 25]],
+    n: usize,
+    request: &[u8],
+    ends: &mut [u16],
+    fresh: &[u8],
+) -> Question
+    requires { ⌜ (length (now fresh) ≡ 256) × (n ≤ length (now before)) ⌝ }
+    ensures { λ r. ⌜ Asked (now (schema .entry)) n (now (before .entry)) (now (request .entry)) (now (fresh .entry)) (now (ends .exit)) r ⌝ }
+{
+    let q = request::read(request, ends);
+    if !q.fits {
+        return Question {
+            runs: false,
+            answer: Answer::BadRequest,
+            ops: Found::Nothing,
+        };
+    }
+    if !text::is_word(request, q.name, names::cell_name(&schema[0])) {
+        return Question {
+            runs: false,
+            answer: Answer::OtherDatabase,
+            ops: Found::Nothing,
+        };
+    }
+    if !fresh::ids_good(fresh, before, n) {
+        return Question {
+            runs: false,
+            answer: Answer::BadFreshIds,
+            ops: Found::Nothing,
+        };
+    }
+    let ops = q.ops;
+    Question {
+        runs: true,
+        answer: Answer::Accepted,
+        ops,
+    }
+}
+
+// Refuses: both buffers are all zero.
+fn refuse(why: Answer, records: &mut [u8], answer: &mut [u8]) -> Effect
+    ensures { λ r. ⌜ Refused why (now (records .entry)) (now (records .exit)) (now (answer .entry)) (now (answer .exit)) r ⌝ }
+{
+    octets::clear(records);
+    octets::clear(answer);
+    Effect {
+        answer: why,
+        commits: false,
+        count: 0,
+        changes: 0,
+    }
+}
+
+// A request on the first n rows of a store, `before`, of which `rows` is a copy to work on.
+pub fn reply(
+    schema: &[[u8; 48]; 29],
+    run: u32,
+    number: u32,
+    before: &[[[u8; 25]; 25]],
+    n: usize,
+    rows: &mut [[[u8; 25]; 25]],
+    request: &[u8],
+    fresh: &[u8],
+    records: &mut [u8],
+    answer: &mut [u8],
+) -> Effect
+    requires { ⌜ Accepted (now schema) ⌝ }
+    requires { ⌜ Sized (now schema) ⌝ }
+    requires { ⌜ (n ≤ 32) × (32 ≤ length (now before)) × (32 ≤ length (now rows)) ⌝ }
+    requires { ⌜ take n (now rows) ≡ take n (now before) ⌝ }
+    requires { ⌜ (length (now fresh) ≡ 256) × (26249 ≤ length (now records)) ⌝ }
+    ensures { λ r. ⌜ Replied (tablesIn (now (schema .entry))) (replyOn (now (schema .entry)) number n (now (before .entry)) (now (request .entry)) (now (fresh .entry)) (length (now (answer .entry)))) run number n (now (before .entry)) (now (rows .exit)) (now (records .entry)) (now (records .exit)) (now (answer .entry)) (now (answer .exit)) r ⌝ }
+{
+    let mut ends = [0u16; 8192];
+    let q = judge(schema, before, n, request, &mut ends[..], fresh);
+    let why = q.answer;
+    if !q.runs {
+        return refuse(why, records, answer);
+    }
+    let ops = q.ops;
+    octets::clear(answer);
+    let o = transact(request, &ends[..], ops, fresh, schema, rows, n, answer);
+    if answer.len() < o.at {
+        return refuse(Answer::AnswerTooLong, records, answer);
+    }
+    if !o.commits {
+        octets::clear(records);
+        return Effect {
+            answer: Answer::Accepted,
+            commits: false,
+            count: n,
+            changes: 0,
+        };
+    }
+    let k = changes::write(&schema[..], before, n, rows, o.count, run, number, records);
+    let left = (4294967295 - number) as usize;
+    if left < k {
+        return refuse(Answer::NumbersSpent, records, answer);
+    }
+    Effect {
+        answer: Answer::Accepted,
+        commits: true,
+        count: o.count,
+        changes: k,
+    }
+}

@@ -1,0 +1,88 @@
+-- `store::mark` meets its contract. Assumes nothing.
+use mathlib.Core.Path.{_≡_, _∙_}
+use native.Mathlib.Omega.{arith}
+use borrow.Author.Needs.{needs}
+use borrow.Author.Tests.{not-true, not-false}
+use Rattle.store.proofs.Laws.{mark-length, mark-short, mark-disordered, mark-made}
+use Rattle.store.proofs.mark.Statement.{statement}
+use Rattle.store.proofs.mark.Tie as tie
+
+clear-requires : tie.Need-clear-requires
+clear-requires c κs = search needs
+
+same-length : tie.Need-same-length
+same-length c = search needs
+
+returns : tie.Need-returns
+returns c =
+    let a = c .before .before .before .before .before .before .before .args in
+    let z = mark-length (a .area .now) (a .mark .now) (c .if1 .taken) in
+    (z .0, c .before .before .before .clear .ensures ∙ z .1)
+
+same-length-2 : tie.Need-same-length-2
+same-length-2 c = search needs
+
+returns-2 : tie.Need-returns-2
+returns-2 c =
+    let a = c .before .before .before .before .before .before .before .before .args in
+    let z = mark-short (a .area .now) (a .mark .now) (c .before .if1 .left) (omega (arith, c .before .before .before .before .clear .kept .0, c .if2 .taken)) in
+    (z .0, c .before .before .before .before .clear .ensures ∙ z .1)
+
+slice-aggregate-held : tie.Need-slice-aggregate-held
+slice-aggregate-held c = search needs
+
+held-requires : tie.Need-held-requires
+held-requires c κs = search needs
+
+same-length-3 : tie.Need-same-length-3
+same-length-3 c = search needs
+
+returns-3 : tie.Need-returns-3
+returns-3 c =
+    let a = c .before .before .before .before .before .before .before .before .before .before .before .before .before .args in
+    let z = mark-disordered (a .area .now) (a .mark .now) (c .before .before .before .before .before .before .if1 .left) (omega (arith, c .before .before .before .before .before .before .before .before .before .clear .kept .0, c .before .before .before .before .before .if2 .left)) (c .before .before .held .ensures .bad (not-true _ (c .if3 .taken))) in
+    (z .0, c .before .before .before .before .before .before .before .before .before .clear .ensures ∙ z .1)
+
+run-of-requires : tie.Need-run-of-requires
+run-of-requires c κs = search needs
+
+number-of-requires : tie.Need-number-of-requires
+number-of-requires c κs = search needs
+
+new-requires : tie.Need-new-requires
+new-requires c κs = search needs
+
+write-requires : tie.Need-write-requires
+write-requires c κs = search needs
+
+same-length-4 : tie.Need-same-length-4
+same-length-4 c = search needs
+
+returns-4 : tie.Need-returns-4
+returns-4 c =
+    let a = c .before .before .before .before .before .before .before .before .before .before .before .before .before .before .before .before .before .before .before .before .args in
+    let w = c .before .before .write in
+    let h = c .before .before .before .before .before .before .before .before .before .held in
+    mark-made (a .area .now) (a .mark .now) (c .before .before .before .before .before .before .before .before .before .before .before .before .before .if1 .left) (omega (arith, c .before .before .before .before .before .before .before .before .before .before .before .before .before .before .before .before .clear .kept .0, c .before .before .before .before .before .before .before .before .before .before .before .before .if2 .left)) (h .last .1 .0) (h .last .1 .1 .0) (h .ensures .good (not-false _ (c .before .before .before .before .before .before .before .if3 .left)))
+    (c .before .before .before .before .new .result) (c .before .before .before .before .before .before .run-of .result) (c .before .before .before .before .before .number-of .result) (c .before .before .before .before .new .ensures) (c .before .before .before .before .before .before .run-of .ensures) (c .before .before .before .before .before .number-of .ensures)
+    (c .before .before .before .before .before .before .before .before .before .before .before .before .before .before .before .before .clear .last .0) (w .last .1 .0) (c .before .before .before .before .before .before .before .before .before .before .before .before .before .before .before .before .clear .ensures) (w .ensures)
+
+pub mark-spec : {M : Type 1} → statement M
+mark-spec =
+    tie.close
+    (tie.spec
+    clear-requires
+    same-length
+    returns
+    same-length-2
+    returns-2
+    slice-aggregate-held
+    held-requires
+    same-length-3
+    returns-3
+    run-of-requires
+    number-of-requires
+    new-requires
+    write-requires
+    same-length-4
+    returns-4)

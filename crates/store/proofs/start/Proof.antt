@@ -1,0 +1,53 @@
+-- `store::start` meets its contract. Assumes nothing.
+use mathlib.Core.Path.{_≡_, sym, _∙_}
+use mathlib.Core.List.{[]}
+use native.Mathlib.Omega.{arith}
+use borrow.Author.Needs.{needs}
+use borrow.Author.Tests.{not-true, not-false}
+use Rattle.model.proofs.Accepted.{text-short}
+use Rattle.store.proofs.Laws.{start-length, start-schema, start-made}
+use Rattle.store.proofs.start.Statement.{statement}
+use Rattle.store.proofs.start.Tie as tie
+
+returns : tie.Need-returns
+returns c =
+    let a = c .before .before .before .args in
+    start-length (a .area .now) (a .schema .now) (a .run) (c .if1 .taken)
+
+read-requires : tie.Need-read-requires
+read-requires c κs = search needs
+
+returns-2 : tie.Need-returns-2
+returns-2 c =
+    let a = c .before .before .before .before .before .before .args in
+    start-schema (a .area .now) (a .schema .now) (a .run) (c .before .before .before .if1 .left) (sym (c .before .read .ensures .accepted) ∙ not-true _ (c .if2 .taken))
+
+slice-aggregate-write-store : tie.Need-slice-aggregate-write-store
+slice-aggregate-write-store c = search needs
+
+write-store-requires : tie.Need-write-store-requires
+write-store-requires c κs =
+    let a = c .before .before .before .before .before .before .before .before .args in
+    let e = sym (c .before .before .before .read .ensures .accepted) ∙ not-false _ (c .before .before .if2 .left) in
+    ((omega (arith, c .before .before .before .before .before .if1 .left), text-short (a .schema .now) e), (omega arith, omega arith))
+
+same-length : tie.Need-same-length
+same-length c = search needs
+
+returns-3 : tie.Need-returns-3
+returns-3 c =
+    let a = c .before .before .before .before .before .before .before .before .before .before .before .args in
+    let e = sym (c .before .before .before .before .before .before .read .ensures .accepted) ∙ not-false _ (c .before .before .before .before .before .if2 .left) in
+    start-made (a .area .now) (a .schema .now) (a .run) (c .before .before .before .before .before .before .before .before .if1 .left) [] _ (c .before .before .write-store .last .0) e (c .before .before .write-store .ensures [] tt)
+
+pub start-spec : {M : Type 1} → statement M
+start-spec =
+    tie.close
+    (tie.spec
+    returns
+    read-requires
+    returns-2
+    slice-aggregate-write-store
+    write-store-requires
+    same-length
+    returns-3)

@@ -1,0 +1,60 @@
+// The calls of a store.
+use model::Answer;
+use record::Mark;
+ghost use mathlib.Core.Path.{_≡_};
+ghost use Rattle.model.specs.Calls.{storeStart, storeTransact, storeMark};
+
+// Makes a store of a schema's text and a run, with no rows and number 0.
+pub fn start(area: &mut [u8], schema: &[u8], run: u32) -> Answer
+    ensures { λ r. ⌜ r ≡ storeStart (now (area .entry)) (now (schema .entry)) run .answer ⌝ }
+    ensures { λ r. ⌜ now (area .exit) ≡ storeStart (now (area .entry)) (now (schema .entry)) run .area ⌝ }
+{
+    if area.len() != 24107 {
+        return Answer::WrongLength;
+    }
+    let mut cells = [[0u8; 48]; 29];
+    if !schema::read(schema, &mut cells) {
+        return Answer::BadSchema;
+    }
+    let rows = [[[0u8; 25]; 25]; 1];
+    area::write_store(area, run, 0, schema, &rows, 0);
+    Answer::Accepted
+}
+
+// Runs a request's operations and commits them: the answer's text, and the records of what changed. A refused call leaves the area, and both buffers all zero.
+pub fn transact(
+    area: &mut [u8],
+    request: &[u8],
+    fresh: &[u8],
+    records: &mut [u8],
+    answer: &mut [u8],
+) -> Answer
+    ensures { λ r. ⌜ r ≡ storeTransact (now (area .entry)) (now (request .entry)) (now (fresh .entry)) (now (records .entry)) (now (answer .entry)) .answer ⌝ }
+    ensures { λ r. ⌜ now (area .exit) ≡ storeTransact (now (area .entry)) (now (request .entry)) (now (fresh .entry)) (now (records .entry)) (now (answer .entry)) .area ⌝ }
+    ensures { λ r. ⌜ now (records .exit) ≡ storeTransact (now (area .entry)) (now (request .entry)) (now (fresh .entry)) (now (records .entry)) (now (answer .entry)) .records ⌝ }
+    ensures { λ r. ⌜ now (answer .exit) ≡ storeTransact (now (area .entry)) (now (request .entry)) (now (fresh .entry)) (now (records .entry)) (now (answer .entry)) .text ⌝ }
+{
+    transact::transact(area, request, fresh, records, answer)
+}
+
+// Writes the mark of a store: its run and the last number that it gave out.
+pub fn mark(area: &[u8], mark: &mut [u8]) -> Answer
+    ensures { λ r. ⌜ r ≡ storeMark (now (area .entry)) (now (mark .entry)) .answer ⌝ }
+    ensures { λ r. ⌜ now (mark .exit) ≡ storeMark (now (area .entry)) (now (mark .entry)) .mark ⌝ }
+{
+    octets::clear(mark);
+    if area.len() != 24107 {
+        return Answer::WrongLength;
+    }
+    if mark.len() < 9 {
+        return Answer::WrongLength;
+    }
+    let mut cells = [[0u8; 48]; 29];
+    let mut rows = [[[0u8; 25]; 25]; 32];
+    if !holding::held(area, &mut cells, &mut rows) {
+        return Answer::Disordered;
+    }
+    let m = Mark::new(area::run_of(area), area::number_of(area));
+    m.write(mark);
+    Answer::Accepted
+}

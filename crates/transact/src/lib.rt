@@ -1,0 +1,76 @@
+// The transact of a store: from a request's text to the answer, the area after it and the records.
+use model::Answer;
+ghost use mathlib.Core.Path.{_≡_};
+ghost use Rattle.model.specs.Calls.{zeroed, lengthsGood, storeTransact};
+
+// Whether the lengths are right: of the area and of the fresh ids exactly, and of both buffers at least.
+fn lengths_good(area: &[u8], fresh: &[u8], records: &[u8], answer: &[u8]) -> bool
+    ensures { λ r. ⌜ r ≡ lengthsGood (now (area .entry)) (now (fresh .entry)) (now (records .entry)) (now (answer .entry)) ⌝ }
+{
+    if area.len() != 24107 {
+        return false;
+    }
+    if fresh.len() != 256 {
+        return false;
+    }
+    if records.len() < 26249 {
+        return false;
+    }
+    64 <= answer.len()
+}
+
+// Refuses: both buffers are all zero.
+fn refuse(why: Answer, records: &mut [u8], answer: &mut [u8]) -> Answer
+    ensures { λ r. ⌜ r ≡ why ⌝ }
+    ensures { λ r. ⌜ (now (records .exit) ≡ zeroed (now (records .entry))) × (now (answer .exit) ≡ zeroed (now (answer .entry))) ⌝ }
+{
+    octets::clear(records);
+    octets::clear(answer);
+    why
+}
+
+// Runs a request on a store: the answer's text, and the records of what it changed. A refused call leaves the area, and both buffers all zero.
+pub fn transact(
+    area: &mut [u8],
+    request: &[u8],
+    fresh: &[u8],
+    records: &mut [u8],
+    answer: &mut [u8],
+) -> Answer
+    ensures { λ r. ⌜ r ≡ storeTransact (now (area .entry)) (now (request .entry)) (now (fresh .entry)) (now (records .entry)) (now (answer .entry)) .answer ⌝ }
+    ensures { λ r. ⌜ now (area .exit) ≡ storeTransact (now (area .entry)) (now (request .entry)) (now (fresh .entry)) (now (records .entry)) (now (answer .entry)) .area ⌝ }
+    ensures { λ r. ⌜ now (records .exit) ≡ storeTransact (now (area .entry)) (now (request .entry)) (now (fresh .entry)) (now (records .entry)) (now (answer .entry)) .records ⌝ }
+    ensures { λ r. ⌜ now (answer .exit) ≡ storeTransact (now (area .entry)) (now (request .entry)) (now (fresh .entry)) (now (records .entry)) (now (answer .entry)) .text ⌝ }
+{
+    if !lengths_good(area, fresh, records, answer) {
+        return refuse(Answer::WrongLength, records, answer);
+    }
+    let mut cells = [[0u8; 48]; 29];
+    let mut before = [[[0u8; 25]; 25]; 32];
+    if !holding::held(area, &mut cells, &mut before) {
+        return refuse(Answer::Disordered, records, answer);
+    }
+    let run = area::run_of(area);
+    let number = area::number_of(area);
+    let n = area::row_count(area);
+    let mut rows = before;
+    let e = reply::reply(
+        &cells,
+        run,
+        number,
+        &before,
+        n,
+        &mut rows,
+        request,
+        fresh,
+        records,
+        answer,
+    );
+    let given = e.answer;
+    if e.commits {
+        let next = number + e.changes as u32;
+        area::write_number(area, next);
+        area::write_rows(area, &rows, e.count);
+    }
+    given
+}
