@@ -1,0 +1,61 @@
+-- What the exported questions return and leave, by what the mirror's calls promise. Assumes nothing.
+use mathlib.Core.Path.{_≡_, refl, sym, _∙_, ap}
+use mathlib.Core.Bool.{Bool, true, false}
+use mathlib.Core.List.{List, [], _∷_, _++_}
+use Prim.Native.Nat.{ℕ, min}
+use native.Mathlib.Omega.{arith}
+use borrow.Author.Tests.{eq-eqb, ne-eqb}
+use lib.Dec.{eqb}
+use lib.ListN.{length, drop, set, replicate}
+use Rattle.model.specs.Octets.{big}
+use Rattle.model.specs.Refusals.{numberOf}
+use Rattle.model.specs.Areas.{bit}
+use Rattle.model.specs.Calls.{zeroed, Progress, mirrorProgress, Presence, mirrorHasRow}
+use Rattle.model.specs.declared.Answer.{Answer}
+use Rattle.capi.specs.Exports.{Told, toldIn, progressBytes, presenceBytes}
+use Rattle.capi.proofs.Beyond.{row-small}
+
+told-other : (n : ℕ) (out z : List ℕ) (a : Answer) (bytes : List ℕ) → (length out ≡ n → ⊥) → z ≡ zeroed out → toldIn n out a bytes ≡ record { answer = 2; out = z }
+unfolding toldIn
+told-other n out z a bytes h e = rw (ne-eqb (length out) n h, toldIn) (ap (λ (l : List ℕ). record { answer = 2; out = l }) (sym e))
+
+told-is : (n : ℕ) (out z : List ℕ) (a : Answer) (bytes : List ℕ) (r : ℕ) → length out ≡ n → r ≡ numberOf a → z ≡ bytes → toldIn n out a bytes ≡ record { answer = r; out = z }
+unfolding toldIn
+told-is n out z a bytes r h e f = rw (eq-eqb (length out) n h, toldIn) (λ j. record { answer = sym e j; out = sym f j })
+
+-- the last of five bytes, and the one of one
+pub last-byte : (out : List ℕ) (x : ℕ) → length out ≡ 5 → drop 4 (set out 4 x) ≡ x ∷ []
+last-byte [] x h = absurd (omega arith)
+last-byte (a ∷ []) x h = absurd (omega arith)
+last-byte (a ∷ b ∷ []) x h = absurd (omega arith)
+last-byte (a ∷ b ∷ c ∷ []) x h = absurd (omega arith)
+last-byte (a ∷ b ∷ c ∷ d ∷ []) x h = absurd (omega arith)
+last-byte (a ∷ b ∷ c ∷ d ∷ e ∷ []) x h = refl
+last-byte (a ∷ b ∷ c ∷ d ∷ e ∷ f ∷ l) x h = absurd (omega arith)
+
+pub only-byte : (out : List ℕ) (x : ℕ) → length out ≡ 1 → set out 0 x ≡ x ∷ []
+only-byte [] x h = absurd (omega arith)
+only-byte (a ∷ []) x h = refl
+only-byte (a ∷ b ∷ l) x h = absurd (omega arith)
+
+module _ (area out z : List ℕ) where
+  pub progress-other : (length out ≡ 5 → ⊥) → z ≡ zeroed out → progressBytes area out ≡ record { answer = 2; out = z }
+  unfolding progressBytes
+  progress-other h e = told-other 5 out z (mirrorProgress area .answer) (big 4 (mirrorProgress area .n) ++ bit (mirrorProgress area .level) ∷ []) h e
+
+  pub progress-told : (p : Progress) (r : ℕ) → mirrorProgress area ≡ p → length out ≡ 5 → r ≡ numberOf (p .answer) → z ≡ big 4 (p .n) ++ bit (p .level) ∷ [] → progressBytes area out ≡ record { answer = r; out = z }
+  unfolding progressBytes
+  progress-told p r h l e f =
+      ap (λ (q : Progress). toldIn 5 out (q .answer) (big 4 (q .n) ++ bit (q .level) ∷ [])) h ∙ told-is 5 out z (p .answer) (big 4 (p .n) ++ bit (p .level) ∷ []) r l e f
+
+  module _ (t : ℕ) (id : List ℕ) where
+    pub presence-other : (length out ≡ 1 → ⊥) → z ≡ zeroed out → presenceBytes area t id out ≡ record { answer = 2; out = z }
+    unfolding presenceBytes
+    presence-other h e = told-other 1 out z (mirrorHasRow area t id .answer) (bit (mirrorHasRow area t id .there) ∷ []) h e
+
+    -- by a table that is 255 where it is above
+    pub presence-told : (u : ℕ) (p : Presence) (r : ℕ) → u ≡ min t 255 → mirrorHasRow area u id ≡ p → length out ≡ 1 → r ≡ numberOf (p .answer) → z ≡ bit (p .there) ∷ [] → presenceBytes area t id out ≡ record { answer = r; out = z }
+    unfolding presenceBytes
+    presence-told u p r s h l e f =
+        let q : mirrorHasRow area t id ≡ p = row-small area t id ∙ ap (λ (x : ℕ). mirrorHasRow area x id) (sym s) ∙ h in
+        ap (λ (x : Presence). toldIn 1 out (x .answer) (bit (x .there) ∷ [])) q ∙ told-is 1 out z (p .answer) (bit (p .there) ∷ []) r l e f

@@ -1,0 +1,37 @@
+-- `capi::maq_mirror_column` meets its contract. Assumes nothing.
+use mathlib.Core.Path.{sym, ap, _∙_}
+use Rattle.model.specs.Refusals.{numberOf}
+use Rattle.model.specs.Calls.{Contents}
+use Rattle.capi.proofs.Beyond.{column-by}
+use borrow.Author.Needs.{needs}
+use Rattle.capi.proofs.maq_mirror_column.Statement.{statement}
+use Rattle.capi.proofs.maq_mirror_column.Tie as tie
+
+small-requires : tie.Need-small-requires
+small-requires c κs = search needs
+
+small-requires-2 : tie.Need-small-requires-2
+small-requires-2 c κs = search needs
+
+column-requires : tie.Need-column-requires
+column-requires c κs = search needs
+
+number-requires : tie.Need-number-requires
+number-requires c κs = search needs
+
+same-length : tie.Need-same-length
+same-length c = search needs
+
+returns : tie.Need-returns
+returns c =
+    let k = c .before .before .before in
+    let s = k .before .before in
+    let a = s .before .before .before .before .args in
+    let p =
+    column-by (a .area .now) (a .table) (a .id .now) (a .column) (a .out .now) (s .before .small .result) (s .small2 .result) _ (s .before .small .ensures) (s .small2 .ensures) (k .column .ensures) in
+    (c .number .ensures ∙ ap (λ (q : Contents). numberOf (q .answer)) (sym p), ap (λ (q : Contents). q .out) (sym p))
+
+pub maq-mirror-column-spec : {M : Type 1} → statement M
+maq-mirror-column-spec =
+    tie.close
+    (tie.spec small-requires small-requires-2 column-requires number-requires same-length returns)

@@ -1,0 +1,24 @@
+-- `capi::maq_mirror_hear` meets its contract. Assumes nothing.
+use mathlib.Core.Path.{sym, ap, _∙_}
+use Rattle.model.specs.Refusals.{numberOf}
+use Rattle.model.specs.Calls.{Arrived}
+use borrow.Author.Needs.{needs}
+use Rattle.capi.proofs.maq_mirror_hear.Statement.{statement}
+use Rattle.capi.proofs.maq_mirror_hear.Tie as tie
+
+hear-requires : tie.Need-hear-requires
+hear-requires c κs = search needs
+
+number-requires : tie.Need-number-requires
+number-requires c κs = search needs
+
+same-length : tie.Need-same-length
+same-length c = search needs
+
+returns : tie.Need-returns
+returns c =
+    let p = c .before .before .before .hear .ensures in
+    (c .number .ensures ∙ ap (λ (q : Arrived). numberOf (q .answer)) (sym p), ap (λ (q : Arrived). q .area) (sym p))
+
+pub maq-mirror-hear-spec : {M : Type 1} → statement M
+maq-mirror-hear-spec = tie.close (tie.spec hear-requires number-requires same-length returns)

@@ -1,0 +1,23 @@
+-- `capi::maq_store_mark` meets its contract. Assumes nothing.
+use mathlib.Core.Path.{ap, _∙_}
+use Rattle.model.specs.Refusals.{numberOf}
+use borrow.Author.Needs.{needs}
+use Rattle.capi.proofs.maq_store_mark.Statement.{statement}
+use Rattle.capi.proofs.maq_store_mark.Tie as tie
+
+mark-requires : tie.Need-mark-requires
+mark-requires c κs = search needs
+
+number-requires : tie.Need-number-requires
+number-requires c κs = search needs
+
+same-length : tie.Need-same-length
+same-length c = search needs
+
+returns : tie.Need-returns
+returns c =
+    let p = c .before .before .before .mark .ensures in
+    (c .number .ensures ∙ ap numberOf (p .0), p .1)
+
+pub maq-store-mark-spec : {M : Type 1} → statement M
+maq-store-mark-spec = tie.close (tie.spec mark-requires number-requires same-length returns)
