@@ -12,7 +12,7 @@ use borrow.Author.Tests.{ne-eqb, ltb-true, ltb-false}
 use Rattle.model.proofs.Tests.{split}
 use Rattle.answer.specs.Put.{Counted}
 use Rattle.model.specs.Base.{ascii}
-use Rattle.model.specs.Schema.{baseOf}
+use Rattle.inner.specs.Packed.{baseNumbered}
 use Rattle.model.specs.Value.{textOf}
 use Rattle.model.specs.Answers.{commas, bracketed, boolText, rowsText, elementsText}
 use Rattle.model.specs.declared.Fault.{Fault}
@@ -62,20 +62,20 @@ truth-other b n = rw (boolText, ne-eqb b 0 n) refl
 
 module _ (k : ℕ) (a : List ℕ) where
   pub atom-integer : k ≡ 0 → integerIn a ≡ atomIn k a
-  unfolding integerIn atomIn baseOf
+  unfolding integerIn atomIn baseNumbered
   atom-integer e = rw e refl
 
   pub atom-boolean : k ≡ 1 → truthText (getD a 0 0) ≡ atomIn k a
-  unfolding truthText atomIn baseOf
+  unfolding truthText atomIn baseNumbered
   atom-boolean e = rw e refl
 
   pub atom-text : k ≡ 2 → quotedText (textOf a) ≡ atomIn k a
-  unfolding quotedText atomIn baseOf
+  unfolding quotedText atomIn baseNumbered
   atom-text e = rw e refl
 
   pub atom-uuid : (k ≡ 0 → ⊥) → (k ≡ 1 → ⊥) → (k ≡ 2 → ⊥) → idText (take 16 a) ≡ atomIn k a
-  unfolding idText atomIn baseOf
-  atom-uuid n m l = rw (baseOf, ne-eqb k 0 n, ne-eqb k 1 m, ne-eqb k 2 l) refl
+  unfolding idText atomIn baseNumbered
+  atom-uuid n m l = rw (baseNumbered, ne-eqb k 0 n, ne-eqb k 1 m, ne-eqb k 2 l) refl
 
 -- ── results ──
 pub count-is : (n : ℕ) → (ascii "{\"count\":" ++ (decimalText n ++ (125 ∷ []))) ≡ countResult n

@@ -2,17 +2,14 @@
 use mathlib.Core.Path.{_≡_, refl, sym, ap, _∙_}
 use mathlib.Core.Bool.{Bool, true, false, _||_}
 use mathlib.Core.List.{List, [], _∷_, _++_}
-use Prim.Native.Nat.{ℕ, suc, _+_, _^_, _<_, _≤_}
+use Prim.Native.Nat.{ℕ, _+_, _<_, _≤_}
 use native.Mathlib.Numerals.{add-one}
 use lib.Dec.{eqb}
 use lib.ListN.{length, drop, getD, drop-of-length-le}
 use lib.Seq.{drop-cons}
-use borrow.Author.Tests.{lt-ltb}
-use Rattle.model.specs.Octets.{big, value}
-use Rattle.model.specs.Base.{all, ascii}
+use Rattle.model.specs.Base.{ascii}
 use Rattle.model.specs.Answers.{hexPair, uuidDigits}
-use Rattle.model.proofs.Lists.{all-cons}
-use Rattle.model.proofs.Octets.{octet, length-big, big-octets, value-big-fits, value-lt, value-inj}
+use Rattle.model.proofs.Octets.{octets, big-value}
 use Rattle.answer.specs.Texts.{escapedText, insideText, quotedText, dashText, idText}
 
 -- strings
@@ -55,17 +52,6 @@ pub dash-is : (k : ℕ) (b : Bool) → (((eqb k 4 || eqb k 6) || eqb k 8) || eqb
 unfolding dashText
 dash-is k b e = ap dashOf (sym e) ∙ dashed (eqb k 4) (eqb k 6) (eqb k 8) (eqb k 10)
 
-all-octets : (l : List ℕ) → ((k : ℕ) → getD l k 0 < 256) → all octet l ≡ true
-all-octets [] h = refl
-all-octets (b ∷ l) h = all-cons octet b l (lt-ltb b 256 (h 0)) (all-octets l (λ k. h (suc k)))
-
--- bytes are those of the number that they stand for
-pub big-value : (n : ℕ) (l : List ℕ) → length l ≡ n → ((k : ℕ) → getD l k 0 < 256) → big n (value l) ≡ l
-big-value n l e h =
-    let o = all-octets l h in
-    let lt : value l < 256 ^ n = rw (← e) (value-lt l o) in
-    value-inj (big n (value l)) l (length-big n (value l) ∙ sym e) (big-octets n (value l)) o (value-big-fits n (value l) lt)
-
 pub id-is : (l : List ℕ) → length l ≡ 16 → ((k : ℕ) → getD l k 0 < 256) → (ascii "[\"uuid\",\"" ++ (uuidDigits 0 l ++ ascii "\"]")) ≡ idText l
 unfolding idText
-id-is l e h = ap (λ (b : List ℕ). ascii "[\"uuid\",\"" ++ (uuidDigits 0 b ++ ascii "\"]")) (sym (big-value 16 l e h))
+id-is l e h = ap (λ (b : List ℕ). ascii "[\"uuid\",\"" ++ (uuidDigits 0 b ++ ascii "\"]")) (sym (big-value 16 l e (octets l h)))

@@ -4,7 +4,7 @@ use mathlib.Core.Bool.{Bool, true, false}
 use mathlib.Core.List.{List, [], _∷_, _++_, map}
 use Rattle.model.specs.Base.{flat, ascii}
 use Rattle.model.specs.Octets.{value}
-use Rattle.model.specs.Schema.{baseOf}
+use Rattle.inner.specs.Packed.{baseNumbered}
 use Rattle.model.specs.Answers.{decimal, integerText, escaped, quoted, dashBefore, uuidText, boolText, atomText, valueText, countText, insertText, errorText}
 use Rattle.model.specs.Faults.{words}
 use Rattle.model.specs.declared.Fault.{Fault}
@@ -40,7 +40,7 @@ unfoldable pub truthText : ℕ → List ℕ
 truthText b = boolText b
 
 unfoldable pub atomIn : ℕ → List ℕ → List ℕ
-atomIn kind a = atomText (baseOf kind) a
+atomIn kind a = atomText (baseNumbered kind) a
 
 -- texts with a comma before each but the first; before the first too where others came before
 unfoldable pub commaText : Bool → List ℕ
@@ -55,7 +55,7 @@ unfoldable pub atomTexts : ℕ → List (List ℕ) → List (List ℕ)
 atomTexts kind atoms = map (atomIn kind) atoms
 
 unfoldable pub setText : ℕ → ℕ → List (List ℕ) → List ℕ
-setText kind count atoms = valueText (baseOf kind) (record { count = count; atoms = atoms })
+setText kind count atoms = valueText (baseNumbered kind) (record { count = count; atoms = atoms })
 
 -- the results of operations, and what a fault is called
 unfoldable pub nullText : List ℕ

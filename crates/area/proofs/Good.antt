@@ -11,12 +11,12 @@ use lib.Seq.{drop-drop, take-at, drop-at, take-all, length-take-le}
 use Rattle.model.specs.Octets.{big, value, part}
 use Rattle.model.specs.Base.{all, every, flat}
 use Rattle.model.specs.Schema.{Schema, columnsOf}
-use Rattle.model.specs.Packed as packed
+use Rattle.inner.specs.Packed as packed
 use Rattle.model.specs.Value.{zeros, canonicalFor}
 use Rattle.model.specs.Rows.{Row}
 use Rattle.model.specs.Records.{cut}
 use Rattle.model.specs.Areas.{rowCells, rowFrom, rowsFrom, rowsBytes, textFrom, tablesIn, Store, encodeStore, decodeStore, ascends, distinctIds, rowPasses, rowsPass, headTests}
-use Rattle.model.specs.Working.{working, tableIn, TidyRow, Tidy}
+use Rattle.inner.specs.Working.{working, tableIn, TidyRow, Tidy}
 use Rattle.model.proofs.Tests.{and-l, and-r, whole, parts}
 use Rattle.model.proofs.Lists.{all-head, all-tail, all-take, all-drop, all-cons, all-same}
 use Rattle.model.proofs.Octets.{octet, value-big-fits}
@@ -33,9 +33,9 @@ cells-cut : (n : ℕ) (b : List ℕ) → 25 * n ≤ length b → Cells (cut n b)
 cells-cut zero b h = tt
 cells-cut (suc n) b h = (length-take-le 25 b (omega arith), cells-cut n (drop 25 b) (omega (arith, length-drop 25 b)))
 
-module _ (schema : List (List ℕ)) (slim : narrow (packed.tablesIn schema) ≡ true) where
+module _ (schema : List (List ℕ)) (slim : narrow (packed.packedTables schema) ≡ true) where
   abbrev s : Schema
-  s = packed.tablesIn schema
+  s = packed.packedTables schema
 
   good-row : (r : List (List ℕ)) → rowGood schema r ≡ true → (rowPasses canonicalFor s (rowFrom s r) ≡ true) × (tidyFrom (length (columnsOf s (tableIn r))) r ≡ true)
   unfolding rowGood
@@ -63,7 +63,7 @@ pub record Holds (a : List ℕ) : Type 0 where
   pub tidy : Tidy (tablesIn (textFrom a)) (rowsIn (rowCount a) (drop 4107 a))
   pub rows : decodeStore a .rows ≡ map (rowFrom (tablesIn (textFrom a))) (rowsIn (rowCount a) (drop 4107 a))
 
-module _ (schema : List (List ℕ)) (a : List ℕ) (size : 24107 ≤ length a) (bytes : all octet a ≡ true) (same : packed.tablesIn schema ≡ tablesIn (textFrom a)) (slim : narrow (packed.tablesIn schema) ≡ true) where
+module _ (schema : List (List ℕ)) (a : List ℕ) (size : 24107 ≤ length a) (bytes : all octet a ≡ true) (same : packed.packedTables schema ≡ tablesIn (textFrom a)) (slim : narrow (packed.packedTables schema) ≡ true) where
   abbrev n : ℕ
   n = rowCount a
 
@@ -82,13 +82,13 @@ module _ (schema : List (List ℕ)) (a : List ℕ) (size : 24107 ≤ length a) (
       let t = take-all n (rowsIn n b) (omega (arith, count-is n b)) in
       let each : all (rowGood schema) (rowsIn n b) ≡ true = ap (all (rowGood schema)) (sym t) ∙ and-l (all (rowGood schema) (take n (rowsIn n b))) _ g in
       let order = and-r (all (rowGood schema) (take n (rowsIn n b))) _ g in
-      let w = ap (map (rowFrom (packed.tablesIn schema))) t ∙ sym (rows-are (packed.tablesIn schema) n b) in
-      let up : ascends (rowsFrom (packed.tablesIn schema) n b) ≡ true = ap ascends (sym w) ∙ and-l (ascends (working (packed.tablesIn schema) n (rowsIn n b))) _ order in
-      let apart : distinctIds (rowsFrom (packed.tablesIn schema) n b) ≡ true = ap distinctIds (sym w) ∙ and-r (ascends (working (packed.tablesIn schema) n (rowsIn n b))) _ order in
+      let w = ap (map (rowFrom (packed.packedTables schema))) t ∙ sym (rows-are (packed.packedTables schema) n b) in
+      let up : ascends (rowsFrom (packed.packedTables schema) n b) ≡ true = ap ascends (sym w) ∙ and-l (ascends (working (packed.packedTables schema) n (rowsIn n b))) _ order in
+      let apart : distinctIds (rowsFrom (packed.packedTables schema) n b) ≡ true = ap distinctIds (sym w) ∙ and-r (ascends (working (packed.packedTables schema) n (rowsIn n b))) _ order in
       let tidy : Tidy (tablesIn (textFrom a)) (rowsIn n b) = rw same at (rows-tidy schema slim n b (omega (arith, length-drop 4107 a)) (all-drop octet 4107 a bytes) each) in
       record {
         encoded = store-back a size bytes short few (and-l (zeros (part (10 + textLength a) (4096 - textLength a) a)) _ z) (and-r (zeros (part (10 + textLength a) (4096 - textLength a) a)) _ z) tidy;
-        pass = rw (← same) (whole (leb (length (rowsFrom (packed.tablesIn schema) n b)) 32 ∷ ascends (rowsFrom (packed.tablesIn schema) n b) ∷ distinctIds (rowsFrom (packed.tablesIn schema) n b) ∷ all (rowPasses canonicalFor (packed.tablesIn schema)) (rowsFrom (packed.tablesIn schema) n b) ∷ []) (ap (λ (k : ℕ). leb k 32) (rows-count (packed.tablesIn schema) n b) ∙ le-leb n 32 few, (up, (apart, (rows-pass schema slim n b each, tt)))));
+        pass = rw (← same) (whole (leb (length (rowsFrom (packed.packedTables schema) n b)) 32 ∷ ascends (rowsFrom (packed.packedTables schema) n b) ∷ distinctIds (rowsFrom (packed.packedTables schema) n b) ∷ all (rowPasses canonicalFor (packed.packedTables schema)) (rowsFrom (packed.packedTables schema) n b) ∷ []) (ap (λ (k : ℕ). leb k 32) (rows-count (packed.packedTables schema) n b) ∙ le-leb n 32 few, (up, (apart, (rows-pass schema slim n b each, tt)))));
         few = few;
         short = short;
         tidy = tidy;
@@ -100,9 +100,9 @@ tidied : (s : Schema) (r : Row) → Sized s r → TidyRow s (rowCells r)
 unfolding TidyRow
 tidied s r z = ap rowCells (row-read s r z)
 
-module _ (schema : List (List ℕ)) (slim : narrow (packed.tablesIn schema) ≡ true) where
+module _ (schema : List (List ℕ)) (slim : narrow (packed.packedTables schema) ≡ true) where
   abbrev q : Schema
-  q = packed.tablesIn schema
+  q = packed.packedTables schema
 
   -- the bytes of one row, cut into cells again
   row-passes : (r : Row) (rest : List ℕ) → Sized q r → all octet (flat (rowCells r) ++ rest) ≡ true → rowPasses canonicalFor q r ≡ true → rowGood schema (cut 25 (flat (rowCells r) ++ rest)) ≡ true
@@ -182,12 +182,12 @@ module _ (st : Store) (tail : List ℕ) (f : Fits st) where
       (λ j. zeros (part (10 + text-length j) (4096 - text-length j) area) && zeros (part (4107 + 625 * read-count st f tail j) (625 * (32 - read-count st f tail j)) area))
       ∙ (λ j. text-rest j && rows-rest j)
 
-  module _ (schema : List (List ℕ)) (slim : narrow (packed.tablesIn schema) ≡ true) (same : packed.tablesIn schema ≡ tablesIn (st .schema)) (bytes : all octet area ≡ true)
-      (pass : rowsPass canonicalFor (packed.tablesIn schema) (st .rows) ≡ true) where
+  module _ (schema : List (List ℕ)) (slim : narrow (packed.packedTables schema) ≡ true) (same : packed.packedTables schema ≡ tablesIn (st .schema)) (bytes : all octet area ≡ true)
+      (pass : rowsPass canonicalFor (packed.packedTables schema) (st .rows) ≡ true) where
     rows-are-good : rowsGood schema count (rowsIn count (drop 4107 area)) ≡ true
     unfolding rowsGood working rowsPass
     rows-are-good =
-        let d = packed.tablesIn schema in
+        let d = packed.packedTables schema in
         let rest = replicate (625 * (32 - count)) 0 ++ tail in
         let p = parts (leb count 32 ∷ ascends (st .rows) ∷ distinctIds (st .rows) ∷ all (rowPasses canonicalFor d) (st .rows) ∷ []) pass in
         let e = read-rest st f tail in

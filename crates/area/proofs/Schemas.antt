@@ -11,11 +11,11 @@ use lib.ListN.{length, getD, take, drop, length-map, drop-of-length-le}
 use lib.Seq.{drop-cons, drop-drop, getD-drop, take-all}
 use Rattle.model.specs.Base.{all}
 use Rattle.model.specs.Schema.{Column, Schema, columnsOf}
-use Rattle.model.specs.Packed.{columnFrom, tableFrom, tablesFrom, tablesIn}
+use Rattle.inner.specs.Packed.{columnFrom, tableFrom, tablesFrom, packedTables}
 use Rattle.model.specs.Value.{Value, canonicalFor}
 use Rattle.model.specs.Records.{known}
 use Rattle.model.specs.Areas.{columnsFrom, rowFrom, valuesPass, rowPasses, ascends, distinctIds}
-use Rattle.model.specs.Working.{working, tableIn, idIn, valueIn}
+use Rattle.inner.specs.Working.{working, tableIn, idIn, valueIn}
 use Rattle.model.proofs.Tests.{clash}
 use Rattle.area.proofs.Walks.{and-true}
 use Rattle.area.specs.Layout.{rowsIn, tidyFrom, canonicalFrom, columnCells, rowGood, rowsGood, textLength, rowCount, restZero, partGood, Judged}
@@ -32,7 +32,7 @@ columns-from cells u (suc n) (suc t) h =
     columns-from cells (suc u) n t (omega arith) ∙ ap (λ (k : ℕ). tableFrom cells k .columns) e
 
 -- the columns of a table are in the cells of the schema from 5 + 6 t on
-pub columns-in : (cells : List (List ℕ)) (t : ℕ) → t < getD (getD cells 0 []) 25 0 → columnsOf (tablesIn cells) t ≡ map columnFrom (columnCells cells t)
+pub columns-in : (cells : List (List ℕ)) (t : ℕ) → t < getD (getD cells 0 []) 25 0 → columnsOf (packedTables cells) t ≡ map columnFrom (columnCells cells t)
 unfolding tableFrom
 columns-in cells t h =
     let e : 0 + t ≡ t = omega arith in
@@ -67,7 +67,7 @@ module _ (schema row : List (List ℕ)) where
   id-test = not (eqb (idIn row) 0) && ltb (idIn row) (256 ^ 16)
 
   abbrev s : Schema
-  s = tablesIn schema
+  s = packedTables schema
 
   known-is : known s (rowFrom s row .table) (rowFrom s row .id) ≡ (ltb (tableIn row) (getD (getD schema 0 []) 25 0) && id-test)
   unfolding rowFrom tableIn idIn
@@ -135,10 +135,10 @@ module _ (schema : List (List ℕ)) (n : ℕ) (rows : List (List (List ℕ))) wh
   each = all (rowGood schema) (take n rows)
 
   abbrev in-order : Bool
-  in-order = ascends (working (tablesIn schema) n rows)
+  in-order = ascends (working (packedTables schema) n rows)
 
   abbrev apart : Bool
-  apart = distinctIds (working (tablesIn schema) n rows)
+  apart = distinctIds (working (packedTables schema) n rows)
 
   pub rows-no : each ≡ false → rowsGood schema n rows ≡ false
   unfolding rowsGood
@@ -157,7 +157,7 @@ pub rows-same : (schema : List (List ℕ)) (n : ℕ) (x y : List (List (List ℕ
 unfolding rowsGood working
 rows-same schema n x y e l =
     let f = e ∙ sym (take-all n y (omega arith)) in
-    λ j. all (rowGood schema) (f j) && (ascends (map (rowFrom (tablesIn schema)) (f j)) && distinctIds (map (rowFrom (tablesIn schema)) (f j)))
+    λ j. all (rowGood schema) (f j) && (ascends (map (rowFrom (packedTables schema)) (f j)) && distinctIds (map (rowFrom (packedTables schema)) (f j)))
 
 -- ── the tests of the part of an area that stores and mirrors share, one after another ──
 module _ (schema : List (List ℕ)) (a : List ℕ) where

@@ -11,15 +11,14 @@ use lib.ListN.{length, getD, take, drop, length-take, length-drop, take-append-d
 use lib.Seq.{drop-at, drop-drop, drop-cons, take-all, getD-drop, length-take-le}
 use Rattle.model.specs.Octets.{big, value, part, eqBytes}
 use Rattle.model.specs.Base.{all, every, isSome}
-use Rattle.model.specs.Packed as packed
+use Rattle.inner.specs.Packed as packed
 use Rattle.model.specs.Value.{canonicalFor, meets}
 use Rattle.model.specs.SchemaText.{readSchema}
 use Rattle.model.specs.Commit.{lawful}
 use Rattle.model.specs.Areas.{textFrom, tablesIn, Store, encodeStore, decodeStore, MirrorState, bit, storePart, encodeMirror, decodeMirror, rowsPass, headTests, stateOf, storeGood, storeOf, mirrorTests, mirrorGood, mirrorOf}
 use Rattle.model.proofs.Tests.{split, clash, and-l, and-r, parts, whole, bytes-self, bytes-same}
 use Rattle.model.proofs.Lists.{all-take, all-drop}
-use Rattle.model.proofs.Octets.{octet, value-lt}
-use Rattle.model.proofs.NewRows.{big-value}
+use Rattle.model.proofs.Octets.{octet, part-lt, big-value}
 use Rattle.model.proofs.GoodOrder.{meets-pass}
 use Rattle.model.proofs.Accepted.{narrow, text-kept, text-short}
 use Rattle.model.proofs.Areas.{Fits, pass-fits, store-length, mirror-length, store-of-encode, store-of-length}
@@ -78,19 +77,17 @@ own-back b l o h w =
     (λ j. x j ++ y j ∷ z j ∷ []) ∙ ap (λ (q : List ℕ). take 4 b ++ q) (sym d) ∙ take-append-drop 4 b
 
 -- an area whose schema's text is accepted and lies in cells
-module _ (schema : List (List ℕ)) (a : List ℕ) (size : 24107 ≤ length a) (bytes : all octet a ≡ true) (same : packed.tablesIn schema ≡ tablesIn (textFrom a))
+module _ (schema : List (List ℕ)) (a : List ℕ) (size : 24107 ≤ length a) (bytes : all octet a ≡ true) (same : packed.packedTables schema ≡ tablesIn (textFrom a))
     (accepted : isSome (readSchema (textFrom a)) ≡ true) where
-  slim : narrow (packed.tablesIn schema) ≡ true
+  slim : narrow (packed.packedTables schema) ≡ true
   slim = rw same (text-kept (textFrom a) .narrow)
 
-  number-fits : (at : ℕ) → at + 4 ≤ length a → ltb (value (part at 4 a)) (256 ^ 4) ≡ true
-  number-fits at h =
-      let n : length (part at 4 a) ≡ 4 = length-take-le 4 (drop at a) (omega (arith, length-drop at a)) in
-      lt-ltb (value (part at 4 a)) (256 ^ 4) (rw n at (value-lt (part at 4 a) (all-take octet 4 (drop at a) (all-drop octet at a bytes))))
+  number-fits : (at : ℕ) → ltb (value (part at 4 a)) (256 ^ 4) ≡ true
+  number-fits at = lt-ltb (value (part at 4 a)) (256 ^ 4) (part-lt at 4 a bytes)
 
   head-passes : every (headTests (decodeStore a)) ≡ true
   unfolding decodeStore
-  head-passes = whole (headTests (decodeStore a)) (accepted, (number-fits 0 (omega arith), (number-fits 4 (omega arith), tt)))
+  head-passes = whole (headTests (decodeStore a)) (accepted, (number-fits 0, (number-fits 4, tt)))
 
   holds : partGood schema a ≡ true → Holds a
   holds = part-holds schema a size bytes same slim
@@ -99,7 +96,7 @@ module _ (schema : List (List ℕ)) (a : List ℕ) (size : 24107 ≤ length a) (
   module _ (st : Store) (tail : List ℕ) (e : encodeStore st ++ tail ≡ a) (t : st .schema ≡ textFrom a) (f : Fits st) (p : rowsPass canonicalFor (tablesIn (st .schema)) (st .rows) ≡ true) where
     passes : partGood schema a ≡ true
     passes =
-        let q : packed.tablesIn schema ≡ tablesIn (st .schema) = same ∙ ap tablesIn (sym t) in
+        let q : packed.packedTables schema ≡ tablesIn (st .schema) = same ∙ ap tablesIn (sym t) in
         rw (← e) (part-passes st tail f schema slim q (rw e bytes) (rw q p))
 
   -- ── a store ──
@@ -166,7 +163,7 @@ module _ (schema : List (List ℕ)) (a : List ℕ) (size : 24107 ≤ length a) (
         let t : (flags && counts && quiet && whole-zero) ≡ true = sym tail-is ∙ h in
         let u = and-l (flags && counts && quiet) whole-zero t in
         let v = and-l (flags && counts) quiet u in
-        (whole (mirrorTests (decodeMirror a .mirror)) (number-fits 24107 (omega arith), (and-r flags counts v, (and-r (flags && counts) quiet u, (and-r (flags && counts && quiet) whole-zero t, tt)))), and-l flags counts v)
+        (whole (mirrorTests (decodeMirror a .mirror)) (number-fits 24107, (and-r flags counts v, (and-r (flags && counts) quiet u, (and-r (flags && counts && quiet) whole-zero t, tt)))), and-l flags counts v)
 
     part-is : storePart (decodeMirror a) ≡ decodeStore a
     unfolding decodeMirror

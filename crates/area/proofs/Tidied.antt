@@ -14,11 +14,10 @@ use Rattle.model.specs.Schema.{Schema, columnsOf}
 use Rattle.model.specs.Value.{Value, zeros, blank}
 use Rattle.model.specs.Rows.{Row}
 use Rattle.model.specs.Areas.{headCell, atomCells, rowCells, columnsFrom, rowFrom}
-use Rattle.model.specs.Working.{tableIn, TidyRow}
+use Rattle.inner.specs.Working.{tableIn, TidyRow}
 use Rattle.model.proofs.Tests.{and-l, and-r}
 use Rattle.model.proofs.Lists.{all-head, all-tail, all-take, all-drop, all-same}
-use Rattle.model.proofs.Octets.{octet}
-use Rattle.model.proofs.NewRows.{big-value}
+use Rattle.model.proofs.Octets.{octet, big-value}
 use Rattle.area.specs.Layout.{tidyFrom}
 
 -- zeros are just so many zeros

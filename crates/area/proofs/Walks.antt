@@ -13,9 +13,9 @@ use Rattle.model.specs.Base.{all}
 use Rattle.model.specs.Schema.{Schema}
 use Rattle.model.specs.Rows.{Row, key, hasId}
 use Rattle.model.specs.Areas.{rowFrom, ascendsFrom, ascends, distinctIds}
-use Rattle.model.specs.Working.{working, keyIn, idIn}
+use Rattle.inner.specs.Working.{working, keyIn, idIn}
 use Rattle.model.proofs.Tests.{split}
-use Rattle.model.proofs.Working.{row-key, row-id, working-on, working-end}
+use Rattle.inner.proofs.Working.{row-key, row-id, working-on, working-end}
 
 and-assoc : (a b c : Bool) → (a && (b && c)) ≡ ((a && b) && c)
 and-assoc true b c = refl

@@ -13,10 +13,9 @@ use Rattle.model.specs.Value.{zeros}
 use Rattle.model.specs.Rows.{Row}
 use Rattle.model.specs.Records.{cut}
 use Rattle.model.specs.Areas.{rowCells, rowFrom, rowsBytes, rowsFrom, textFrom, textBytes, tablesIn, Store, encodeStore, decodeStore}
-use Rattle.model.specs.Working.{working, TidyRow, Tidy}
+use Rattle.inner.specs.Working.{working, TidyRow, Tidy}
 use Rattle.model.proofs.Lists.{all-take, all-drop}
-use Rattle.model.proofs.Octets.{octet}
-use Rattle.model.proofs.NewRows.{big-value}
+use Rattle.model.proofs.Octets.{octet, big-value}
 use Rattle.area.specs.Layout.{rowsIn, bytesOf}
 use Rattle.area.proofs.Tidied.{zeros-are}
 

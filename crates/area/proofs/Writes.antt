@@ -1,22 +1,18 @@
 -- Bytes written to a place of an area, and what they make of the encoding of a state. Assumes nothing.
 use mathlib.Core.Path.{_≡_, refl, sym, ap, _∙_}
-use mathlib.Core.Bool.{Bool, true, false}
+use mathlib.Core.Bool.{Bool, false}
 use mathlib.Core.List.{List, [], _∷_, _++_, map, append-assoc, append-nil}
-use Prim.Native.Nat.{ℕ, suc, _+_, _-_, _*_, _^_, _≤_, _<_}
+use Prim.Native.Nat.{ℕ, _+_, _-_, _*_, _≤_}
 use native.Mathlib.Omega.{arith}
-use borrow.Author.Tests.{lt-ltb}
 use borrow.Rule.Slice.PartMut.{midOf, putMid}
-use lib.ListN.{length, getD, set, take, drop, replicate, length-append, length-drop, length-map, length-replicate}
+use lib.ListN.{length, set, take, drop, replicate, length-append, length-map, length-replicate}
 use lib.Seq.{take-at, drop-at, drop-drop, length-take-le}
-use Rattle.model.specs.Octets.{big, value, part}
-use Rattle.model.specs.Base.{all}
+use Rattle.model.specs.Octets.{big}
 use Rattle.model.specs.Schema.{Schema}
 use Rattle.model.specs.Rows.{Row}
 use Rattle.model.specs.Mirror.{Mirror}
 use Rattle.model.specs.Areas.{rowFrom, rowsBytes, textBytes, Store, encodeStore, MirrorState, storePart, encodeMirror}
-use Rattle.model.specs.Working.{working, Tidy}
-use Rattle.model.proofs.Lists.{all-take, all-drop, all-cons}
-use Rattle.model.proofs.Octets.{octet, value-lt}
+use Rattle.inner.specs.Working.{working, Tidy}
 use Rattle.model.proofs.Areas.{Fits, store-length}
 use Rattle.octets.proofs.Rests.{mid-rest, put-rest}
 use Rattle.area.specs.Layout.{bytesOf}
@@ -26,17 +22,6 @@ use Rattle.area.proofs.Whole.{bytes-are}
 pub first : (l : List ℕ) (b : ℕ) → 1 ≤ length l → set l 0 b ≡ b ∷ drop 1 l
 first [] b h = absurd (omega arith)
 first (x ∷ l) b h = refl
-
--- bytes, one by one
-pub octets : (l : List ℕ) → ((i : ℕ) → getD l i 0 < 256) → all octet l ≡ true
-octets [] h = refl
-octets (b ∷ l) h = all-cons octet b l (lt-ltb b 256 (h 0)) (octets l (λ i. h (suc i)))
-
--- a part of w bytes is below 256 ^ w
-pub part-lt : (l : List ℕ) (at w : ℕ) → at + w ≤ length l → ((i : ℕ) → getD l i 0 < 256) → value (part at w l) < 256 ^ w
-part-lt l at w h f =
-    let n : length (part at w l) ≡ w = length-take-le w (drop at l) (omega (arith, length-drop at l)) in
-    rw n at (value-lt (part at w l) (all-take octet w (drop at l) (all-drop octet at l (octets l f))))
 
 -- a callee that was lent the rest from a place on and put n bytes at its front has put them at that place
 pub place-rest : (at n : ℕ) (b a ys : List ℕ) → ys ≡ b ++ drop n (midOf at (length a - at) a) → putMid at (length a - at) a ys ≡ placed at n b a

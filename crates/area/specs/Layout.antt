@@ -8,11 +8,11 @@ use lib.ListN.{length, getD, take, drop}
 use Rattle.model.specs.Octets.{value, part}
 use Rattle.model.specs.Base.{all, flat}
 use Rattle.model.specs.Schema.{columnsOf}
-use Rattle.model.specs.Packed.{columnFrom, tablesIn}
+use Rattle.inner.specs.Packed.{columnFrom, packedTables}
 use Rattle.model.specs.Value.{zeros, canonicalFor}
 use Rattle.model.specs.Records.{cut}
 use Rattle.model.specs.Areas.{rowCellCount, rowBytes, rowFrom, rowPasses, ascends, distinctIds}
-use Rattle.model.specs.Working.{working, tableIn, valueIn}
+use Rattle.inner.specs.Working.{working, tableIn, valueIn}
 
 -- n rows, one after another
 abbrev pub rowsIn : ℕ → List ℕ → List (List (List ℕ))
@@ -50,12 +50,12 @@ pub record Sized (schema : List (List ℕ)) : Type 0 where
 -- a row passes the tests of good order, and its unused bytes are zero
 unfoldable pub rowGood : List (List ℕ) → List (List ℕ) → Bool
 rowGood schema row =
-    rowPasses canonicalFor (tablesIn schema) (rowFrom (tablesIn schema) row) && tidyFrom (length (columnsOf (tablesIn schema) (tableIn row))) row
+    rowPasses canonicalFor (packedTables schema) (rowFrom (packedTables schema) row) && tidyFrom (length (columnsOf (packedTables schema) (tableIn row))) row
 
 -- the first n rows pass: each by itself, in order, and with ids all different
 unfoldable pub rowsGood : List (List ℕ) → ℕ → List (List (List ℕ)) → Bool
 rowsGood schema n rows =
-    all (rowGood schema) (take n rows) && (ascends (working (tablesIn schema) n rows) && distinctIds (working (tablesIn schema) n rows))
+    all (rowGood schema) (take n rows) && (ascends (working (packedTables schema) n rows) && distinctIds (working (packedTables schema) n rows))
 
 -- ── the part of an area that stores and mirrors share ──
 abbrev pub textLength : List ℕ → ℕ

@@ -8,7 +8,7 @@ use lib.ListN.{getD, take, drop, replicate}
 use Rattle.model.specs.Octets.{big, value, part}
 use Rattle.model.specs.Schema.{Schema}
 use Rattle.model.specs.Areas.{Store, bit}
-use Rattle.model.specs.Working.{working}
+use Rattle.inner.specs.Working.{working}
 use Rattle.area.specs.Layout.{bytesOf}
 
 -- ── a mirror's own six bytes: highest heard 4, whether anything was heard 1, whether n is 0 or ends a commit 1 ──

@@ -7,12 +7,12 @@ ghost use lib.ListN.{length, take, drop, getD, replicate};
 ghost use Rattle.model.specs.Octets.{big, value, part};
 ghost use Rattle.model.specs.Base.{all, flat};
 ghost use Rattle.model.specs.Rows.{hasId};
-ghost use Rattle.model.specs.Packed.{columnFrom};
+ghost use Rattle.inner.specs.Packed.{columnFrom};
 ghost use Rattle.model.specs.Value.{zeros, canonicalFor};
 ghost use Rattle.model.specs.Schema.{Schema};
 ghost use Rattle.model.specs.Records.{cut};
 ghost use Rattle.model.specs.Areas.{ascends, distinctIds, bit, textBytes, encodeStore};
-ghost use Rattle.model.specs.Working.{working, idIn, valueIn, Tidy};
+ghost use Rattle.inner.specs.Working.{working, idIn, valueIn, Tidy};
 ghost use Rattle.area.specs.Layout.{rowsIn, Rows, tidyFrom, canonicalFrom, columnCells, Sized, rowGood, rowsGood, Judged};
 ghost use Rattle.area.specs.Writing.{tailGood, tailBytes, placed, rowsPart, storeIn};
 

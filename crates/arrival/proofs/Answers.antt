@@ -13,8 +13,8 @@ use Rattle.model.specs.Records.{Change, act, fits, sound, isEnd, Record, number
 use Rattle.model.specs.Mirror.{Mirror, Step, bad, onRead}
 use Rattle.model.specs.declared.Answer.{Answer}
 use Rattle.model.specs.declared.Answer.the-variants.{BadRecord, OtherRun, Repeat, Behind, Heard, Applied}
-use Rattle.model.specs.Packed.{tablesIn}
-use Rattle.model.specs.Working.{working}
+use Rattle.inner.specs.Packed.{packedTables}
+use Rattle.inner.specs.Working.{working}
 use Rattle.model.proofs.Tests.{clash, or-l, or-r, or-true}
 use Rattle.arrival.specs.Steps.{headOf, soundRecord, fitsRecord, badRecord, actRecord, mirrorOf, hearsOf, appliesOf, stepOf, Welcome, Left, Stepped}
 use Rattle.arrival.specs.declared.Head.{Head}
@@ -124,7 +124,7 @@ module _ (s : Schema) (run : ℕ) (m : Numbers) (rows : List Row) where
 -- ── an arrival, by the tests that the code makes of what the record carries ──
 module _ (schema : List (List ℕ)) (run : ℕ) (m : Numbers) (bytes : List ℕ) (count : ℕ) (cells : List (List (List ℕ))) (few : count ≤ 32) (o : Option Record) (d : o ≡ decode bytes) where
   abbrev s : Schema
-  s = tablesIn schema
+  s = packedTables schema
 
   abbrev rows : List Row
   rows = working s count cells

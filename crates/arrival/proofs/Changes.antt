@@ -17,13 +17,13 @@ use Rattle.model.specs.Value.{Value}
 use Rattle.model.specs.Rows.{Row, keyOf, key, find, setColumn, change}
 use Rattle.model.specs.Records.{known, valueBytes}
 use Rattle.model.specs.Mirror.{valueAnswer, rowAnswer}
-use Rattle.model.specs.Packed.{tablesIn}
+use Rattle.inner.specs.Packed.{packedTables}
 use Rattle.model.specs.Areas.{columnsFrom, rowFrom}
-use Rattle.model.specs.Order.{Fine, AllFine, Good}
-use Rattle.model.specs.Working.{working, tableIn, valueIn, minimums, TidyRow, Tidy}
+use Rattle.model.proofs.Order.{Fine, AllFine, Good}
+use Rattle.inner.specs.Working.{working, tableIn, valueIn, minimums, TidyRow, Tidy}
 use Rattle.model.proofs.Tests.{split, clash}
-use Rattle.model.proofs.Working.{working-length, working-at, row-table}
-use Rattle.model.proofs.Places.{Placed, Absent, working-set, tidy-set, tidy-at}
+use Rattle.inner.proofs.Working.{working-length, working-at, row-table}
+use Rattle.inner.proofs.Places.{Placed, Absent, working-set, tidy-set, tidy-at}
 use Rattle.model.proofs.Heart.{key-is}
 use Rattle.model.proofs.Kept.{bornRow, born-fine}
 use Rattle.rows.specs.Post.{ColumnSet}
@@ -122,21 +122,21 @@ module _ (cells : List (List ℕ)) (held : Held cells) (row : List (List ℕ)) (
   past (x ∷ s) zero h = absurd (omega arith)
   past (x ∷ s) (suc t) h = past s t (omega arith)
 
-  missing : length (columnsOf (tablesIn cells) t) ≤ c → columnIn (tablesIn cells) row c ≡ replicate 101 0
+  missing : length (columnsOf (packedTables cells) t) ≤ c → columnIn (packedTables cells) row c ≡ replicate 101 0
   unfolding columnIn
-  missing h = ap valueAnswer (column-missing (tablesIn cells) row c (rw here at h))
+  missing h = ap valueAnswer (column-missing (packedTables cells) row c (rw here at h))
 
-  pub no-table : getD (getD cells 0 []) 25 0 ≤ t → columnIn (tablesIn cells) row c ≡ replicate 101 0
-  no-table h = missing (omega (arith, ap length (past (tablesIn cells) t (omega (arith, tables-count cells 0 (getD (getD cells 0 []) 25 0))))))
+  pub no-table : getD (getD cells 0 []) 25 0 ≤ t → columnIn (packedTables cells) row c ≡ replicate 101 0
+  no-table h = missing (omega (arith, ap length (past (packedTables cells) t (omega (arith, tables-count cells 0 (getD (getD cells 0 []) 25 0))))))
 
-  pub no-column : t < getD (getD cells 0 []) 25 0 → getD (getD cells (1 + t) []) 25 0 ≤ c → columnIn (tablesIn cells) row c ≡ replicate 101 0
+  pub no-column : t < getD (getD cells 0 []) 25 0 → getD (getD cells (1 + t) []) 25 0 ≤ c → columnIn (packedTables cells) row c ≡ replicate 101 0
   no-column h g = missing (omega (arith, columns-count cells held t h))
 
-  pub that-column : t < getD (getD cells 0 []) 25 0 → c < getD (getD cells (1 + t) []) 25 0 → columnIn (tablesIn cells) row c ≡ valueBytes (valueIn c row)
+  pub that-column : t < getD (getD cells 0 []) 25 0 → c < getD (getD cells (1 + t) []) 25 0 → columnIn (packedTables cells) row c ≡ valueBytes (valueIn c row)
   unfolding columnIn
   that-column h g =
-      let l : c < length (columnsOf (tablesIn cells) t) = omega (arith, columns-count cells held t h) in
-      ap valueAnswer (column-there (tablesIn cells) row c (rw here at l))
+      let l : c < length (columnsOf (packedTables cells) t) = omega (arith, columns-count cells held t h) in
+      ap valueAnswer (column-there (packedTables cells) row c (rw here at l))
 
 -- the row is found, or not
 pub found-column : (s : Schema) (n : ℕ) (cells : List (List (List ℕ))) → n ≤ length cells → (t i c p : ℕ) → Placed (keyOf t i) (working s n cells) p → columnOf (working s n cells) t i c ≡ columnIn s (getD cells p []) c

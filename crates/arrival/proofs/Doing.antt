@@ -13,10 +13,10 @@ use Rattle.model.specs.Value.{Value}
 use Rattle.model.specs.Rows.{Row, keyOf, has, hasId}
 use Rattle.model.specs.Records.{act, known, allows, born, gone, column, end}
 use Rattle.model.specs.Areas.{rowCells, rowFrom}
-use Rattle.model.specs.Packed.{tablesIn}
-use Rattle.model.specs.Working.{working, newRow, Tidy}
+use Rattle.inner.specs.Packed.{packedTables}
+use Rattle.inner.specs.Working.{working, newRow, Tidy}
 use Rattle.model.proofs.Tests.{clash, and-l, and-r}
-use Rattle.model.proofs.NewRows.{new-row-read, new-row-tidy}
+use Rattle.inner.proofs.NewRows.{new-row-read, new-row-tidy}
 use Rattle.model.proofs.GoodOrder.{known-short, known-table}
 use Rattle.record.specs.Reading.{idIn, atomsIn, arrivalRecord, columnCounts, listedRecord}
 use Rattle.record.specs.declared.Born as record-born
@@ -34,9 +34,9 @@ pub left-as : (s : Schema) (x y : List Row) (n : ℕ) (cells : List (List (List 
 left-as s x y n cells l exit e h = record { same = h .same ∙ e; few = h .few; tidy = h .tidy }
 
 -- a new row put in
-module _ (cells : List (List ℕ)) (held : Held cells) (t i : ℕ) (k : known (tablesIn cells) t i ≡ true) where
+module _ (cells : List (List ℕ)) (held : Held cells) (t i : ℕ) (k : known (packedTables cells) t i ≡ true) where
   abbrev s : Schema
-  s = tablesIn cells
+  s = packedTables cells
 
   pub known-here : t < getD (getD cells 0 []) 25 0
   known-here = omega (arith, known-table s t i k, tables-count cells 0 (getD (getD cells 0 []) 25 0))
@@ -57,8 +57,8 @@ module _ (cells : List (List ℕ)) (held : Held cells) (t i : ℕ) (k : known (t
       }
 
 -- ── what is known of a welcome arrival ──
-module _ (cells : List (List ℕ)) (held : Held cells) (a : Arrival) (bytes : List ℕ) (rows : List Row) (w : Welcome (tablesIn cells) rows (arrivalRecord a bytes)) where
-  pub born-known : (r : record-born.Born) → a ≡ arrival.Born r → known (tablesIn cells) (r .table) (value (idIn bytes)) ≡ true
+module _ (cells : List (List ℕ)) (held : Held cells) (a : Arrival) (bytes : List ℕ) (rows : List Row) (w : Welcome (packedTables cells) rows (arrivalRecord a bytes)) where
+  pub born-known : (r : record-born.Born) → a ≡ arrival.Born r → known (packedTables cells) (r .table) (value (idIn bytes)) ≡ true
   unfolding arrivalRecord soundRecord
   born-known r e = rw e at (w .sound)
 
@@ -77,16 +77,16 @@ module _ (cells : List (List ℕ)) (held : Held cells) (a : Arrival) (bytes : Li
       go [] h = absurd (clash false h refl)
       go (x ∷ l) h = omega arith
 
-  pub column-known : (r : record-column.Column) → a ≡ arrival.Column r → known (tablesIn cells) (r .table) (value (idIn bytes)) ≡ true
+  pub column-known : (r : record-column.Column) → a ≡ arrival.Column r → known (packedTables cells) (r .table) (value (idIn bytes)) ≡ true
   unfolding arrivalRecord soundRecord
   column-known r e =
-      let h : (known (tablesIn cells) (r .table) (value (idIn bytes)) && allows (columnsOf (tablesIn cells) (r .table)) (r .column) (record { count = r .count; atoms = atomsIn bytes })) ≡ true = rw e at (w .sound) in
-      and-l (known (tablesIn cells) (r .table) (value (idIn bytes))) (allows (columnsOf (tablesIn cells) (r .table)) (r .column) (record { count = r .count; atoms = atomsIn bytes })) h
+      let h : (known (packedTables cells) (r .table) (value (idIn bytes)) && allows (columnsOf (packedTables cells) (r .table)) (r .column) (record { count = r .count; atoms = atomsIn bytes })) ≡ true = rw e at (w .sound) in
+      and-l (known (packedTables cells) (r .table) (value (idIn bytes))) (allows (columnsOf (packedTables cells) (r .table)) (r .column) (record { count = r .count; atoms = atomsIn bytes })) h
 
-  pub column-here : (r : record-column.Column) → a ≡ arrival.Column r → r .column < length (columnsOf (tablesIn cells) (r .table))
+  pub column-here : (r : record-column.Column) → a ≡ arrival.Column r → r .column < length (columnsOf (packedTables cells) (r .table))
   column-here r e =
       let o = arrivalRecord a bytes in
-      let h = and-l (listedRecord (columnCounts (tablesIn cells)) o) (canonicalRecord (tablesIn cells) o) (sym (sound-is (tablesIn cells) o) ∙ w .sound) in
+      let h = and-l (listedRecord (columnCounts (packedTables cells)) o) (canonicalRecord (packedTables cells) o) (sym (sound-is (packedTables cells) o) ∙ w .sound) in
       omega (arith, listed-column cells held a bytes r e h, columns-count cells held (r .table) (listed-table cells held a bytes r e h))
 
 -- ── what each kind does ──

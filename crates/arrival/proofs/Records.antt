@@ -15,9 +15,9 @@ use Rattle.model.specs.Schema.{Column, Schema, Table, columnsOf}
 use Rattle.model.specs.Value.{Value, canonicalFor}
 use Rattle.model.specs.Records.{Change, born, gone, column, end, allows, Record, numbered, mark}
 use Rattle.model.specs.Rows.{keyOf, has, hasId}
-use Rattle.model.specs.Working.{working}
-use Rattle.model.proofs.Working.{working-length}
-use Rattle.model.specs.Packed.{columnFrom, tableFrom, tablesFrom, tablesIn}
+use Rattle.inner.specs.Working.{working}
+use Rattle.inner.proofs.Working.{working-length}
+use Rattle.inner.specs.Packed.{columnFrom, tableFrom, tablesFrom, packedTables}
 use Rattle.model.proofs.Tests.{clash, and-l, and-r}
 use Rattle.record.specs.Reading.{idIn, atomsIn, arrivalRecord, columnCounts, canonicalIn, knownIn, listedIn, listedRecord}
 use Rattle.record.specs.declared.Born as record-born
@@ -38,7 +38,7 @@ cells-length cells t e h l = length-take-le (getD (getD cells (1 + t) []) 25 0) 
 
 module _ (cells : List (List ℕ)) (held : Held cells) where
   abbrev s : Schema
-  s = tablesIn cells
+  s = packedTables cells
 
   abbrev tables : ℕ
   tables = getD (getD cells 0 []) 25 0

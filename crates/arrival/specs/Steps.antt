@@ -11,9 +11,9 @@ use Rattle.model.specs.Rows.{Row}
 use Rattle.model.specs.Records.{Change, act, fits, sound, isEnd, Record, numbered, mark}
 use Rattle.model.specs.Mirror.{Mirror, Step, bad, step, level, valueAnswer, columnAnswer}
 use Rattle.model.specs.Areas.{rowFrom}
-use Rattle.model.specs.Order.{Good}
-use Rattle.model.specs.Packed.{tablesIn}
-use Rattle.model.specs.Working.{working, Tidy}
+use Rattle.model.proofs.Order.{Good}
+use Rattle.inner.specs.Packed.{packedTables}
+use Rattle.inner.specs.Working.{working, Tidy}
 use Rattle.record.specs.Reading.{canonicalIn}
 use Rattle.area.specs.Layout.{Sized}
 use Rattle.arrival.specs.declared.Head.{Head}
@@ -106,7 +106,7 @@ pub record Left (s : Schema) (rows : List Row) (count : ℕ) (entry : List (List
 
 -- an arrival: the answer and the mirror are the model's
 pub record Stepped (schema : List (List ℕ)) (run : ℕ) (m : Numbers) (bytes : List ℕ) (count : ℕ) (entry exit : List (List (List ℕ))) (r : Outcome) : Type 0 where
-  pub answer : r .answer ≡ stepOf (tablesIn schema) run (mirrorOf m (working (tablesIn schema) count entry)) bytes .answer
-  pub next : mirrorOf (r .numbers) (working (tablesIn schema) (r .count) exit) ≡ stepOf (tablesIn schema) run (mirrorOf m (working (tablesIn schema) count entry)) bytes .next
+  pub answer : r .answer ≡ stepOf (packedTables schema) run (mirrorOf m (working (packedTables schema) count entry)) bytes .answer
+  pub next : mirrorOf (r .numbers) (working (packedTables schema) (r .count) exit) ≡ stepOf (packedTables schema) run (mirrorOf m (working (packedTables schema) count entry)) bytes .next
   pub few : r .count ≤ 32
-  pub tidy : Good (tablesIn schema) (working (tablesIn schema) count entry) → Tidy (tablesIn schema) (take count entry) → Tidy (tablesIn schema) (take (r .count) exit)
+  pub tidy : Good (packedTables schema) (working (packedTables schema) count entry) → Tidy (packedTables schema) (take count entry) → Tidy (packedTables schema) (take (r .count) exit)

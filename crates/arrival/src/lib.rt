@@ -13,8 +13,8 @@ ghost use Rattle.model.specs.Schema.{Schema, columnsOf};
 ghost use Rattle.model.specs.Value.{canonicalFor};
 ghost use Rattle.model.specs.Rows.{Row, keyOf, has};
 ghost use Rattle.model.specs.Records.{act, known, born, gone, column, valueBytes};
-ghost use Rattle.model.specs.Packed.{columnFrom, tablesIn};
-ghost use Rattle.model.specs.Working.{working, valueIn, minimums};
+ghost use Rattle.inner.specs.Packed.{columnFrom, packedTables};
+ghost use Rattle.inner.specs.Working.{working, valueIn, minimums};
 ghost use Rattle.record.specs.Reading.{idIn, arrivalRecord, columnCounts, listedRecord};
 ghost use Rattle.record.specs.Reading.{Sized as Long};
 ghost use Rattle.area.specs.Layout.{Sized};
@@ -100,7 +100,7 @@ fn id_of(bytes: &[u8]) -> [u8; 16]
 // How many columns each table has.
 fn counts_of(schema: &[[u8; 48]]) -> [u8; 4]
     requires { ⌜ Held (now schema) ⌝ }
-    ensures { λ r. ⌜ take (getD (getD (now (schema .entry)) 0 []) 25 0) r ≡ columnCounts (tablesIn (now (schema .entry))) ⌝ }
+    ensures { λ r. ⌜ take (getD (getD (now (schema .entry)) 0 []) 25 0) r ≡ columnCounts (packedTables (now (schema .entry))) ⌝ }
 {
     [schema[1][25], schema[2][25], schema[3][25], schema[4][25]]
 }
@@ -109,7 +109,7 @@ fn counts_of(schema: &[[u8; 48]]) -> [u8; 4]
 fn listed(schema: &[[u8; 48]], arrival: Arrival, bytes: &[u8]) -> bool
     requires { ⌜ Held (now schema) ⌝ }
     requires { ⌜ Long arrival (length (now bytes)) ⌝ }
-    ensures { λ r. ⌜ r ≡ listedRecord (columnCounts (tablesIn (now (schema .entry)))) (arrivalRecord arrival (now (bytes .entry))) ⌝ }
+    ensures { λ r. ⌜ r ≡ listedRecord (columnCounts (packedTables (now (schema .entry)))) (arrivalRecord arrival (now (bytes .entry))) ⌝ }
 {
     let counts = counts_of(schema);
     let tables = atom::wide(schema[0][25]);
@@ -128,8 +128,8 @@ fn canonical_by(cell: &[u8; 48], count: u8, atoms: &[[u8; 25]]) -> bool
 fn canonical(schema: &[[u8; 48]], arrival: Arrival, bytes: &[u8]) -> bool
     requires { ⌜ Held (now schema) ⌝ }
     requires { ⌜ Long arrival (length (now bytes)) ⌝ }
-    requires { ⌜ listedRecord (columnCounts (tablesIn (now schema))) (arrivalRecord arrival (now bytes)) ≡ true ⌝ }
-    ensures { λ r. ⌜ r ≡ canonicalRecord (tablesIn (now (schema .entry))) (arrivalRecord arrival (now (bytes .entry))) ⌝ }
+    requires { ⌜ listedRecord (columnCounts (packedTables (now schema))) (arrivalRecord arrival (now bytes)) ≡ true ⌝ }
+    ensures { λ r. ⌜ r ≡ canonicalRecord (packedTables (now (schema .entry))) (arrivalRecord arrival (now (bytes .entry))) ⌝ }
 {
     match arrival {
         Arrival::Born(_) => true,
@@ -150,7 +150,7 @@ fn canonical(schema: &[[u8; 48]], arrival: Arrival, bytes: &[u8]) -> bool
 fn sound(schema: &[[u8; 48]], arrival: Arrival, bytes: &[u8]) -> bool
     requires { ⌜ Held (now schema) ⌝ }
     requires { ⌜ Long arrival (length (now bytes)) ⌝ }
-    ensures { λ r. ⌜ r ≡ soundRecord (tablesIn (now (schema .entry))) (arrivalRecord arrival (now (bytes .entry))) ⌝ }
+    ensures { λ r. ⌜ r ≡ soundRecord (packedTables (now (schema .entry))) (arrivalRecord arrival (now (bytes .entry))) ⌝ }
 {
     if !listed(schema, arrival, bytes) {
         return false;
@@ -196,7 +196,7 @@ fn bad(
     requires { ⌜ Held (now schema) ⌝ }
     requires { ⌜ Ready count (now rows) ⌝ }
     requires { ⌜ Long arrival (length (now bytes)) ⌝ }
-    ensures { λ r. ⌜ r ≡ badRecord (tablesIn (now (schema .entry))) n (working (tablesIn (now (schema .entry))) count (now (rows .entry))) (arrivalRecord arrival (now (bytes .entry))) ⌝ }
+    ensures { λ r. ⌜ r ≡ badRecord (packedTables (now (schema .entry))) n (working (packedTables (now (schema .entry))) count (now (rows .entry))) (arrivalRecord arrival (now (bytes .entry))) ⌝ }
 {
     if !sound(schema, arrival, bytes) {
         return true;
@@ -262,7 +262,7 @@ pub fn level(m: Numbers) -> bool
 fn minimums_of(schema: &[[u8; 48]], t: usize) -> [u8; 6]
     requires { ⌜ Held (now schema) ⌝ }
     requires { ⌜ t < getD (getD (now schema) 0 []) 25 0 ⌝ }
-    ensures { λ r. ⌜ r ≡ minimums (columnsOf (tablesIn (now (schema .entry))) t) ⌝ }
+    ensures { λ r. ⌜ r ≡ minimums (columnsOf (packedTables (now (schema .entry))) t) ⌝ }
 {
     let k = atom::wide(schema[1 + t][25]);
     let mut mins = [0u8; 6];
@@ -278,8 +278,8 @@ fn minimums_of(schema: &[[u8; 48]], t: usize) -> [u8; 6]
 fn born(schema: &[[u8; 48]], rows: &mut [[[u8; 25]; 25]], count: usize, table: u8, id: &[u8; 16])
     requires { ⌜ Held (now schema) ⌝ }
     requires { ⌜ (count < 32) × (32 ≤ length (now rows)) ⌝ }
-    requires { ⌜ known (tablesIn (now schema)) table (value (now id)) ≡ true ⌝ }
-    ensures { λ _. ⌜ Left (tablesIn (now (schema .entry))) (act (tablesIn (now (schema .entry))) (born table (value (now (id .entry)))) (working (tablesIn (now (schema .entry))) count (now (rows .entry)))) count (now (rows .entry)) (count + 1) (now (rows .exit)) ⌝ }
+    requires { ⌜ known (packedTables (now schema)) table (value (now id)) ≡ true ⌝ }
+    ensures { λ _. ⌜ Left (packedTables (now (schema .entry))) (act (packedTables (now (schema .entry))) (born table (value (now (id .entry)))) (working (packedTables (now (schema .entry))) count (now (rows .entry)))) count (now (rows .entry)) (count + 1) (now (rows .exit)) ⌝ }
 {
     let mins = minimums_of(schema, atom::wide(table));
     let row = rows::new_row(table, id, &mins);
@@ -330,8 +330,8 @@ fn acts(
     requires { ⌜ Held (now schema) ⌝ }
     requires { ⌜ Ready count (now rows) ⌝ }
     requires { ⌜ Long arrival (length (now bytes)) ⌝ }
-    requires { ⌜ Welcome (tablesIn (now schema)) (working (tablesIn (now schema)) count (now rows)) (arrivalRecord arrival (now bytes)) ⌝ }
-    ensures { λ r. ⌜ Left (tablesIn (now (schema .entry))) (actRecord (tablesIn (now (schema .entry))) (arrivalRecord arrival (now (bytes .entry))) (working (tablesIn (now (schema .entry))) count (now (rows .entry)))) count (now (rows .entry)) r (now (rows .exit)) ⌝ }
+    requires { ⌜ Welcome (packedTables (now schema)) (working (packedTables (now schema)) count (now rows)) (arrivalRecord arrival (now bytes)) ⌝ }
+    ensures { λ r. ⌜ Left (packedTables (now (schema .entry))) (actRecord (packedTables (now (schema .entry))) (arrivalRecord arrival (now (bytes .entry))) (working (packedTables (now (schema .entry))) count (now (rows .entry)))) count (now (rows .entry)) r (now (rows .exit)) ⌝ }
 {
     match arrival {
         Arrival::Born(r) => {
@@ -438,7 +438,7 @@ fn put_value(row: &[[u8; 25]; 25], c: usize, out: &mut [u8])
 fn put_column(schema: &[[u8; 48]], row: &[[u8; 25]; 25], c: usize, out: &mut [u8])
     requires { ⌜ Held (now schema) ⌝ }
     requires { ⌜ length (now out) ≡ 101 ⌝ }
-    ensures { λ _. ⌜ now (out .exit) ≡ columnIn (tablesIn (now (schema .entry))) (now (row .entry)) c ⌝ }
+    ensures { λ _. ⌜ now (out .exit) ≡ columnIn (packedTables (now (schema .entry))) (now (row .entry)) c ⌝ }
 {
     let t = atom::wide(rows::table_of(row));
     let tables = atom::wide(schema[0][25]);
@@ -467,7 +467,7 @@ pub fn column(
     requires { ⌜ Sized (now schema) ⌝ }
     requires { ⌜ Ready count (now rows) ⌝ }
     requires { ⌜ length (now out) ≡ 101 ⌝ }
-    ensures { λ _. ⌜ now (out .exit) ≡ columnOf (working (tablesIn (now (schema .entry))) count (now (rows .entry))) table (value (now (id .entry))) c ⌝ }
+    ensures { λ _. ⌜ now (out .exit) ≡ columnOf (working (packedTables (now (schema .entry))) count (now (rows .entry))) table (value (now (id .entry))) c ⌝ }
 {
     let cells = &schema[..];
     let found = rows::find(rows, count, table, id);

@@ -15,14 +15,15 @@ use Rattle.model.specs.declared.Found.{Found}
 use Rattle.model.specs.declared.Found.the-variants.{At, Nothing}
 use Rattle.model.specs.Base.{if_then_else_, isSome}
 use Rattle.model.specs.Json.{Json, Named, memberAt, valueAt}
-use Rattle.model.specs.Nav.{treeAt, wellAt, firstOf, nextMember, membersFrom, membersFine}
-use Rattle.model.specs.Members.{membersIn, has, valueOf as lastOf, Means}
+use Rattle.inner.specs.Positions.{treeAt, wellAt, firstOf, nextMember, membersFrom, membersFine}
+use Rattle.model.specs.Members.{membersIn, hasMember, memberValue as lastOf}
+use Rattle.inner.specs.Positions.{Means}
 use Rattle.model.specs.Schema.{Column, columnNamed}
 use Rattle.model.specs.Value.{blank, elements, valueOf, atomInLimits, allInLimits}
 use Rattle.model.specs.Faults.{rank, earlier, check}
-use Rattle.model.specs.Written.{Names, find, rowFault, written}
+use Rattle.model.specs.Written.{Names, memberNamed, rowFault, written}
 use Rattle.model.specs.Operations.{knownNames, columnWritten, columnsWritten, defaultFault}
-use Rattle.model.specs.Packed.{columnFrom}
+use Rattle.inner.specs.Packed.{columnFrom}
 use Rattle.nav.proofs.Walk.{members-in, pass-end, pass-rest, pass-fine, pass-name}
 use Rattle.names.specs.Names.{foundAt}
 use Rattle.lookup.specs.Lookup.{columnIn}
@@ -76,28 +77,28 @@ module _ (c : Column) where
 
 -- ── a member by the name of a column ──
 module _ (s : List ℕ) (ms : List Named) where
-  pub find-there : {w v : List ℕ} {f : Found} {p : ℕ} → Means s f (has w ms) (lastOf w ms) → w ≡ v → f ≡ At p → (find v ms ≡ some (treeAt s p)) × (wellAt s p ≡ true)
+  pub find-there : {w v : List ℕ} {f : Found} {p : ℕ} → Means s f (hasMember w ms) (lastOf w ms) → w ≡ v → f ≡ At p → (memberNamed v ms ≡ some (treeAt s p)) × (wellAt s p ≡ true)
   unfolding Means
   find-there {w} {v} {f} {p} m e g =
-      let n = subst (λ y. Means s f (has y ms) (lastOf y ms)) e m in
-      let k = subst (λ x. Means s x (has v ms) (lastOf v ms)) g n in
+      let n = subst (λ y. Means s f (hasMember y ms) (lastOf y ms)) e m in
+      let k = subst (λ x. Means s x (hasMember v ms) (lastOf v ms)) g n in
       (ap (λ (b : Bool). elim b [ true ↦ some (lastOf v ms) | false ↦ none ]) (k .0) ∙ ap some (k .1), k .2)
 
-  pub find-missing : {w v : List ℕ} {f : Found} → Means s f (has w ms) (lastOf w ms) → w ≡ v → f ≡ Nothing → find v ms ≡ none
+  pub find-missing : {w v : List ℕ} {f : Found} → Means s f (hasMember w ms) (lastOf w ms) → w ≡ v → f ≡ Nothing → memberNamed v ms ≡ none
   unfolding Means
   find-missing {w} {v} {f} m e g =
-      let n = subst (λ y. Means s f (has y ms) (lastOf y ms)) e m in
-      let k : has v ms ≡ false = subst (λ x. Means s x (has v ms) (lastOf v ms)) g n in
+      let n = subst (λ y. Means s f (hasMember y ms) (lastOf y ms)) e m in
+      let k : hasMember v ms ≡ false = subst (λ x. Means s x (hasMember v ms) (lastOf v ms)) g n in
       ap (λ (b : Bool). elim b [ true ↦ some (lastOf v ms) | false ↦ none ]) k
 
 -- ── one column, and all ──
 module _ (insert : Bool) (names : Names) (ms : List Named) where
   module _ (c : Column) where
-    pub fault-named : {j : Json} → find (c .name) ms ≡ some j → {v w r : Fault} → v ≡ written names (c .base) (rowFault c) j .fault → w ≡ namedBy insert c → r ≡ earlier v w → r ≡ faultOf insert names c ms
+    pub fault-named : {j : Json} → memberNamed (c .name) ms ≡ some j → {v w r : Fault} → v ≡ written names (c .base) (rowFault c) j .fault → w ≡ namedBy insert c → r ≡ earlier v w → r ≡ faultOf insert names c ms
     unfolding faultOf
     fault-named {j} e {v} {w} {r} a b d = d ∙ (λ i. earlier (a i) (b i)) ∙ sym (ap (λ (o : Option Json). columnWritten names (absentBy insert) (namedBy insert) c o .fault) e)
 
-    pub fault-absent : find (c .name) ms ≡ none → {r : Fault} → r ≡ absentBy insert c → r ≡ faultOf insert names c ms
+    pub fault-absent : memberNamed (c .name) ms ≡ none → {r : Fault} → r ≡ absentBy insert c → r ≡ faultOf insert names c ms
     unfolding faultOf
     fault-absent e a = a ∙ sym (ap (λ (o : Option Json). columnWritten names (absentBy insert) (namedBy insert) c o .fault) e)
 

@@ -12,10 +12,10 @@ use Rattle.model.specs.Value.{Value}
 use Rattle.model.specs.Rows.{Row, add, setColumn}
 use Rattle.model.specs.Operations.{assigned}
 use Rattle.model.specs.Areas.{rowCells, rowFrom}
-use Rattle.model.specs.Packed.{columnFrom}
-use Rattle.model.specs.Working.{working, tableIn, minimums, newRow, TidyRow}
-use Rattle.model.proofs.Working.{row-table}
-use Rattle.model.proofs.NewRows.{new-row-read, new-row-tidy}
+use Rattle.inner.specs.Packed.{columnFrom}
+use Rattle.inner.specs.Working.{working, tableIn, minimums, newRow, TidyRow}
+use Rattle.inner.proofs.Working.{row-table}
+use Rattle.inner.proofs.NewRows.{new-row-read, new-row-tidy}
 use Rattle.rows.specs.Post.{Added, ColumnSet}
 use Rattle.assign.specs.Assigned.{putColumn, putColumns, ColumnAssigned, RowAssigned, Inserted}
 

@@ -17,10 +17,10 @@ use Rattle.model.specs.Rows.{Row}
 use Rattle.model.specs.Conditions.{Test, holds, matches}
 use Rattle.model.specs.Operations.{updateRow}
 use Rattle.model.specs.Areas.{rowFrom}
-use Rattle.model.specs.Working.{working, tableIn, Tidy}
+use Rattle.inner.specs.Working.{working, tableIn, Tidy}
 use Rattle.model.proofs.Tests.{and-l}
-use Rattle.model.proofs.Working.{working-at, working-length, row-table}
-use Rattle.model.proofs.Places.{working-set, tidy-set, tidy-at}
+use Rattle.inner.proofs.Working.{working-at, working-length, row-table}
+use Rattle.inner.proofs.Places.{working-set, tidy-set, tidy-at}
 use Rattle.assign.specs.Assigned.{putColumns, RowAssigned, Updated}
 
 -- ── the first i rows changed ──

@@ -10,13 +10,13 @@ use Rattle.model.specs.declared.Fault.{Fault}
 use Rattle.model.specs.declared.Fault.the-variants.{Fine, Syntax}
 use Rattle.model.specs.declared.Found.{Found}
 use Rattle.model.specs.Json.{Json, Named}
-use Rattle.model.specs.Nav.{treeAt}
+use Rattle.inner.specs.Positions.{treeAt}
 use Rattle.model.specs.Members.{membersIn}
 use Rattle.model.specs.Schema.{Column}
 use Rattle.model.specs.Faults.{isFine, check}
-use Rattle.model.specs.Written.{Names, find, elementsIn, rowFault, written}
+use Rattle.model.specs.Written.{Names, memberNamed, elementsIn, rowFault, written}
 use Rattle.model.specs.Operations.{knownNames, valueWritten, columnWritten, columnsWritten}
-use Rattle.model.specs.Packed.{columnFrom}
+use Rattle.inner.specs.Packed.{columnFrom}
 use Rattle.model.proofs.Lists.{all-cons, all-at}
 use Rattle.model.proofs.Sets.{sorted-length}
 use Rattle.model.proofs.FaultLaws.{earlier-fine}
@@ -34,7 +34,7 @@ module _ (names : Names) (ms : List Named) (absent named : Column → Fault) whe
   got-all : (cs : List Column) → columnsWritten names absent named cs ms .got ≡ valuesFor names ms cs
   unfolding valuesFor valueFor
   got-all [] = refl
-  got-all (c ∷ cs) = λ i. got-one c (find (c .name) ms) i ∷ got-all cs i
+  got-all (c ∷ cs) = λ i. got-one c (memberNamed (c .name) ms) i ∷ got-all cs i
 
   sound-one : (c : Column) (o : Option Json) → isFine (columnWritten names absent named c o .fault) ≡ true → elim o [ none ↦ true | some j ↦ isFine (valueWritten names c j .fault) ] ≡ true
   sound-one c none h = refl
@@ -44,8 +44,8 @@ module _ (names : Names) (ms : List Named) (absent named : Column → Fault) whe
   unfolding allSound soundFor
   sound-all [] h = refl
   sound-all (c ∷ cs) h =
-      let p = earlier-fine (columnWritten names absent named c (find (c .name) ms) .fault) (columnsWritten names absent named cs ms .fault) h in
-      all-cons (soundFor names ms) c cs (sound-one c (find (c .name) ms) (p .0)) (sound-all cs (p .1))
+      let p = earlier-fine (columnWritten names absent named c (memberNamed (c .name) ms) .fault) (columnsWritten names absent named cs ms .fault) h in
+      all-cons (soundFor names ms) c cs (sound-one c (memberNamed (c .name) ms) (p .0)) (sound-all cs (p .1))
 
 module _ (insert : Bool) (text : List ℕ) (ops : Found) (fresh : List ℕ) (columns : List (List ℕ)) (at : ℕ) where
   -- what is got of a row, whether it is inserted or updated
@@ -67,11 +67,11 @@ module _ (insert : Bool) (text : List ℕ) (ops : Found) (fresh : List ℕ) (col
 
 -- ── one column ──
 module _ (names : Names) (ms : List Named) (c : Column) where
-  pub value-missing : find (c .name) ms ≡ none → valueFor names ms c ≡ none
+  pub value-missing : memberNamed (c .name) ms ≡ none → valueFor names ms c ≡ none
   unfolding valueFor
   value-missing e = ap (λ (o : Option Json). elim o [ none ↦ none | some j ↦ some (valueWritten names c j .got) ]) e
 
-  module _ {j : Json} (e : find (c .name) ms ≡ some j) where
+  module _ {j : Json} (e : memberNamed (c .name) ms ≡ some j) where
     pub value-there : valueFor names ms c ≡ some (valueWritten names c j .got)
     unfolding valueFor
     value-there = ap (λ (o : Option Json). elim o [ none ↦ none | some j ↦ some (valueWritten names c j .got) ]) e

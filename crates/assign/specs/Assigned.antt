@@ -10,18 +10,18 @@ use Rattle.model.specs.declared.Fault.{Fault}
 use Rattle.model.specs.declared.Found.{Found}
 use Rattle.model.specs.Base.{all}
 use Rattle.model.specs.Json.{Json, Named}
-use Rattle.model.specs.Nav.{treeAt}
+use Rattle.inner.specs.Positions.{treeAt}
 use Rattle.model.specs.Members.{membersIn}
 use Rattle.model.specs.Schema.{Column, Schema, columnsOf}
 use Rattle.model.specs.Value.{Value, initial}
 use Rattle.model.specs.Rows.{Row, add, setColumn}
 use Rattle.model.specs.Faults.{isFine, Judged}
-use Rattle.model.specs.Written.{Names, find}
+use Rattle.model.specs.Written.{Names, memberNamed}
 use Rattle.model.specs.Conditions.{Test, matches}
 use Rattle.model.specs.Operations.{valueWritten, columnWritten, columnsWritten, rowOf, defaultFault, immutableFault, noFault, assigned, updateRow}
 use Rattle.model.specs.Areas.{rowFrom}
-use Rattle.model.specs.Packed.{columnFrom}
-use Rattle.model.specs.Working.{working, tableIn, TidyRow, Tidy}
+use Rattle.inner.specs.Packed.{columnFrom}
+use Rattle.inner.specs.Working.{working, tableIn, TidyRow, Tidy}
 use Rattle.uuids.specs.Named.{namesAt}
 
 -- a member that may be missing, by the slot that keeps its place: 0 where it is missing
@@ -43,17 +43,17 @@ writtenRow insert text ops fresh columns at = rowOf (namesAt text ops fresh) (ab
 
 -- the fault of one column, and of some
 unfoldable pub faultOf : Bool → Names → Column → List Named → Fault
-faultOf insert names c ms = columnWritten names (absentBy insert) (namedBy insert) c (find (c .name) ms) .fault
+faultOf insert names c ms = columnWritten names (absentBy insert) (namedBy insert) c (memberNamed (c .name) ms) .fault
 
 unfoldable pub faultsOf : Bool → Names → List Column → List Named → Fault
 faultsOf insert names cs ms = columnsWritten names (absentBy insert) (namedBy insert) cs ms .fault
 
 -- what is written for a column, and that it has no fault
 unfoldable pub valueFor : Names → List Named → Column → Option Value
-valueFor names ms c = elim (find (c .name) ms) [ none ↦ none | some j ↦ some (valueWritten names c j .got) ]
+valueFor names ms c = elim (memberNamed (c .name) ms) [ none ↦ none | some j ↦ some (valueWritten names c j .got) ]
 
 unfoldable pub soundFor : Names → List Named → Column → Bool
-soundFor names ms c = elim (find (c .name) ms) [ none ↦ true | some j ↦ isFine (valueWritten names c j .fault) ]
+soundFor names ms c = elim (memberNamed (c .name) ms) [ none ↦ true | some j ↦ isFine (valueWritten names c j .fault) ]
 
 unfoldable pub valuesFor : Names → List Named → List Column → List (Option Value)
 valuesFor names ms cs = map (valueFor names ms) cs

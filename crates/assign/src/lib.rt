@@ -4,15 +4,15 @@ use model::Found;
 ghost use mathlib.Core.Path.{_≡_};
 ghost use mathlib.Core.Bool.{true, false};
 ghost use mathlib.Core.List.{map};
-ghost use Prim.Native.Nat.{_^_, _≤_, _<_};
+ghost use Prim.Native.Nat.{_≤_, _<_};
 ghost use lib.ListN.{length};
 ghost use Rattle.model.specs.Octets.{value};
-ghost use Rattle.model.specs.Nav.{Says, wellAt, treeAt, itemsFine};
+ghost use Rattle.inner.specs.Positions.{Says, wellAt, treeAt, itemsFine};
 ghost use Rattle.model.specs.Members.{membersIn};
 ghost use Rattle.model.specs.Faults.{isFine, rank, earlier};
 ghost use Rattle.model.specs.Operations.{knownNames};
-ghost use Rattle.model.specs.Packed.{columnFrom};
-ghost use Rattle.model.specs.Working.{minimums};
+ghost use Rattle.inner.specs.Packed.{columnFrom};
+ghost use Rattle.inner.specs.Working.{minimums};
 ghost use Rattle.uuids.specs.Named.{namesAt, Running};
 ghost use Rattle.conditions.specs.Tests.{testsAt};
 ghost use Rattle.assign.specs.Assigned.{absentBy, namedBy, writtenRow, faultOf, faultsOf, valueFor, valuesFor, soundFor, allSound, ColumnAssigned, RowAssigned, Inserted, Updated};
@@ -233,14 +233,6 @@ fn minimums_of(columns: &[[u8; 48]]) -> [u8; 6]
     mins
 }
 
-// An id of 16 bytes is a number of 16 bytes.
-fn bounded(id: &[u8])
-    requires { ⌜ length (now id) ≡ 16 ⌝ }
-    ensures { λ _. ⌜ value (now (id .entry)) < 256 ^ 16 ⌝ }
-{
-    let first = id[0];
-}
-
 // A new row of a table, with what the row at `at` says, added to the rows.
 pub fn insert_row(
     text: &[u8],
@@ -261,7 +253,6 @@ pub fn insert_row(
     requires { ⌜ n < length (now rows) ⌝ }
     ensures { λ _. ⌜ Inserted (map columnFrom (now (columns .entry))) (writtenRow true (now (text .entry)) ops (now (fresh .entry)) (now (columns .entry)) at .got) table (value (now (id .entry))) n (now (rows .entry)) (now (rows .exit)) ⌝ }
 {
-    bounded(&id[..]);
     let mins = minimums_of(columns);
     let mut row = rows::new_row(table, id, &mins);
     assign_row(text, ends, ops, fresh, columns, at, &mut row);

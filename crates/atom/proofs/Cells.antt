@@ -80,11 +80,6 @@ take-found zero (a ∷ l) = refl
 take-found (suc n) [] = refl
 take-found (suc n) (a ∷ l) = ap (λ r. a ∷ r) (take-found n l)
 
--- what holds at every place holds of all
-pub all-places : {A : Type 0} (q : A → Bool) (d : A) (l : List A) → ((i : ℕ) → q (getD l i d) ≡ true) → all q l ≡ true
-all-places q d [] h = refl
-all-places q d (a ∷ l) h = rw (h 0, all-places q d l (λ i. h (suc i)))
-
 -- an element is put in at j, and what stood there is put in after it
 pub carried : {A : Type 0} (a : List A) (j : ℕ) (x d : A) → j < length a → take (j + 1) (set a j x) ++ (getD a j d ∷ drop (j + 1) (set a j x)) ≡ take j a ++ (x ∷ drop j a)
 carried a j x d h = rw (add-one j, take-suc-set a j x h, drop-set-lt (suc j) a j x (omega arith), append-snoc, drop-cons a j d h)

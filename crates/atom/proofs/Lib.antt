@@ -2,3 +2,4 @@
 pub mod Cells
 pub mod Types
 pub mod Texts
+pub mod Typed

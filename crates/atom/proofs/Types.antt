@@ -7,31 +7,32 @@ use lib.Dec.{eqb, ltb}
 use lib.Signed.{ltZ}
 use borrow.Author.Tests.{ne-eqb, lt-ltb, le-ltb, ltb-true, ltb-false}
 use Rattle.model.specs.Octets.{ltBytes}
-use Rattle.model.specs.Schema.{integer, boolean, text, uuid, baseOf}
+use Rattle.model.specs.Schema.{integer, boolean, text, uuid}
+use Rattle.inner.specs.Packed.{baseNumbered}
 use Rattle.model.specs.Value.{fromTwos, lessAtom}
 use Rattle.model.proofs.Tests.{split}
 use Rattle.atom.specs.Bytes.{halves}
 
-pub base-integer : (k : ℕ) → k ≡ 0 → baseOf k ≡ integer
-unfolding baseOf
+pub base-integer : (k : ℕ) → k ≡ 0 → baseNumbered k ≡ integer
+unfolding baseNumbered
 base-integer k h = rw h
 
-pub base-boolean : (k : ℕ) → k ≡ 1 → baseOf k ≡ boolean
-unfolding baseOf
+pub base-boolean : (k : ℕ) → k ≡ 1 → baseNumbered k ≡ boolean
+unfolding baseNumbered
 base-boolean k h = rw h
 
-pub base-text : (k : ℕ) → k ≡ 2 → baseOf k ≡ text
-unfolding baseOf
+pub base-text : (k : ℕ) → k ≡ 2 → baseNumbered k ≡ text
+unfolding baseNumbered
 base-text k h = rw h
 
-pub base-uuid : (k : ℕ) → (k ≡ 0 → ⊥) → (k ≡ 1 → ⊥) → (k ≡ 2 → ⊥) → baseOf k ≡ uuid
-unfolding baseOf
-base-uuid k a b c = rw (baseOf, ne-eqb k 0 a, ne-eqb k 1 b, ne-eqb k 2 c)
+pub base-uuid : (k : ℕ) → (k ≡ 0 → ⊥) → (k ≡ 1 → ⊥) → (k ≡ 2 → ⊥) → baseNumbered k ≡ uuid
+unfolding baseNumbered
+base-uuid k a b c = rw (baseNumbered, ne-eqb k 0 a, ne-eqb k 1 b, ne-eqb k 2 c)
 
 -- truth values and ids are in the order of their bytes
-pub by-bytes : (k : ℕ) (a b : List ℕ) → (k ≡ 0 → ⊥) → (k ≡ 2 → ⊥) → lessAtom (baseOf k) a b ≡ ltBytes a b
-unfolding baseOf
-by-bytes k a b h g = split (eqb k 1) (λ e. rw (baseOf, ne-eqb k 0 h, e)) (λ e. rw (baseOf, ne-eqb k 0 h, e, ne-eqb k 2 g))
+pub by-bytes : (k : ℕ) (a b : List ℕ) → (k ≡ 0 → ⊥) → (k ≡ 2 → ⊥) → lessAtom (baseNumbered k) a b ≡ ltBytes a b
+unfolding baseNumbered
+by-bytes k a b h g = split (eqb k 1) (λ e. rw (baseNumbered, ne-eqb k 0 h, e)) (λ e. rw (baseNumbered, ne-eqb k 0 h, e, ne-eqb k 2 g))
 
 -- two tests of an order that go together
 ltb-same : (a b c d : ℕ) → (a < b → c < d) → (b ≤ a → d ≤ c) → ltb a b ≡ ltb c d

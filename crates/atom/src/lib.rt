@@ -1,15 +1,13 @@
 // Atoms of 25 bytes: equality, order by base type, texts, and which are well formed.
 ghost use mathlib.Core.Path.{_≡_};
 ghost use mathlib.Core.Bool.{true};
-ghost use lib.Dec.{ltb};
 ghost use lib.ListN.{length, drop};
 ghost use Rattle.model.specs.Octets.{eqBytes};
-ghost use Rattle.model.specs.Base.{all};
-ghost use Rattle.model.specs.Schema.{integer, boolean, text, baseOf};
-ghost use Rattle.model.specs.Strings.{secondLow, secondHigh};
+ghost use Rattle.model.specs.Schema.{integer, boolean, text};
+ghost use Rattle.inner.specs.Packed.{baseNumbered};
 ghost use Rattle.model.specs.Text.{chars};
 ghost use Rattle.model.specs.Value.{zeros, textOf, isUtf8, lessAtom, wellAtom, byteAtom};
-ghost use Rattle.atom.specs.Bytes.{halves, moreAfter, fitsAt, dueAfter, lowAfter, highAfter, ones};
+ghost use Rattle.atom.specs.Bytes.{halves, secondLow, secondHigh, moreAfter, fitsAt, dueAfter, lowAfter, highAfter, ones, Typed};
 
 // Whether a and b are the same atom.
 pub fn same(a: &[u8; 25], b: &[u8; 25]) -> bool
@@ -26,9 +24,10 @@ pub fn same(a: &[u8; 25], b: &[u8; 25]) -> bool
     ok
 }
 
-// Whether an atom's bytes from `at` on are zero.
+// Whether an atom's bytes from `at` on are zero; and what its type says of it.
 pub fn blank_from(a: &[u8; 25], at: usize) -> bool
     ensures { λ r. ⌜ r ≡ zeros (drop at (now (a .entry))) ⌝ }
+    ensures { λ _. ⌜ Typed at (now (a .entry)) ⌝ }
 {
     let x = &a[..];
     let mut ok = true;
@@ -87,7 +86,7 @@ fn turned(x: u64) -> u64
 
 // Whether a is before b, of a base type by its number.
 pub fn less(kind: u8, a: &[u8; 25], b: &[u8; 25]) -> bool
-    ensures { λ r. ⌜ r ≡ lessAtom (baseOf kind) (now (a .entry)) (now (b .entry)) ⌝ }
+    ensures { λ r. ⌜ r ≡ lessAtom (baseNumbered kind) (now (a .entry)) (now (b .entry)) ⌝ }
 {
     if kind == 0 {
         return less_integers(a, b);
@@ -234,6 +233,7 @@ pub fn count_chars(t: &[u8]) -> usize
 
 fn well_boolean(a: &[u8; 25]) -> bool
     ensures { λ r. ⌜ r ≡ wellAtom boolean (now (a .entry)) ⌝ }
+    ensures { λ r. ⌜ (r ≡ true → byteAtom (now (a .entry)) ≡ true) ⌝ }
 {
     let z = blank_from(a, 1);
     (a[0] < 2) & z
@@ -241,6 +241,7 @@ fn well_boolean(a: &[u8; 25]) -> bool
 
 fn well_text(a: &[u8; 25]) -> bool
     ensures { λ r. ⌜ r ≡ wellAtom text (now (a .entry)) ⌝ }
+    ensures { λ r. ⌜ (r ≡ true → byteAtom (now (a .entry)) ≡ true) ⌝ }
 {
     let n = wide(a[0]);
     if 24 < n {
@@ -251,9 +252,10 @@ fn well_text(a: &[u8; 25]) -> bool
     u & z
 }
 
-// Whether an atom is well formed for a base type by its number.
+// Whether an atom is well formed for a base type by its number; such a one is 25 bytes.
 pub fn well_atom(kind: u8, a: &[u8; 25]) -> bool
-    ensures { λ r. ⌜ r ≡ wellAtom (baseOf kind) (now (a .entry)) ⌝ }
+    ensures { λ r. ⌜ r ≡ wellAtom (baseNumbered kind) (now (a .entry)) ⌝ }
+    ensures { λ r. ⌜ (r ≡ true → byteAtom (now (a .entry)) ≡ true) ⌝ }
 {
     if kind == 0 {
         return blank_from(a, 8);
@@ -265,24 +267,4 @@ pub fn well_atom(kind: u8, a: &[u8; 25]) -> bool
         return well_text(a);
     }
     blank_from(a, 16)
-}
-
-// That atoms are 25 bytes each, which their type says.
-pub fn bytes(a: &[u8; 25]) -> bool
-    ensures { λ r. ⌜ r ≡ byteAtom (now (a .entry)) ⌝ }
-{
-    let x = &a[..];
-    small(x)
-}
-
-fn small(x: &[u8]) -> bool
-    ensures { λ r. ⌜ r ≡ all (λ b. ltb b 256) (now (x .entry)) ⌝ }
-{
-    yes()
-}
-
-fn yes() -> bool
-    ensures { λ r. ⌜ r ≡ true ⌝ }
-{
-    true
 }

@@ -14,7 +14,7 @@ use Rattle.model.specs.Base.{nth}
 use Rattle.model.specs.Schema.{Schema, columnsOf}
 use Rattle.model.specs.Value.{Value}
 use Rattle.model.specs.Rows.{Row, keyOf, key, find, has}
-use Rattle.model.specs.Order.{Fine, AllFine}
+use Rattle.model.proofs.Order.{Fine, AllFine}
 use Rattle.model.specs.Mirror.{Mirror, columnBytes, valueAnswer, rowAnswer, columnAnswer}
 use Rattle.model.specs.Areas.{tablesIn, MirrorState, mirrorBytes, mirrorOf}
 use Rattle.model.specs.Calls.{asked, Presence, noPresence, presenceOf, mirrorHasRow, Contents, noContents, contentsOf, mirrorColumn}

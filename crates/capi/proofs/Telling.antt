@@ -1,6 +1,6 @@
 -- What the exported questions return and leave, by what the mirror's calls promise. Assumes nothing.
 use mathlib.Core.Path.{_≡_, refl, sym, _∙_, ap}
-use mathlib.Core.Bool.{Bool, true, false}
+use mathlib.Core.Bool.{Bool, true, false, not}
 use mathlib.Core.List.{List, [], _∷_, _++_}
 use Prim.Native.Nat.{ℕ, min}
 use native.Mathlib.Omega.{arith}
@@ -9,10 +9,14 @@ use lib.Dec.{eqb}
 use lib.ListN.{length, drop, set, replicate}
 use Rattle.model.specs.Octets.{big}
 use Rattle.model.specs.Refusals.{numberOf}
-use Rattle.model.specs.Areas.{bit}
+use Rattle.model.specs.Base.{isSome}
+use Rattle.model.specs.Areas.{bit, mirrorBytes, mirrorOf}
 use Rattle.model.specs.Calls.{zeroed, Progress, mirrorProgress, Presence, mirrorHasRow}
 use Rattle.model.specs.declared.Answer.{Answer}
-use Rattle.capi.specs.Exports.{Told, toldIn, progressBytes, presenceBytes}
+use Rattle.model.specs.FirstRefusal.{askNumber}
+use Rattle.model.proofs.Tests.{split}
+use Rattle.model.proofs.Accepting.{progress-first, has-row-first, short-first}
+use Rattle.capi.specs.Exports.{Told, toldIn, progressBytes, presenceBytes, askedNumber}
 use Rattle.capi.proofs.Beyond.{row-small}
 
 told-other : (n : ℕ) (out z : List ℕ) (a : Answer) (bytes : List ℕ) → (length out ≡ n → ⊥) → z ≡ zeroed out → toldIn n out a bytes ≡ record { answer = 2; out = z }
@@ -22,6 +26,19 @@ told-other n out z a bytes h e = rw (ne-eqb (length out) n h, toldIn) (ap (λ (l
 told-is : (n : ℕ) (out z : List ℕ) (a : Answer) (bytes : List ℕ) (r : ℕ) → length out ≡ n → r ≡ numberOf a → z ≡ bytes → toldIn n out a bytes ≡ record { answer = r; out = z }
 unfolding toldIn
 told-is n out z a bytes r h e f = rw (eq-eqb (length out) n h, toldIn) (λ j. record { answer = sym e j; out = sym f j })
+
+-- the number is the first of the refusals that apply
+told-number : (n : ℕ) (area out : List ℕ) (a : Answer) (bytes : List ℕ) → numberOf a ≡ askNumber area → toldIn n out a bytes .answer ≡ askedNumber n area out
+unfolding toldIn askedNumber askNumber
+told-number n area out a bytes h = split (eqb (length out) n) (λ e. rw (toldIn, e) h) (λ e. rw (toldIn, e) (sym (short-first (eqb (length area) mirrorBytes) (not (isSome (mirrorOf area))))))
+
+pub progress-numbered : (area out : List ℕ) {x : Told} → progressBytes area out ≡ x → (x .answer ≡ askedNumber 5 area out) × (progressBytes area out ≡ x)
+unfolding progressBytes
+progress-numbered area out e = (ap (λ (t : Told). t .answer) (sym e) ∙ told-number 5 area out (mirrorProgress area .answer) _ (progress-first area), e)
+
+pub presence-numbered : (area : List ℕ) (t : ℕ) (id out : List ℕ) {x : Told} → presenceBytes area t id out ≡ x → (x .answer ≡ askedNumber 1 area out) × (presenceBytes area t id out ≡ x)
+unfolding presenceBytes
+presence-numbered area t id out e = (ap (λ (y : Told). y .answer) (sym e) ∙ told-number 1 area out (mirrorHasRow area t id .answer) _ (has-row-first area t id), e)
 
 -- the last of five bytes, and the one of one
 pub last-byte : (out : List ℕ) (x : ℕ) → length out ≡ 5 → drop 4 (set out 4 x) ≡ x ∷ []

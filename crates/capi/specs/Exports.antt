@@ -9,6 +9,7 @@ use Rattle.model.specs.declared.Answer.the-variants.{WrongLength}
 use Rattle.model.specs.Octets.{big}
 use Rattle.model.specs.Refusals.{numberOf}
 use Rattle.model.specs.Areas.{bit}
+use Rattle.model.specs.FirstRefusal.{given, askConditions}
 use Rattle.model.specs.Calls.{zeroed, Progress, mirrorProgress, Presence, mirrorHasRow}
 
 -- a question's answer as a number, and its output
@@ -31,3 +32,7 @@ progressBytes area out = let p = mirrorProgress area in toldIn 5 out (p .answer)
 -- 1 where the row is there
 unfoldable pub presenceBytes : List ℕ → ℕ → List ℕ → List ℕ → Told
 presenceBytes area t id out = let p = mirrorHasRow area t id in toldIn 1 out (p .answer) (bit (p .there) ∷ [])
+
+-- the number that a question with an output of n bytes gets: the first of its refusals that applies
+unfoldable pub askedNumber : ℕ → List ℕ → List ℕ → ℕ
+askedNumber n area out = given (askConditions (eqb (length out) n) area) 0

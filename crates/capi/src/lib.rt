@@ -6,7 +6,8 @@ ghost use Prim.Native.Nat.{min};
 ghost use Rattle.model.specs.Refusals.{numberOf};
 ghost use Rattle.model.specs.Areas.{storeBytes, mirrorBytes, bit};
 ghost use Rattle.model.specs.Calls.{storeStart, storeTransact, storeMark, mirrorStart, mirrorHear, mirrorColumn};
-ghost use Rattle.capi.specs.Exports.{progressBytes, presenceBytes};
+ghost use Rattle.model.specs.FirstRefusal.{storeStartNumber, transactNumber, markNumber, mirrorStartNumber, hearNumber, columnNumber};
+ghost use Rattle.capi.specs.Exports.{progressBytes, presenceBytes, askedNumber};
 
 // An answer's number.
 fn number(a: Answer) -> u32
@@ -67,6 +68,7 @@ pub extern "C" fn maq_mirror_area_len() -> u64
 
 #[no_mangle]
 pub extern "C" fn maq_store_start(area: &mut [u8], schema: &[u8], run: u32) -> u32
+    ensures { λ r. ⌜ r ≡ storeStartNumber (now (area .entry)) (now (schema .entry)) ⌝ }
     ensures { λ r. ⌜ r ≡ numberOf (storeStart (now (area .entry)) (now (schema .entry)) run .answer) ⌝ }
     ensures { λ _. ⌜ now (area .exit) ≡ storeStart (now (area .entry)) (now (schema .entry)) run .area ⌝ }
 {
@@ -81,6 +83,7 @@ pub extern "C" fn maq_store_transact(
     records: &mut [u8],
     answer: &mut [u8],
 ) -> u32
+    ensures { λ r. ⌜ r ≡ transactNumber (now (area .entry)) (now (request .entry)) (now (fresh .entry)) (now (records .entry)) (now (answer .entry)) ⌝ }
     ensures { λ r. ⌜ r ≡ numberOf (storeTransact (now (area .entry)) (now (request .entry)) (now (fresh .entry)) (now (records .entry)) (now (answer .entry)) .answer) ⌝ }
     ensures { λ _. ⌜ now (area .exit) ≡ storeTransact (now (area .entry)) (now (request .entry)) (now (fresh .entry)) (now (records .entry)) (now (answer .entry)) .area ⌝ }
     ensures { λ _. ⌜ now (records .exit) ≡ storeTransact (now (area .entry)) (now (request .entry)) (now (fresh .entry)) (now (records .entry)) (now (answer .entry)) .records ⌝ }
@@ -91,6 +94,7 @@ pub extern "C" fn maq_store_transact(
 
 #[no_mangle]
 pub extern "C" fn maq_store_mark(area: &[u8], mark: &mut [u8]) -> u32
+    ensures { λ r. ⌜ r ≡ markNumber (now (area .entry)) (now (mark .entry)) ⌝ }
     ensures { λ r. ⌜ r ≡ numberOf (storeMark (now (area .entry)) (now (mark .entry)) .answer) ⌝ }
     ensures { λ _. ⌜ now (mark .exit) ≡ storeMark (now (area .entry)) (now (mark .entry)) .mark ⌝ }
 {
@@ -99,6 +103,7 @@ pub extern "C" fn maq_store_mark(area: &[u8], mark: &mut [u8]) -> u32
 
 #[no_mangle]
 pub extern "C" fn maq_mirror_start(area: &mut [u8], schema: &[u8], run: u32) -> u32
+    ensures { λ r. ⌜ r ≡ mirrorStartNumber (now (area .entry)) (now (schema .entry)) ⌝ }
     ensures { λ r. ⌜ r ≡ numberOf (mirrorStart (now (area .entry)) (now (schema .entry)) run .answer) ⌝ }
     ensures { λ _. ⌜ now (area .exit) ≡ mirrorStart (now (area .entry)) (now (schema .entry)) run .area ⌝ }
 {
@@ -107,6 +112,7 @@ pub extern "C" fn maq_mirror_start(area: &mut [u8], schema: &[u8], run: u32) -> 
 
 #[no_mangle]
 pub extern "C" fn maq_mirror_hear(area: &mut [u8], bytes: &[u8]) -> u32
+    ensures { λ r. ⌜ r ≡ hearNumber (now (area .entry)) (now (bytes .entry)) ⌝ }
     ensures { λ r. ⌜ r ≡ numberOf (mirrorHear (now (area .entry)) (now (bytes .entry)) .answer) ⌝ }
     ensures { λ _. ⌜ now (area .exit) ≡ mirrorHear (now (area .entry)) (now (bytes .entry)) .area ⌝ }
 {
@@ -116,6 +122,7 @@ pub extern "C" fn maq_mirror_hear(area: &mut [u8], bytes: &[u8]) -> u32
 // n in four bytes and whether it is level, in five bytes in all.
 #[no_mangle]
 pub extern "C" fn maq_mirror_progress(area: &[u8], out: &mut [u8]) -> u32
+    ensures { λ r. ⌜ r ≡ askedNumber 5 (now (area .entry)) (now (out .entry)) ⌝ }
     ensures { λ r. ⌜ progressBytes (now (area .entry)) (now (out .entry)) ≡ record { answer = r; out = now (out .exit) } ⌝ }
 {
     if out.len() != 5 {
@@ -132,6 +139,7 @@ pub extern "C" fn maq_mirror_progress(area: &[u8], out: &mut [u8]) -> u32
 // Whether a row is there, in one byte.
 #[no_mangle]
 pub extern "C" fn maq_mirror_has_row(area: &[u8], table: u32, id: &[u8; 16], out: &mut [u8]) -> u32
+    ensures { λ r. ⌜ r ≡ askedNumber 1 (now (area .entry)) (now (out .entry)) ⌝ }
     ensures { λ r. ⌜ presenceBytes (now (area .entry)) table (now (id .entry)) (now (out .entry)) ≡ record { answer = r; out = now (out .exit) } ⌝ }
 {
     if out.len() != 1 {
@@ -153,6 +161,7 @@ pub extern "C" fn maq_mirror_column(
     column: u32,
     out: &mut [u8],
 ) -> u32
+    ensures { λ r. ⌜ r ≡ columnNumber (now (area .entry)) (now (out .entry)) ⌝ }
     ensures { λ r. ⌜ r ≡ numberOf (mirrorColumn (now (area .entry)) table (now (id .entry)) column (now (out .entry)) .answer) ⌝ }
     ensures { λ _. ⌜ now (out .exit) ≡ mirrorColumn (now (area .entry)) table (now (id .entry)) column (now (out .entry)) .out ⌝ }
 {

@@ -14,12 +14,12 @@ use Rattle.model.specs.Schema.{Schema, columnsOf}
 use Rattle.model.specs.Value.{Value, initial}
 use Rattle.model.specs.Rows.{Row, key, find, has, initials}
 use Rattle.model.specs.Areas.{rowFrom}
-use Rattle.model.specs.Working.{working, tableIn, idIn, keyIn, valueIn, place}
+use Rattle.inner.specs.Working.{working, tableIn, idIn, keyIn, valueIn, place}
 use Rattle.model.specs.Records.{Change, born, gone, column, end, gones, writes, never, rowWrites, walk, closed}
 use Rattle.model.specs.declared.Found.the-variants.{At, Nothing}
 use Rattle.model.proofs.Tests.{split}
-use Rattle.model.proofs.Working.{row-table, row-id, row-key, working-length, working-at, working-on, working-end}
-use Rattle.model.proofs.Places.{place-at, place-none}
+use Rattle.inner.proofs.Working.{row-table, row-id, row-key, working-length, working-at, working-on, working-end}
+use Rattle.inner.proofs.Places.{place-at, place-none}
 use Rattle.references.proofs.Links.{values-length, values-on}
 use Rattle.changes.specs.Walk.{skips, rowPass, rowMost, pass}
 

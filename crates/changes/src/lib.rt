@@ -13,8 +13,8 @@ ghost use Rattle.model.specs.Octets.{value, filled};
 ghost use Rattle.model.specs.Base.{flat};
 ghost use Rattle.model.specs.Schema.{Schema, columnsOf};
 ghost use Rattle.model.specs.Areas.{rowFrom};
-ghost use Rattle.model.specs.Packed.{tablesIn};
-ghost use Rattle.model.specs.Working.{working, tableIn, idIn, keyIn, valueIn, place};
+ghost use Rattle.inner.specs.Packed.{packedTables};
+ghost use Rattle.inner.specs.Working.{working, tableIn, idIn, keyIn, valueIn, place};
 ghost use Rattle.model.specs.Records.{born, gone, column, end, writes, diff, numberFrom, encode};
 ghost use Rattle.references.specs.Links.{Accepted};
 ghost use Rattle.changes.specs.Walk.{Room, Recorded, skips, rowPass, pass, rowMost};
@@ -134,7 +134,7 @@ fn is_left(fresh: bool, old: &[[u8; 25]; 25], row: &[[u8; 25]; 25], c: usize) ->
 // How many columns both rows have.
 fn width_of(schema: &[[u8; 48]], old: &[[u8; 25]; 25], row: &[[u8; 25]; 25]) -> usize
     requires { ⌜ Accepted (now schema) ⌝ }
-    ensures { λ r. ⌜ r ≡ min (length (columnsOf (tablesIn (now (schema .entry))) (tableIn (now (old .entry))))) (length (columnsOf (tablesIn (now (schema .entry))) (tableIn (now (row .entry))))) ⌝ }
+    ensures { λ r. ⌜ r ≡ min (length (columnsOf (packedTables (now (schema .entry))) (tableIn (now (old .entry))))) (length (columnsOf (packedTables (now (schema .entry))) (tableIn (now (row .entry))))) ⌝ }
 {
     let w = references::width(schema, rows::table_of(old));
     let x = references::width(schema, rows::table_of(row));
@@ -157,7 +157,7 @@ fn put_columns(
 ) -> Cursor
     requires { ⌜ Accepted (now schema) ⌝ }
     requires { ⌜ Room 768 start (length (now records)) ⌝ }
-    ensures { λ r. ⌜ Recorded run number (writes (skips fresh) (tableIn (now (row .entry))) (idIn (now (row .entry))) 0 (rowFrom (tablesIn (now (schema .entry))) (now (old .entry)) .columns) (rowFrom (tablesIn (now (schema .entry))) (now (row .entry)) .columns)) 768 start (now (records .entry)) r (now (records .exit)) ⌝ }
+    ensures { λ r. ⌜ Recorded run number (writes (skips fresh) (tableIn (now (row .entry))) (idIn (now (row .entry))) 0 (rowFrom (packedTables (now (schema .entry))) (now (old .entry)) .columns) (rowFrom (packedTables (now (schema .entry))) (now (row .entry)) .columns)) 768 start (now (records .entry)) r (now (records .exit)) ⌝ }
 {
     let w = width_of(schema, old, row);
     let mut to = start;
@@ -188,7 +188,7 @@ fn put_row(
     requires { ⌜ Accepted (now schema) ⌝ }
     requires { ⌜ k ≤ length (now others) ⌝ }
     requires { ⌜ Room (rowMost gone) to (length (now records)) ⌝ }
-    ensures { λ r. ⌜ Recorded run number (rowPass gone (tablesIn (now (schema .entry))) (working (tablesIn (now (schema .entry))) k (now (others .entry))) (rowFrom (tablesIn (now (schema .entry))) (now (row .entry)))) (rowMost gone) to (now (records .entry)) r (now (records .exit)) ⌝ }
+    ensures { λ r. ⌜ Recorded run number (rowPass gone (packedTables (now (schema .entry))) (working (packedTables (now (schema .entry))) k (now (others .entry))) (rowFrom (packedTables (now (schema .entry))) (now (row .entry)))) (rowMost gone) to (now (records .entry)) r (now (records .exit)) ⌝ }
 {
     let found = place_of(others, k, row);
     match found {
@@ -224,7 +224,7 @@ fn put_rows(
     requires { ⌜ Accepted (now schema) ⌝ }
     requires { ⌜ (n ≤ length (now rows)) × (k ≤ length (now others)) ⌝ }
     requires { ⌜ Room (rowMost gone * n) start (length (now records)) ⌝ }
-    ensures { λ r. ⌜ Recorded run number (pass gone (tablesIn (now (schema .entry))) (working (tablesIn (now (schema .entry))) k (now (others .entry))) (working (tablesIn (now (schema .entry))) n (now (rows .entry)))) (rowMost gone * n) start (now (records .entry)) r (now (records .exit)) ⌝ }
+    ensures { λ r. ⌜ Recorded run number (pass gone (packedTables (now (schema .entry))) (working (packedTables (now (schema .entry))) k (now (others .entry))) (working (packedTables (now (schema .entry))) n (now (rows .entry)))) (rowMost gone * n) start (now (records .entry)) r (now (records .exit)) ⌝ }
 {
     let mut to = start;
     let mut i = 0;
@@ -250,8 +250,8 @@ pub fn write(
 ) -> usize
     requires { ⌜ Accepted (now schema) ⌝ }
     requires { ⌜ (m ≤ length (now before)) × (n ≤ length (now after)) × (m ≤ mostRows) × (n ≤ mostRows) × (leastRecords ≤ length (now records)) ⌝ }
-    ensures { λ r. ⌜ r ≡ length (diff (tablesIn (now (schema .entry))) (working (tablesIn (now (schema .entry))) m (now (before .entry))) (working (tablesIn (now (schema .entry))) n (now (after .entry)))) ⌝ }
-    ensures { λ _. ⌜ now (records .exit) ≡ filled (length (now (records .entry))) (flat (map encode (numberFrom run number (diff (tablesIn (now (schema .entry))) (working (tablesIn (now (schema .entry))) m (now (before .entry))) (working (tablesIn (now (schema .entry))) n (now (after .entry))))))) ⌝ }
+    ensures { λ r. ⌜ r ≡ length (diff (packedTables (now (schema .entry))) (working (packedTables (now (schema .entry))) m (now (before .entry))) (working (packedTables (now (schema .entry))) n (now (after .entry)))) ⌝ }
+    ensures { λ _. ⌜ now (records .exit) ≡ filled (length (now (records .entry))) (flat (map encode (numberFrom run number (diff (packedTables (now (schema .entry))) (working (packedTables (now (schema .entry))) m (now (before .entry))) (working (packedTables (now (schema .entry))) n (now (after .entry))))))) ⌝ }
 {
     octets::clear(records);
     let to = Cursor { count: 0, at: 0 };

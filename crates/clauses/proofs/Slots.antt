@@ -13,17 +13,18 @@ use Rattle.model.specs.declared.Found.{Found}
 use Rattle.model.specs.declared.Found.the-variants.{At, Nothing}
 use Rattle.model.specs.Base.{member, ascii}
 use Rattle.model.specs.Json.{Json, null, bool, num, str, arr, obj, Named}
-use Rattle.model.specs.Nav.{treeAt, wellAt, kindOf, isArray, isObject, isText, firstOf, itemsFrom, itemsFine, itemsIn}
-use Rattle.model.specs.Members.{membersIn, valueOf}
-use Rattle.model.specs.Text as Text
+use Rattle.inner.specs.Positions.{treeAt, wellAt, firstOf, itemsFrom, itemsFine}
+use Rattle.model.specs.Nav.{kindOf, isArray, isObject, isText, itemsIn}
+use Rattle.model.specs.Members.{membersIn, memberValue}
+use Rattle.inner.specs.Positions as Text
 use Rattle.model.specs.Value.{Value, textOf}
 use Rattle.model.specs.Faults.{isFine, check, Judged}
 use Rattle.model.specs.SchemaText.{isId}
-use Rattle.model.specs.Written.{stringIn, arrayIn, objectIn, find}
+use Rattle.model.specs.Written.{stringIn, arrayIn, objectIn, memberNamed}
 use Rattle.model.specs.Conditions.{Test, readTests}
 use Rattle.model.specs.Mutations.{Mutation, readMutations}
 use Rattle.model.specs.Operations.{rowOf, readRow, readWhere, readMutationList, nameFault}
-use Rattle.model.specs.Packed.{columnFrom}
+use Rattle.inner.specs.Packed.{columnFrom}
 use Rattle.model.proofs.Tests.{split, clash}
 use Rattle.model.proofs.Atoms.{textOf-textAtom}
 use Rattle.nav.proofs.FirstByte.{items-in}
@@ -56,10 +57,10 @@ module _ {s : List ℕ} {ws : List (List ℕ)} {ms : List Named} {slots : List �
   p = getD slots i 0
 
   abbrev found : Bool → Option Json
-  found b = elim b [ true ↦ some (valueOf w ms) | false ↦ none ]
+  found b = elim b [ true ↦ some (memberValue w ms) | false ↦ none ]
 
   -- what the slot of a word stands for is the member of that name
-  pub slot-find : find w ms ≡ slotted s p
+  pub slot-find : memberNamed w ms ≡ slotted s p
   slot-find =
       split
       (eqb p 0)
@@ -228,15 +229,15 @@ module _ (s : List ℕ) (ops : Found) (fresh : List ℕ) (columns : List (List �
 
 -- ── the model's readings of members, by slots ──
 module _ (s : List ℕ) (ops : Found) (fresh : List ℕ) (columns : List (List ℕ)) (ms : List Named) (p : ℕ) where
-  pub where-by : find (ascii "where") ms ≡ slotted s p → readWhere (namesAt s ops fresh) (map columnFrom columns) ms ≡ whereAt s ops fresh columns p
+  pub where-by : memberNamed (ascii "where") ms ≡ slotted s p → readWhere (namesAt s ops fresh) (map columnFrom columns) ms ≡ whereAt s ops fresh columns p
   unfolding whereAt
   where-by e = ap (λ (o : Option Json). testsOr s ops fresh columns p (elim o [ none ↦ none | some j ↦ arrayIn j ])) e
 
-  pub mutations-by : find (ascii "mutations") ms ≡ slotted s p → readMutationList (namesAt s ops fresh) (map columnFrom columns) ms ≡ mutationsIn s ops fresh columns p
+  pub mutations-by : memberNamed (ascii "mutations") ms ≡ slotted s p → readMutationList (namesAt s ops fresh) (map columnFrom columns) ms ≡ mutationsIn s ops fresh columns p
   unfolding mutationsIn
   mutations-by e = ap (λ (o : Option Json). mutationsOr s ops fresh columns p (elim o [ none ↦ none | some j ↦ arrayIn j ])) e
 
-  pub row-by : (insert : Bool) → find (ascii "row") ms ≡ slotted s p → readRow (namesAt s ops fresh) (absentBy insert) (namedBy insert) (map columnFrom columns) ms ≡ rowAt insert s ops fresh columns p
+  pub row-by : (insert : Bool) → memberNamed (ascii "row") ms ≡ slotted s p → readRow (namesAt s ops fresh) (absentBy insert) (namedBy insert) (map columnFrom columns) ms ≡ rowAt insert s ops fresh columns p
   unfolding rowAt
   row-by insert e = ap (λ (o : Option Json). rowOr s ops fresh columns p insert (elim o [ none ↦ none | some j ↦ objectIn j ])) e
 
@@ -300,7 +301,7 @@ module _ (s : List ℕ) (ops : Found) (i : ℕ) where
 
         module _ (t : isText (kindOf j) ≡ true) {w : List ℕ} (q : w ≡ textOf (nameCell j)) where
           abbrev v : List ℕ
-          v = Text.stringIn j
+          v = Text.wordIn j
 
           same-id : isId w ≡ isId v
           unfolding nameCell

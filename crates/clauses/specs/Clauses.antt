@@ -11,14 +11,14 @@ use Rattle.model.specs.declared.Found.{Found}
 use Rattle.model.specs.declared.Found.the-variants.{At, Nothing}
 use Rattle.model.specs.Base.{member}
 use Rattle.model.specs.Json.{Json, Named}
-use Rattle.model.specs.Nav.{wellAt}
+use Rattle.inner.specs.Positions.{wellAt}
 use Rattle.model.specs.Value.{Value}
 use Rattle.model.specs.Faults.{check, Judged}
 use Rattle.model.specs.Written.{arrayIn, objectIn}
 use Rattle.model.specs.Conditions.{Test, readTests}
 use Rattle.model.specs.Mutations.{Mutation, readMutations}
 use Rattle.model.specs.Operations.{rowOf}
-use Rattle.model.specs.Packed.{columnFrom}
+use Rattle.inner.specs.Packed.{columnFrom}
 use Rattle.uuids.specs.Named.{namesAt, operationsAt, placeNamed}
 use Rattle.assign.specs.Assigned.{slotted, absentBy, namedBy}
 

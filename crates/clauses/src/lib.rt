@@ -6,7 +6,7 @@ ghost use mathlib.Core.Bool.{true};
 ghost use mathlib.Core.List.{List};
 ghost use Prim.Native.Nat.{ℕ, _≤_};
 ghost use lib.ListN.{length};
-ghost use Rattle.model.specs.Nav.{Says, itemsFine};
+ghost use Rattle.inner.specs.Positions.{Says, itemsFine};
 ghost use Rattle.model.specs.Operations.{nameFault};
 ghost use Rattle.uuids.specs.Named.{Running};
 ghost use Rattle.assign.specs.Assigned.{slotted};

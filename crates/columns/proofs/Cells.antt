@@ -12,13 +12,14 @@ use Rattle.model.specs.Octets.{big, value, twos}
 use Rattle.model.specs.Base.{ascii}
 use Rattle.model.specs.Scan.{endOr}
 use Rattle.model.specs.Json.{Json, Named, keyAt, memberAt, valueAt}
-use Rattle.model.specs.Nav.{isEnd, treeAt, wellAt}
-use Rattle.model.specs.Text.{stringIn}
-use Rattle.model.specs.Members.{membersIn, has, valueOf}
-use Rattle.model.specs.Whole.{intOf}
+use Rattle.model.specs.Nav.{isRead}
+use Rattle.inner.specs.Positions.{treeAt, wellAt}
+use Rattle.inner.specs.Positions.{wordIn}
+use Rattle.model.specs.Members.{membersIn, hasMember, memberValue}
+use Rattle.model.specs.Whole.{wholeInt}
 use Rattle.model.specs.Value.{textOf, fromTwos}
-use Rattle.model.specs.Schema.{baseOf}
-use Rattle.model.specs.Packed.{cellName, isSet, refersFrom, columnFrom}
+use Rattle.inner.specs.Packed.{baseNumbered}
+use Rattle.inner.specs.Packed.{cellName, isSet, refersFrom, columnFrom}
 use Rattle.model.specs.SchemaText.{must, isId, isBool, truthOr, keyMembers, keyBase, typeMembers, typeTests, typeFits, minOf, maxOf, lowOf, highOf, columnFits, columnOf}
 use Rattle.model.proofs.Tests.{split, clash, and-l, and-r, parts}
 use Rattle.nav.proofs.Rest.{member-is, member-well}
@@ -84,11 +85,11 @@ module _ (name : List ℕ) (size : length name ≡ 25) (t : Shape) (m : Bool) (r
   unfolding shapeBytes
   mutable-at = byte-at 5
 
-  low-at : take 8 (drop 31 cell) ≡ big 8 (twos 64 (intOf (t .key .low)))
+  low-at : take 8 (drop 31 cell) ≡ big 8 (twos 64 (wholeInt (t .key .low)))
   unfolding shapeBytes limitBytes
   low-at = ap (take 8) (bytes-from 6)
 
-  high-at : take 8 (drop 39 cell) ≡ big 8 (twos 64 (intOf (t .key .high)))
+  high-at : take 8 (drop 39 cell) ≡ big 8 (twos 64 (wholeInt (t .key .high)))
   unfolding shapeBytes limitBytes
   high-at = ap (take 8) (bytes-from 14)
 
@@ -108,7 +109,7 @@ module _ (s : List ℕ) (tables : List (List ℕ)) (c : Named) (f : List ℕ) (k
   slot i = getD f i 0
 
   abbrev j : Json
-  j = valueOf (ascii "type") ms
+  j = memberValue (ascii "type") ms
 
   type-told : must (ascii "type") (typeFits tables) ms ≡ t .fits
   type-told =
@@ -135,9 +136,9 @@ module _ (s : List ℕ) (tables : List (List ℕ)) (c : Named) (f : List ℕ) (k
     ts = typeMembers j
 
     abbrev ks : List Named
-    ks = keyMembers (valueOf (ascii "key") ts)
+    ks = keyMembers (memberValue (ascii "key") ts)
 
-    key-is : KeyRead tables (valueOf (ascii "key") ts) (t .key)
+    key-is : KeyRead tables (memberValue (ascii "key") ts) (t .key)
     key-is = type-is .key typed
 
     type-good : typeFits tables j ≡ true
@@ -145,7 +146,7 @@ module _ (s : List ℕ) (tables : List (List ℕ)) (c : Named) (f : List ℕ) (k
 
     key-good : t .key .fits ≡ true
     unfolding typeFits
-    key-good = key-is .fits ∙ and-r (has (ascii "key") ts) _ (parts (typeTests tables ts) type-good .1 .0)
+    key-good = key-is .fits ∙ and-r (hasMember (ascii "key") ts) _ (parts (typeTests tables ts) type-good .1 .0)
 
     few : (minOf ts ≤ 4) × (maxOf ts ≤ 4)
     few = sizes-few tables j type-good
@@ -157,13 +158,13 @@ module _ (s : List ℕ) (tables : List (List ℕ)) (c : Named) (f : List ℕ) (k
         let m : Bool = truthOr true (slotTree s (slot 2)) in
         let cell : List ℕ = (name ++ shapeBytes t m) ++ rest in
         let p0 : cellName cell ≡ c .name = ap cellName (append-assoc name (shapeBytes t m) rest) ∙ name-read name (shapeBytes t m ++ rest) size short ∙ is in
-        let p1 : baseOf (getD cell 25 0) ≡ keyBase ks = ap baseOf (base-at name size t m rest) ∙ key-is .base in
+        let p1 : baseNumbered (getD cell 25 0) ≡ keyBase ks = ap baseNumbered (base-at name size t m rest) ∙ key-is .base in
         let p2 : refersFrom (getD cell 26 0) (getD cell 27 0) ≡ columnOf tables c .refers = (λ i. refersFrom (how-at name size t m rest i) (target-at name size t m rest i)) ∙ key-is .refers key-good in
         let p3 : getD cell 28 0 ≡ minOf ts = min-at name size t m rest ∙ ap small (type-is .min) ∙ small-is (minOf ts) (few .0) in
         let p4 : getD cell 29 0 ≡ maxOf ts = max-at name size t m rest ∙ ap small (type-is .max) ∙ small-is (maxOf ts) (few .1) in
         let p5 : fromTwos (value (take 8 (drop 31 cell))) ≡ lowOf (keyBase ks) ks = ap (λ (l : List ℕ). fromTwos (value l)) (low-at name size t m rest) ∙ low-back (keyBase ks) ks (key-is .low) in
         let p6 : fromTwos (value (take 8 (drop 39 cell))) ≡ highOf (keyBase ks) ks = ap (λ (l : List ℕ). fromTwos (value l)) (high-at name size t m rest) ∙ high-back (keyBase ks) ks (key-is .high) in
-        let p7 : isSet cell 30 ≡ truthOr true (valueOf (ascii "mutable") ms) = ap (λ (x : ℕ). eqb x 1) (mutable-at name size t m rest) ∙ bit-is m ∙ ap (truthOr true) (sym (k .value 2 (omega arith))) in
+        let p7 : isSet cell 30 ≡ truthOr true (memberValue (ascii "mutable") ms) = ap (λ (x : ℕ). eqb x 1) (mutable-at name size t m rest) ∙ bit-is m ∙ ap (truthOr true) (sym (k .value 2 (omega arith))) in
         λ i. record { name = p0 i; base = p1 i; refers = p2 i; min = p3 i; max = p4 i; low = p5 i; high = p6 i; mutable = p7 i }
 
   pub column-read : (name rest : List ℕ) → length name ≡ 25 → getD name 0 0 ≤ 24 → (isId (c .name) ≡ true → textOf name ≡ c .name) → ColumnRead tables c (record { fits = columnTold s f (t .fits); cell = (name ++ shapeBytes t (truthOr true (slotTree s (slot 2)))) ++ rest })
@@ -184,9 +185,9 @@ name-size t =
     rw (shortCell, e) (omega (arith, length-append (length t ∷ t) (replicate (25 - suc (length t)) 0), length-replicate {A = ℕ} (25 - suc (length t)) 0)))
     (λ e. rw (shortCell, e))
 
-module _ (s : List ℕ) (p : ℕ) (well : isEnd (memberAt (valueAt 12 s) s p .read) ≡ true) where
+module _ (s : List ℕ) (p : ℕ) (well : isRead (memberAt (valueAt 12 s) s p .read) ≡ true) where
   name-cell : nameCell (treeAt s p) ≡ shortCell (memberOf s p .name)
-  unfolding nameCell stringIn
+  unfolding nameCell wordIn
   name-cell = ap nameCell (name-at s p well)
 
   pub member-size : length (nameCell (treeAt s p)) ≡ 25

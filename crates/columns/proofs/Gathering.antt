@@ -13,9 +13,10 @@ use Rattle.model.specs.declared.Found.{Found}
 use Rattle.model.specs.declared.Found.the-variants.{At, Nothing}
 use Rattle.model.specs.Base.{all}
 use Rattle.model.specs.Json.{Json, Named, memberAt, valueAt}
-use Rattle.model.specs.Nav.{treeAt, wellAt, kindOf, isObject, isEnd, firstOf, membersFrom, membersFine, nextMember}
-use Rattle.model.specs.Members.{membersIn, has, counting}
-use Rattle.model.specs.Text.{stringIn}
+use Rattle.inner.specs.Positions.{treeAt, wellAt, firstOf, membersFrom, membersFine, nextMember}
+use Rattle.model.specs.Nav.{kindOf, isObject, isRead}
+use Rattle.model.specs.Members.{membersIn, hasMember, counting}
+use Rattle.inner.specs.Positions.{wordIn}
 use Rattle.model.specs.Value.{textOf}
 use Rattle.model.specs.SchemaText.{names, isId}
 use Rattle.model.proofs.Tests.{split, clash}
@@ -33,14 +34,14 @@ pub record Gathered (s : List ℕ) (most : ℕ) (j : Json) (n : ℕ) (places : L
   pub fine : membersFine s g ≡ true
   pub ids : all isId (names (membersIn j)) ≡ all isId (names (membersFrom s g))
   pub are : counting (membersIn j) ≡ map (memberOf s) (take n places) ++ counting (membersFrom s g)
-  pub well : (i : ℕ) → i < n → isEnd (memberAt (valueAt 12 s) s (getD places i 0) .read) ≡ true
+  pub well : (i : ℕ) → i < n → isRead (memberAt (valueAt 12 s) s (getD places i 0) .read) ≡ true
 
 -- a member that counts, and one that does not
-counting-more : (m : Named) (ms : List Named) → has (m .name) ms ≡ false → counting (m ∷ ms) ≡ m ∷ counting ms
+counting-more : (m : Named) (ms : List Named) → hasMember (m .name) ms ≡ false → counting (m ∷ ms) ≡ m ∷ counting ms
 unfolding counting
 counting-more m ms h = rw (counting, h)
 
-counting-less : (m : Named) (ms : List Named) → has (m .name) ms ≡ true → counting (m ∷ ms) ≡ counting ms
+counting-less : (m : Named) (ms : List Named) → hasMember (m .name) ms ≡ true → counting (m ∷ ms) ≡ counting ms
 unfolding counting
 counting-less m ms h = rw (counting, h)
 
@@ -131,7 +132,7 @@ module _ (s : List ℕ) (most : ℕ) (small : most ≤ 6) (at : ℕ) where
       w = textOf (nameCell (treeAt s p))
 
       cell-is : w ≡ textOf (shortCell (memberOf s p .name))
-      unfolding nameCell stringIn
+      unfolding nameCell wordIn
       cell-is = ap (λ (x : Json). textOf (nameCell x)) (pass-name s e (k .fine))
 
       id-is : isId w ≡ isId (memberOf s p .name)
@@ -140,7 +141,7 @@ module _ (s : List ℕ) (most : ℕ) (small : most ≤ 6) (at : ℕ) where
       word-is : isId w ≡ true → w ≡ memberOf s p .name
       word-is h = cell-is ∙ cell-short (memberOf s p .name) (sym (ap isId cell-is) ∙ h)
 
-      here : isEnd (memberAt (valueAt 12 s) s p .read) ≡ true
+      here : isRead (memberAt (valueAt 12 s) s p .read) ≡ true
       here = members-fine s p (subst (λ (x : Found). membersFine s x ≡ true) e (k .fine)) .0
 
       pub name-bad : isId w ≡ false → Collected s most j 9 places
@@ -154,10 +155,10 @@ module _ (s : List ℕ) (most : ℕ) (small : most ≤ 6) (at : ℕ) where
       ids-next : isId w ≡ true → all isId (names (membersIn j)) ≡ all isId (names (membersFrom s (nextMember s p)))
       ids-next h = k .ids ∙ ap (λ (ms : List Named). all isId (names ms)) (pass-rest s e) ∙ rw (sym id-is ∙ h)
 
-      has-is : isId w ≡ true → has w (membersFrom s (nextMember s p)) ≡ has (memberOf s p .name) (membersFrom s (nextMember s p))
-      has-is h = ap (λ (x : List ℕ). has x (membersFrom s (nextMember s p))) (word-is h)
+      has-is : isId w ≡ true → hasMember w (membersFrom s (nextMember s p)) ≡ hasMember (memberOf s p .name) (membersFrom s (nextMember s p))
+      has-is h = ap (λ (x : List ℕ). hasMember x (membersFrom s (nextMember s p))) (word-is h)
 
-      pub gather-again : isId w ≡ true → has w (membersFrom s (nextMember s p)) ≡ true → Gathered s most j n places (nextMember s p)
+      pub gather-again : isId w ≡ true → hasMember w (membersFrom s (nextMember s p)) ≡ true → Gathered s most j n places (nextMember s p)
       gather-again h a =
           record {
             few = k .few;
@@ -171,13 +172,13 @@ module _ (s : List ℕ) (most : ℕ) (small : most ≤ 6) (at : ℕ) where
           }
 
       -- one more that counts
-      more : isId w ≡ true → has w (membersFrom s (nextMember s p)) ≡ false → counting (membersIn j) ≡ (map (memberOf s) (take n places) ++ (memberOf s p ∷ [])) ++ counting (membersFrom s (nextMember s p))
+      more : isId w ≡ true → hasMember w (membersFrom s (nextMember s p)) ≡ false → counting (membersIn j) ≡ (map (memberOf s) (take n places) ++ (memberOf s p ∷ [])) ++ counting (membersFrom s (nextMember s p))
       more h a =
           k .are
           ∙ ap (λ (ms : List Named). map (memberOf s) (take n places) ++ ms) (ap counting (pass-rest s e) ∙ counting-more (memberOf s p) _ (sym (has-is h) ∙ a))
           ∙ sym (append-assoc (map (memberOf s) (take n places)) (memberOf s p ∷ []) (counting (membersFrom s (nextMember s p))))
 
-      pub too-many : isId w ≡ true → has w (membersFrom s (nextMember s p)) ≡ false → n ≡ most → Collected s most j 9 places
+      pub too-many : isId w ≡ true → hasMember w (membersFrom s (nextMember s p)) ≡ false → n ≡ most → Collected s most j 9 places
       unfolding partsFew
       too-many h a f =
           let t : length (take n places) ≡ n = length-take-le n places (let z = k .few in let y = k .size in omega arith) in
@@ -188,7 +189,7 @@ module _ (s : List ℕ) (most : ℕ) (small : most ≤ 6) (at : ℕ) where
           let b : leb (length (counting (membersIn j))) most ≡ false = lt-leb (length (counting (membersIn j))) most (omega arith) in
           refused places (rw (o, b) (and-none (all isId (names (membersIn j)))))
 
-      pub gather-more : isId w ≡ true → has w (membersFrom s (nextMember s p)) ≡ false → (n ≡ most → ⊥) → Gathered s most j (n + 1) (set places n p) (nextMember s p)
+      pub gather-more : isId w ≡ true → hasMember w (membersFrom s (nextMember s p)) ≡ false → (n ≡ most → ⊥) → Gathered s most j (n + 1) (set places n p) (nextMember s p)
       gather-more h a f =
           let lt : n < most = below n most (k .few) f in
           let in6 : n < length places = (let y = k .size in omega arith) in

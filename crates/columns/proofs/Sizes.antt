@@ -14,8 +14,8 @@ use Rattle.model.specs.Base.{ascii}
 use Rattle.model.specs.Limits.{mostElements}
 use Rattle.model.specs.Scan.{isDigit}
 use Rattle.model.specs.Json.{Json, null, bool, num, str, arr, obj, Named}
-use Rattle.model.specs.Members.{has, valueOf}
-use Rattle.model.specs.Whole.{sized, plusOf, minusOf, wholeText, wholeOf, intOf}
+use Rattle.model.specs.Members.{hasMember, memberValue}
+use Rattle.model.specs.Whole.{sized, plusOf, minusOf, wholeText, wholeOf, wholeInt}
 use Rattle.model.specs.Text.{isWord}
 use Rattle.model.specs.Schema.{Base, integer, boolean, text, uuid}
 use Rattle.model.specs.Value.{fromTwos}
@@ -37,8 +37,8 @@ sized-most acc [] =
     split (ltb 9223372036854775808 acc) (λ e. rw (sized, e) tt) (λ e. rw (sized, e) (ltb-false 9223372036854775808 acc e))
 sized-most acc (b ∷ bs) = split (isDigit b) (λ e. rw (sized, e) (sized-most (acc * 10 + (b - 48)) bs)) (λ e. rw (sized, e) tt)
 
-plus-fits : (d : Digits) → fits64 (intOf (plusOf d)) ≡ true
-unfolding plusOf intOf
+plus-fits : (d : Digits) → fits64 (wholeInt (plusOf d)) ≡ true
+unfolding plusOf wholeInt
 plus-fits (Size m) =
     split
     (ltb m 9223372036854775808)
@@ -50,18 +50,18 @@ below-fits : (m : ℕ) → m ≤ 9223372036854775808 → fits64 (negℤ (pos m))
 below-fits zero h = refl
 below-fits (suc m) h = let l : m ≤ 9223372036854775807 = omega arith in rw (le-leb m 9223372036854775807 l)
 
-minus-fits : (d : Digits) → Most d → fits64 (intOf (minusOf d)) ≡ true
-unfolding minusOf intOf Most
+minus-fits : (d : Digits) → Most d → fits64 (wholeInt (minusOf d)) ≡ true
+unfolding minusOf wholeInt Most
 minus-fits (Size m) h = split (eqb m 0) (λ e. rw (minusOf, e)) (λ e. rw (minusOf, e) (below-fits m h))
 minus-fits Bad h = refl
 
-text-fits : (t : List ℕ) → fits64 (intOf (wholeText t)) ≡ true
-unfolding wholeText intOf
+text-fits : (t : List ℕ) → fits64 (wholeInt (wholeText t)) ≡ true
+unfolding wholeText wholeInt
 text-fits [] = refl
 text-fits (b ∷ bs) = split (eqb b 45) (λ e. rw (wholeText, e) (minus-fits (sized 0 bs) (sized-most 0 bs))) (λ e. rw (wholeText, e) (plus-fits (sized 0 (b ∷ bs))))
 
-whole-fits : (j : Json) → fits64 (intOf (wholeOf j)) ≡ true
-unfolding wholeOf intOf
+whole-fits : (j : Json) → fits64 (wholeInt (wholeOf j)) ≡ true
+unfolding wholeOf wholeInt
 whole-fits null = refl
 whole-fits (bool b) = refl
 whole-fits (num t) = text-fits t
@@ -72,7 +72,7 @@ whole-fits (obj ms) = refl
 -- ── limits ──
 limit-fits : (w : List ℕ) (d : ℤ) (ms : List Named) → fits64 d ≡ true → fits64 (limitOr w d ms) ≡ true
 unfolding limitOr
-limit-fits w d ms h = split (has w ms) (λ e. rw (limitOr, e) (whole-fits (valueOf w ms))) (λ e. rw (limitOr, e) h)
+limit-fits w d ms h = split (hasMember w ms) (λ e. rw (limitOr, e) (whole-fits (memberValue w ms))) (λ e. rw (limitOr, e) h)
 
 low-fits : (k : Base) (ms : List Named) → fits64 (lowOf k ms) ≡ true
 unfolding lowOf
@@ -119,8 +119,8 @@ max-size j h =
 max-few : (ts : List Named) → may (ascii "max") isMax ts ≡ true → maxOf ts ≤ 4
 max-few ts h =
     split
-    (has (ascii "max") ts)
-    (λ e. rw (maxOf, e) (max-size (valueOf (ascii "max") ts) (may-true _ _ h e)))
+    (hasMember (ascii "max") ts)
+    (λ e. rw (maxOf, e) (max-size (memberValue (ascii "max") ts) (may-true _ _ h e)))
     (λ e. rw (maxOf, e) (omega arith))
 
 pub sizes-few : (tables : List (List ℕ)) (j : Json) → typeFits tables j ≡ true → (minOf (typeMembers j) ≤ 4) × (maxOf (typeMembers j) ≤ 4)

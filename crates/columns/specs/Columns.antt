@@ -10,8 +10,8 @@ use Rattle.model.specs.Octets.{big, twos}
 use Rattle.model.specs.Json.{Json, Named}
 use Rattle.model.specs.Members.{membersIn, counting}
 use Rattle.model.specs.declared.Whole.{Whole}
-use Rattle.model.specs.Whole.{intOf}
-use Rattle.model.specs.Packed.{columnFrom}
+use Rattle.model.specs.Whole.{wholeInt}
+use Rattle.inner.specs.Packed.{columnFrom}
 use Rattle.model.specs.SchemaText.{names, isBool, isId, columnFits, columnOf, columnsFit}
 use Rattle.fields.specs.Fields.{slotTree}
 use Rattle.types.specs.declared.Shape.{Shape}
@@ -29,7 +29,7 @@ bit false = 0
 
 -- two limits in two's complement
 unfoldable pub limitBytes : Whole → Whole → List ℕ
-limitBytes low high = big 8 (twos 64 (intOf low)) ++ big 8 (twos 64 (intOf high))
+limitBytes low high = big 8 (twos 64 (wholeInt low)) ++ big 8 (twos 64 (wholeInt high))
 
 -- what follows the name in a column's cell: base, how it refers, target, min, max, mutable, low and high
 unfoldable pub shapeBytes : Shape → Bool → List ℕ

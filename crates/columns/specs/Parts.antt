@@ -7,7 +7,7 @@ use lib.Dec.{leb}
 use lib.ListN.{length, getD, take}
 use Rattle.model.specs.Base.{all}
 use Rattle.model.specs.Json.{Json, Named, memberAt, valueAt}
-use Rattle.model.specs.Nav.{kindOf, isObject, isEnd}
+use Rattle.model.specs.Nav.{kindOf, isObject, isRead}
 use Rattle.model.specs.Members.{membersIn, counting}
 use Rattle.model.specs.SchemaText.{names, isId}
 
@@ -23,4 +23,4 @@ partsFew most j = isObject (kindOf j) && (all isId (names (membersIn j)) && leb 
 pub record Collected (s : List ℕ) (most : ℕ) (j : Json) (r : ℕ) (places : List ℕ) : Type 0 where
   pub few : leb r most ≡ partsFew most j
   pub are : leb r most ≡ true → map (memberOf s) (take r places) ≡ counting (membersIn j)
-  pub well : leb r most ≡ true → (i : ℕ) → i < r → isEnd (memberAt (valueAt 12 s) s (getD places i 0) .read) ≡ true
+  pub well : leb r most ≡ true → (i : ℕ) → i < r → isRead (memberAt (valueAt 12 s) s (getD places i 0) .read) ≡ true

@@ -11,9 +11,10 @@ ghost use lib.Dec.{eqb};
 ghost use lib.ListN.{length, getD, drop};
 ghost use Rattle.model.specs.Base.{all};
 ghost use Rattle.model.specs.Json.{memberAt, valueAt};
-ghost use Rattle.model.specs.Nav.{Says, wellAt, treeAt, isEnd, membersFrom, membersFine};
-ghost use Rattle.model.specs.Members.{has};
-ghost use Rattle.model.specs.Packed.{cellName};
+ghost use Rattle.inner.specs.Positions.{Says, wellAt, treeAt, membersFrom, membersFine};
+ghost use Rattle.model.specs.Nav.{isRead};
+ghost use Rattle.model.specs.Members.{hasMember};
+ghost use Rattle.inner.specs.Packed.{cellName};
 ghost use Rattle.model.specs.SchemaText.{isId};
 ghost use Rattle.columns.specs.Parts.{memberOf, Collected};
 ghost use Rattle.columns.specs.Columns.{small, bit, limitBytes, shapeBytes, TypeIn, truthTold, columnTold, ColumnRead, ColumnsPut, ColumnsRead};
@@ -147,7 +148,7 @@ fn column_fits(text: &[u8], f: [usize; 10], typed: bool) -> bool
 // The column that is the member at `at`.
 fn read_column(text: &[u8], ends: &[u16], at: usize, tables: &[[u8; 48]]) -> Read
     requires { ⌜ Says (now text) (now ends) ⌝ }
-    requires { ⌜ isEnd (memberAt (valueAt 12 (now text)) (now text) at .read) ≡ true ⌝ }
+    requires { ⌜ isRead (memberAt (valueAt 12 (now text)) (now text) at .read) ≡ true ⌝ }
     requires { ⌜ all isId (map cellName (now tables)) ≡ true ⌝ }
     requires { ⌜ length (now tables) ≤ 4 ⌝ }
     ensures { λ r. ⌜ ColumnRead (map cellName (now (tables .entry))) (memberOf (now (text .entry)) at) r ⌝ }
@@ -173,7 +174,7 @@ fn put_columns(
     cells: &mut [[u8; 48]],
 ) -> bool
     requires { ⌜ Says (now text) (now ends) ⌝ }
-    requires { ⌜ ((i : ℕ) → i < n → isEnd (memberAt (valueAt 12 (now text)) (now text) (getD (now places) i 0) .read) ≡ true) ⌝ }
+    requires { ⌜ ((i : ℕ) → i < n → isRead (memberAt (valueAt 12 (now text)) (now text) (getD (now places) i 0) .read) ≡ true) ⌝ }
     requires { ⌜ all isId (map cellName (now tables)) ≡ true ⌝ }
     requires { ⌜ length (now tables) ≤ 4 ⌝ }
     requires { ⌜ n ≤ 6 ⌝ }
@@ -197,7 +198,7 @@ fn put_columns(
 fn has_from(text: &[u8], ends: &[u16], g: Found, word: &[u8]) -> bool
     requires { ⌜ Says (now text) (now ends) ⌝ }
     requires { ⌜ membersFine (now text) g ≡ true ⌝ }
-    ensures { λ r. ⌜ r ≡ has (now (word .entry)) (membersFrom (now (text .entry)) g) ⌝ }
+    ensures { λ r. ⌜ r ≡ hasMember (now (word .entry)) (membersFrom (now (text .entry)) g) ⌝ }
 {
     let mut h = g;
     loop {

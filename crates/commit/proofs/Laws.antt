@@ -9,10 +9,10 @@ use Rattle.model.specs.Base.{any, all}
 use Rattle.model.specs.Schema.{Schema}
 use Rattle.model.specs.Rows.{Row}
 use Rattle.model.specs.Commit.{allFound, loose, collect, weaken, allEnough, tablesGood, settled, commit, lawful}
-use Rattle.model.specs.Working.{working, Tidy}
+use Rattle.inner.specs.Working.{working, Tidy}
 use Rattle.model.specs.declared.Fault.the-variants.{Fine, Constraint, Integrity}
 use Rattle.model.proofs.Tests.{clash}
-use Rattle.model.proofs.Working.{working-length}
+use Rattle.inner.proofs.Working.{working-length}
 use Rattle.references.specs.Links.{referred}
 use Rattle.settle.specs.Loose.{Collected}
 use Rattle.settle.specs.Weak.{Weakened}

@@ -7,7 +7,7 @@ use lib.ListN.{take}
 use Rattle.model.specs.Faults.{isFine}
 use Rattle.model.specs.Schema.{Schema}
 use Rattle.model.specs.Commit.{commit}
-use Rattle.model.specs.Working.{working, Tidy}
+use Rattle.inner.specs.Working.{working, Tidy}
 use Rattle.commit.specs.declared.Settled.{Settled}
 
 -- "what happens at the commit": the fault of the four steps over the first n rows, and the rows after them where it is Fine

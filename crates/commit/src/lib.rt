@@ -7,8 +7,8 @@ ghost use Prim.Native.Nat.{ℕ, _+_, _*_, _≤_, _<_};
 ghost use lib.ListN.{length, take, drop, getD};
 ghost use Rattle.model.specs.Base.{any, all};
 ghost use Rattle.model.specs.Commit.{loose, lawful};
-ghost use Rattle.model.specs.Packed.{tablesIn};
-ghost use Rattle.model.specs.Working.{working};
+ghost use Rattle.inner.specs.Packed.{packedTables};
+ghost use Rattle.inner.specs.Working.{working};
 ghost use Rattle.references.specs.Links.{Accepted, referred};
 ghost use Rattle.commit.specs.Steps.{Committed};
 
@@ -22,7 +22,7 @@ pub struct Settled {
 fn all_found(schema: &[[u8; 48]], how: u8, rows: &[[[u8; 25]; 25]], n: usize) -> bool
     requires { ⌜ Accepted (now schema) ⌝ }
     requires { ⌜ n ≤ length (now rows) ⌝ }
-    ensures { λ r. ⌜ r ≡ all (referred (tablesIn (now (schema .entry))) how (working (tablesIn (now (schema .entry))) n (now (rows .entry)))) (working (tablesIn (now (schema .entry))) n (now (rows .entry))) ⌝ }
+    ensures { λ r. ⌜ r ≡ all (referred (packedTables (now (schema .entry))) how (working (packedTables (now (schema .entry))) n (now (rows .entry)))) (working (packedTables (now (schema .entry))) n (now (rows .entry))) ⌝ }
 {
     let mut i = 0;
     while i < n {
@@ -38,7 +38,7 @@ fn all_found(schema: &[[u8; 48]], how: u8, rows: &[[[u8; 25]; 25]], n: usize) ->
 fn any_loose(schema: &[[u8; 48]], rows: &[[[u8; 25]; 25]], n: usize) -> bool
     requires { ⌜ Accepted (now schema) ⌝ }
     requires { ⌜ n ≤ length (now rows) ⌝ }
-    ensures { λ r. ⌜ r ≡ any (loose (tablesIn (now (schema .entry))) (working (tablesIn (now (schema .entry))) n (now (rows .entry)))) (working (tablesIn (now (schema .entry))) n (now (rows .entry))) ⌝ }
+    ensures { λ r. ⌜ r ≡ any (loose (packedTables (now (schema .entry))) (working (packedTables (now (schema .entry))) n (now (rows .entry)))) (working (packedTables (now (schema .entry))) n (now (rows .entry))) ⌝ }
 {
     let mut i = 0;
     while i < n {
@@ -54,7 +54,7 @@ fn any_loose(schema: &[[u8; 48]], rows: &[[[u8; 25]; 25]], n: usize) -> bool
 pub fn commit(schema: &[[u8; 48]], rows: &mut [[[u8; 25]; 25]], n: usize) -> Settled
     requires { ⌜ Accepted (now schema) ⌝ }
     requires { ⌜ n ≤ length (now rows) ⌝ }
-    ensures { λ r. ⌜ Committed (tablesIn (now (schema .entry))) n (now (rows .entry)) (now (rows .exit)) r ⌝ }
+    ensures { λ r. ⌜ Committed (packedTables (now (schema .entry))) n (now (rows .entry)) (now (rows .exit)) r ⌝ }
 {
     if !all_found(schema, 1, rows, n) {
         return Settled {
@@ -86,7 +86,7 @@ pub fn commit(schema: &[[u8; 48]], rows: &mut [[[u8; 25]; 25]], n: usize) -> Set
 pub fn lawful(schema: &[[u8; 48]], rows: &[[[u8; 25]; 25]], n: usize) -> bool
     requires { ⌜ Accepted (now schema) ⌝ }
     requires { ⌜ n ≤ length (now rows) ⌝ }
-    ensures { λ r. ⌜ r ≡ lawful (tablesIn (now (schema .entry))) (working (tablesIn (now (schema .entry))) n (now (rows .entry))) ⌝ }
+    ensures { λ r. ⌜ r ≡ lawful (packedTables (now (schema .entry))) (working (packedTables (now (schema .entry))) n (now (rows .entry))) ⌝ }
 {
     if !all_found(schema, 1, rows, n) {
         return false;

@@ -1,27 +1,26 @@
--- A value as written compared with stored atoms: long strings, sorted elements, first integers. Assumes nothing.
+-- A value as written compared with stored atoms: elements that are stored, sorted elements, first integers. Assumes nothing.
 use mathlib.Core.Path.{_≡_, refl, sym, ap, _∙_}
-use mathlib.Core.Bool.{Bool, true, false, not, _&&_, _||_}
+use mathlib.Core.Bool.{Bool, true, false, not, _&&_}
 use mathlib.Core.List.{List, [], _∷_}
-use mathlib.Core.Option.{Option, none, some}
-use Prim.Native.Nat.{ℕ, suc, _+_, _-_, _≤_, _<_}
+use Prim.Native.Nat.{ℕ, _-_, _≤_}
 use native.Mathlib.Omega.{arith}
-use borrow.Author.Tests.{ne-eqb, lt-ltb, ltb-true}
 use lib.IntN.{ℤ, pos, negsuc}
-use lib.ListN.{length, take, replicate, length-append, length-replicate}
+use lib.ListN.{length, take, replicate}
 use lib.Seq.{take-append-seam}
 use Rattle.model.specs.declared.Found.{Found}
 use Rattle.model.specs.declared.Found.the-variants.{At, Nothing}
 use Rattle.model.specs.declared.Function.{Function}
 use Rattle.model.specs.declared.Function.the-variants.{Less, AtMost, Equal, Unequal, AtLeast, Greater, Includes, Excludes}
-use Rattle.model.specs.Base.{any, all, eqLists}
+use Rattle.model.specs.Octets.{eqBytes}
+use Rattle.model.specs.Base.{any, all, member, eqLists}
 use Rattle.model.specs.Json.{Json}
-use Rattle.model.specs.Nav.{treeAt}
-use Rattle.model.specs.Text as Text
-use Rattle.model.specs.Schema.{Base, integer, boolean, text, uuid}
-use Rattle.model.specs.Value.{blank, textAtom, lessAtom, placed, sorted, valueOf}
-use Rattle.model.specs.Written.{Names, stringIn, elementsIn, longAtom}
+use Rattle.inner.specs.Positions.{treeAt}
+use Rattle.model.specs.Schema.{Base, integer, text}
+use Rattle.model.specs.Value.{blank, lessAtom, placed, sorted, valueOf}
+use Rattle.model.specs.Written.{Names, elementsIn, longAtom}
 use Rattle.model.specs.Conditions.{orders, firstInt, compare}
-use Rattle.model.proofs.Tests.{split, clash, lists-same, and-l, and-r}
+use Rattle.model.proofs.Tests.{split, clash, lists-same, bytes-self, or-true, and-l, and-r}
+use Rattle.model.proofs.Lists.{all-cons}
 use Rattle.model.proofs.Sets.{sorted-length}
 use Rattle.number.specs.declared.Int.{Int}
 use Rattle.number.specs.Ints.{signed, intIn, asInt}
@@ -29,67 +28,12 @@ use Rattle.elements.specs.Elements.{elementsFrom, Begins}
 use Rattle.elements.proofs.Walk.{elements-at, elements-none}
 use Rattle.written.specs.declared.Atom.{Atom}
 use Rattle.written.specs.declared.Atom.the-variants.{Wrong, Long, Fits}
-use Rattle.written.specs.Atoms.{cellOf, atomAs, atomsOf, Reads}
-use Rattle.written.proofs.Reading.{wrong-cell, fits-cell, long-cell}
+use Rattle.written.specs.Atoms.{atomAs, atomsOf, Reads}
+use Rattle.written.proofs.Reading.{wrong-cell, fits-cell}
 use Rattle.sets.specs.Tallies.{allTyped, allShort}
 use Rattle.judged.specs.Weights.{atomsAs, Fitting}
 use Rattle.judged.proofs.Judging.{atoms-length}
-use Rattle.comparison.specs.Comparing.{sized, order}
-
--- ── strings above 24 bytes ──
-short-blank : (k : Base) → longAtom k blank ≡ false
-short-blank integer = refl
-short-blank boolean = refl
-short-blank text = refl
-short-blank uuid = refl
-
-module _ (names : Names) (k : Base) (j : Json) (out : List ℕ) where
-  pub wrong-short : Reads names k j Wrong out → longAtom k (atomAs names k j) ≡ false
-  unfolding Reads
-  wrong-short p = ap (longAtom k) (wrong-cell names j k out p ∙ p .1) ∙ short-blank k
-
-  pub fits-short : Reads names k j Fits out → longAtom k (atomAs names k j) ≡ false
-  unfolding Reads
-  fits-short p = ap (longAtom k) (fits-cell names j k out p) ∙ p .1
-
-  pub long-long : Reads names k j Long out → longAtom k (atomAs names k j) ≡ true
-  long-long p =
-      let q = long-cell names j k out p in
-      ap (longAtom k) (q .0) ∙ ap (λ b. longAtom b (textAtom (Text.stringIn j))) (q .2) ∙ lt-ltb 24 (length (Text.stringIn j)) (q .1)
-
--- an atom that is too long has not 25 bytes
-long-size : (t : List ℕ) → 24 < length t → sized (textAtom t) ≡ false
-unfolding sized
-long-size t h = ne-eqb (length (textAtom t)) 25 (λ e. omega (arith, e, size))
-  where
-    size : length (textAtom t) ≡ suc (length t) + (25 - suc (length t))
-    size = length-append (length t ∷ t) (replicate (25 - suc (length t)) 0) ∙ ap (λ n. suc (length t) + n) (length-replicate (25 - suc (length t)) 0)
-
-module _ (names : Names) where
-  text-size : (j : Json) → longAtom text (atomAs names text j) ≡ true → sized (atomAs names text j) ≡ false
-  unfolding atomAs cellOf
-  text-size j h = go (stringIn j) refl h
-    where
-      go : (o : Option (List ℕ)) → stringIn j ≡ o → longAtom text (cellOf (elim o [ none ↦ none | some t ↦ some (textAtom t) ])) ≡ true → sized (cellOf (elim o [ none ↦ none | some t ↦ some (textAtom t) ])) ≡ false
-      go none e q = cc
-      go (some t) e q = long-size t (ltb-true 24 (length t) q)
-
-  atom-size : (k : Base) (j : Json) → longAtom k (atomAs names k j) ≡ true → sized (atomAs names k j) ≡ false
-  atom-size integer j h = cc
-  atom-size boolean j h = cc
-  atom-size text j h = text-size j h
-  atom-size uuid j h = cc
-
-  atoms-size : (k : Base) (js : List Json) → any (longAtom k) (atomsOf names k js) ≡ true → all sized (atomsOf names k js) ≡ false
-  unfolding atomsOf
-  atoms-size k [] h = cc
-  atoms-size k (j ∷ js) h = split (longAtom k (atomAs names k j))
-      (λ e. rw (atom-size k j e))
-      (λ e. no-rest (sized (atomAs names k j)) (atoms-size k js (ap (λ b. b || any (longAtom k) (atomsOf names k js)) (sym e) ∙ h)))
-    where
-      no-rest : (a : Bool) → {b : Bool} → b ≡ false → (a && b) ≡ false
-      no-rest true e = e
-      no-rest false e = refl
+use Rattle.comparison.specs.Comparing.{order}
 
 -- ── what is true of sorted elements is true of all ──
 module _ (k : Base) (q : List ℕ → Bool) where
@@ -107,6 +51,14 @@ module _ (k : Base) (q : List ℕ → Bool) where
   all-sorted (a ∷ l) h = let p = placed-all a (sorted k l) h in rw (p .0) (all-sorted l (p .1))
 
 -- ── elements and the stored ones ──
+-- every element of a list is one of its own
+all-own : (l : List (List ℕ)) → all (λ a. member a l) l ≡ true
+all-own l = own l (λ a h. h)
+  where
+    own : (m : List (List ℕ)) → ((a : List ℕ) → member a m ≡ true → member a l ≡ true) → all (λ a. member a l) m ≡ true
+    own [] f = refl
+    own (b ∷ m) f = all-cons (λ a. member a l) b m (f b (rw (bytes-self b))) (own m (λ a h. f a (rw h (or-true (eqBytes a b)))))
+
 lists-other : (xs ys : List (List ℕ)) → (xs ≡ ys → ⊥) → eqLists xs ys ≡ false
 lists-other xs ys f = split (eqLists xs ys) (λ e. absurd (f (lists-same xs ys e))) (λ e. e)
 
@@ -119,9 +71,9 @@ module _ (names : Names) (k : Base) (j : Json) where
     pub equal-length : {n : ℕ} → n ≡ length (elementsIn j) → (n ≡ length xs → ⊥) → eqLists xs (sorted k (atomsAs names k j)) ≡ false
     equal-length {n} e f = lists-other xs (sorted k (atomsAs names k j)) (λ p. f (e ∙ sym (ap length p ∙ sorted-length k (atomsAs names k j) ∙ length-atoms)))
 
-    pub equal-long : any (longAtom k) (atomsAs names k j) ≡ true → all sized xs ≡ true → eqLists xs (sorted k (atomsAs names k j)) ≡ false
-    unfolding atomsAs
-    equal-long h g = lists-other xs (sorted k (atomsAs names k j)) (λ p. clash (all sized (atomsAs names k j)) (all-sorted k sized (atomsAs names k j) (ap (all sized) (sym p) ∙ g)) (atoms-size names k (elementsIn j) h))
+    pub equal-stored : all (λ a. member a xs) (atomsAs names k j) ≡ false → eqLists xs (sorted k (atomsAs names k j)) ≡ false
+    equal-stored h = lists-other xs (sorted k (atomsAs names k j))
+        (λ p. clash (all (λ a. member a xs) (atomsAs names k j)) (all-sorted k (λ a. member a xs) (atomsAs names k j) (ap (all (λ a. member a xs)) (sym p) ∙ all-own xs)) h)
 
   pub fitting : allTyped names k (elementsIn j) ≡ true → length (elementsIn j) ≤ 4 → any (longAtom k) (atomsAs names k j) ≡ false → Fitting names k j
   unfolding allShort atomsAs

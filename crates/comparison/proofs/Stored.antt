@@ -11,7 +11,7 @@ use Rattle.model.specs.declared.Found.the-variants.{At, Nothing}
 use Rattle.model.specs.Octets.{eqBytes}
 use Rattle.model.specs.Base.{any, all, member}
 use Rattle.model.specs.Json.{Json}
-use Rattle.model.specs.Nav.{treeAt}
+use Rattle.inner.specs.Positions.{treeAt}
 use Rattle.model.specs.Schema.{Base}
 use Rattle.model.specs.Written.{Names}
 use Rattle.model.proofs.Tests.{split, bytes-same}

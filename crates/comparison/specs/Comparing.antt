@@ -3,10 +3,8 @@ use Prim.Native.Nat.{ℕ}
 use mathlib.Core.Path.{_≡_}
 use mathlib.Core.Bool.{Bool, true, false}
 use mathlib.Core.List.{List}
-use lib.Dec.{eqb}
 use lib.IntN.{ℤ}
 use lib.Signed.{ltZ, leZ}
-use lib.ListN.{length}
 use Rattle.model.specs.Base.{any, all, member}
 use Rattle.model.specs.Json.{Json}
 use Rattle.model.specs.Schema.{Base, integer}
@@ -15,10 +13,6 @@ use Rattle.model.specs.Conditions.{orders}
 use Rattle.model.specs.declared.Function.{Function}
 use Rattle.model.specs.declared.Function.the-variants.{Less, AtMost, Equal, Unequal, AtLeast, Greater, Includes, Excludes}
 use Rattle.sets.specs.Tallies.{allTyped}
-
--- an atom has 25 bytes
-unfoldable pub sized : List ℕ → Bool
-sized a = eqb (length a) 25
 
 -- whether every element is stored, or some
 unfoldable pub stored : Bool → List (List ℕ) → List (List ℕ) → Bool

@@ -2,14 +2,14 @@
 use model::Found;
 use model::Function;
 use number::Int;
-use written::Atom;
 ghost use mathlib.Core.Path.{_≡_};
-ghost use mathlib.Core.Bool.{true};
+ghost use mathlib.Core.Bool.{true, false};
 ghost use Prim.Native.Nat.{_≤_};
 ghost use lib.ListN.{length};
 ghost use Rattle.model.specs.Base.{any, all, member, eqLists};
-ghost use Rattle.model.specs.Nav.{wellAt, treeAt};
-ghost use Rattle.model.specs.Schema.{integer, baseOf};
+ghost use Rattle.inner.specs.Positions.{wellAt, treeAt};
+ghost use Rattle.model.specs.Schema.{integer};
+ghost use Rattle.inner.specs.Packed.{baseNumbered};
 ghost use Rattle.model.specs.Value.{sorted};
 ghost use Rattle.model.specs.Written.{elementsIn, longAtom};
 ghost use Rattle.model.specs.Conditions.{firstInt, compare};
@@ -19,9 +19,9 @@ ghost use Rattle.uuids.specs.Named.{namesAt, Running};
 ghost use Rattle.written.specs.Atoms.{atomAs, atomsOf};
 ghost use Rattle.sets.specs.Tallies.{allTyped};
 ghost use Rattle.judged.specs.Weights.{atomsAs};
-ghost use Rattle.comparison.specs.Comparing.{sized, stored, order, Comparable};
+ghost use Rattle.comparison.specs.Comparing.{stored, order, Comparable};
 
-// Whether the element at `at` is among stored atoms.
+// Whether the element at `at` is among stored atoms, which no string above 24 bytes is.
 fn is_stored(
     text: &[u8],
     ends: &[u16],
@@ -33,7 +33,8 @@ fn is_stored(
 ) -> bool
     requires { ⌜ Running (now text) (now ends) ops (now fresh) ⌝ }
     requires { ⌜ wellAt (now text) at ≡ true ⌝ }
-    ensures { λ r. ⌜ r ≡ member (atomAs (namesAt (now (text .entry)) ops (now (fresh .entry))) (baseOf kind) (treeAt (now (text .entry)) at)) (now (xs .entry)) ⌝ }
+    ensures { λ r. ⌜ r ≡ member (atomAs (namesAt (now (text .entry)) ops (now (fresh .entry))) (baseNumbered kind) (treeAt (now (text .entry)) at)) (now (xs .entry)) ⌝ }
+    ensures { λ r. ⌜ (r ≡ true → longAtom (baseNumbered kind) (atomAs (namesAt (now (text .entry)) ops (now (fresh .entry))) (baseNumbered kind) (treeAt (now (text .entry)) at)) ≡ false) ⌝ }
 {
     let mut i = 0;
     while i < xs.len() {
@@ -58,7 +59,7 @@ fn some_stored(
 ) -> bool
     requires { ⌜ Running (now text) (now ends) ops (now fresh) ⌝ }
     requires { ⌜ elementsFine (now text) set f ≡ true ⌝ }
-    ensures { λ r. ⌜ r ≡ any (λ a. member a (now (xs .entry))) (atomsOf (namesAt (now (text .entry)) ops (now (fresh .entry))) (baseOf kind) (elementsFrom (now (text .entry)) set f)) ⌝ }
+    ensures { λ r. ⌜ r ≡ any (λ a. member a (now (xs .entry))) (atomsOf (namesAt (now (text .entry)) ops (now (fresh .entry))) (baseNumbered kind) (elementsFrom (now (text .entry)) set f)) ⌝ }
 {
     let mut g = f;
     loop {
@@ -88,7 +89,8 @@ fn each_stored(
 ) -> bool
     requires { ⌜ Running (now text) (now ends) ops (now fresh) ⌝ }
     requires { ⌜ elementsFine (now text) set f ≡ true ⌝ }
-    ensures { λ r. ⌜ r ≡ all (λ a. member a (now (xs .entry))) (atomsOf (namesAt (now (text .entry)) ops (now (fresh .entry))) (baseOf kind) (elementsFrom (now (text .entry)) set f)) ⌝ }
+    ensures { λ r. ⌜ r ≡ all (λ a. member a (now (xs .entry))) (atomsOf (namesAt (now (text .entry)) ops (now (fresh .entry))) (baseNumbered kind) (elementsFrom (now (text .entry)) set f)) ⌝ }
+    ensures { λ r. ⌜ (r ≡ true → any (longAtom (baseNumbered kind)) (atomsOf (namesAt (now (text .entry)) ops (now (fresh .entry))) (baseNumbered kind) (elementsFrom (now (text .entry)) set f)) ≡ false) ⌝ }
 {
     let mut g = f;
     loop {
@@ -106,66 +108,6 @@ fn each_stored(
     }
 }
 
-// Whether the element at `at` is a string above 24 bytes.
-fn is_long(text: &[u8], ends: &[u16], ops: Found, fresh: &[u8], kind: u8, at: usize) -> bool
-    requires { ⌜ Running (now text) (now ends) ops (now fresh) ⌝ }
-    requires { ⌜ wellAt (now text) at ≡ true ⌝ }
-    ensures { λ r. ⌜ r ≡ longAtom (baseOf kind) (atomAs (namesAt (now (text .entry)) ops (now (fresh .entry))) (baseOf kind) (treeAt (now (text .entry)) at)) ⌝ }
-{
-    let mut cell = [0u8; 25];
-    let a = written::atom_at(text, ends, ops, fresh, kind, at, &mut cell);
-    match a {
-        Atom::Wrong => false,
-        Atom::Long => true,
-        Atom::Fits => false,
-    }
-}
-
-// Whether some element from f on is.
-fn some_long(
-    text: &[u8],
-    ends: &[u16],
-    ops: Found,
-    fresh: &[u8],
-    kind: u8,
-    set: bool,
-    f: Found,
-) -> bool
-    requires { ⌜ Running (now text) (now ends) ops (now fresh) ⌝ }
-    requires { ⌜ elementsFine (now text) set f ≡ true ⌝ }
-    ensures { λ r. ⌜ r ≡ any (longAtom (baseOf kind)) (atomsOf (namesAt (now (text .entry)) ops (now (fresh .entry))) (baseOf kind) (elementsFrom (now (text .entry)) set f)) ⌝ }
-{
-    let mut g = f;
-    loop {
-        match g {
-            Found::At(p) => {
-                let l = is_long(text, ends, ops, fresh, kind, p);
-                if l {
-                    return true;
-                }
-                g = elements::next_element(text, ends, p, set);
-            }
-            Found::Nothing => return false,
-        }
-    }
-}
-
-// That every atom has 25 bytes.
-fn all_sized(xs: &[[u8; 25]]) -> bool
-    ensures { λ r. ⌜ r ≡ true ⌝ }
-    ensures { λ r. ⌜ all sized (now (xs .entry)) ≡ true ⌝ }
-{
-    let mut ok = true;
-    let mut i = 0;
-    while i < xs.len() {
-        let x = &xs[i];
-        let y = &x[..];
-        ok = ok & (y.len() == 25);
-        i += 1;
-    }
-    ok
-}
-
 // Whether the elements of the value at `at`, sorted, are the stored ones.
 fn equal_at(
     text: &[u8],
@@ -178,9 +120,9 @@ fn equal_at(
 ) -> bool
     requires { ⌜ Running (now text) (now ends) ops (now fresh) ⌝ }
     requires { ⌜ wellAt (now text) at ≡ true ⌝ }
-    requires { ⌜ allTyped (namesAt (now text) ops (now fresh)) (baseOf kind) (elementsIn (treeAt (now text) at)) ≡ true ⌝ }
+    requires { ⌜ allTyped (namesAt (now text) ops (now fresh)) (baseNumbered kind) (elementsIn (treeAt (now text) at)) ≡ true ⌝ }
     requires { ⌜ length (now xs) ≤ 4 ⌝ }
-    ensures { λ r. ⌜ r ≡ eqLists (now (xs .entry)) (sorted (baseOf kind) (atomsAs (namesAt (now (text .entry)) ops (now (fresh .entry))) (baseOf kind) (treeAt (now (text .entry)) at))) ⌝ }
+    ensures { λ r. ⌜ r ≡ eqLists (now (xs .entry)) (sorted (baseNumbered kind) (atomsAs (namesAt (now (text .entry)) ops (now (fresh .entry))) (baseNumbered kind) (treeAt (now (text .entry)) at))) ⌝ }
 {
     let n = judged::count_at(text, ends, at);
     if n != xs.len() {
@@ -189,9 +131,9 @@ fn equal_at(
     let e = elements::elements_at(text, ends, at);
     let set = e.set;
     let f = e.first;
-    let long = some_long(text, ends, ops, fresh, kind, set, f);
-    if long {
-        return !all_sized(xs);
+    let every = each_stored(text, ends, ops, fresh, kind, set, f, xs);
+    if !every {
+        return false;
     }
     let a = judged::atoms_at(text, ends, ops, fresh, kind, at);
     let b = value::sort(kind, a, n);
@@ -281,7 +223,7 @@ fn stored_at(
 ) -> bool
     requires { ⌜ Running (now text) (now ends) ops (now fresh) ⌝ }
     requires { ⌜ wellAt (now text) at ≡ true ⌝ }
-    ensures { λ r. ⌜ r ≡ stored every (now (xs .entry)) (atomsAs (namesAt (now (text .entry)) ops (now (fresh .entry))) (baseOf kind) (treeAt (now (text .entry)) at)) ⌝ }
+    ensures { λ r. ⌜ r ≡ stored every (now (xs .entry)) (atomsAs (namesAt (now (text .entry)) ops (now (fresh .entry))) (baseNumbered kind) (treeAt (now (text .entry)) at)) ⌝ }
 {
     let e = elements::elements_at(text, ends, at);
     let set = e.set;
@@ -305,9 +247,9 @@ pub fn compare_at(
 ) -> bool
     requires { ⌜ Running (now text) (now ends) ops (now fresh) ⌝ }
     requires { ⌜ wellAt (now text) at ≡ true ⌝ }
-    requires { ⌜ Comparable (namesAt (now text) ops (now fresh)) (baseOf kind) f (treeAt (now text) at) ⌝ }
+    requires { ⌜ Comparable (namesAt (now text) ops (now fresh)) (baseNumbered kind) f (treeAt (now text) at) ⌝ }
     requires { ⌜ length (now xs) ≤ 4 ⌝ }
-    ensures { λ r. ⌜ r ≡ compare f (baseOf kind) (now (xs .entry)) (atomsAs (namesAt (now (text .entry)) ops (now (fresh .entry))) (baseOf kind) (treeAt (now (text .entry)) at)) ⌝ }
+    ensures { λ r. ⌜ r ≡ compare f (baseNumbered kind) (now (xs .entry)) (atomsAs (namesAt (now (text .entry)) ops (now (fresh .entry))) (baseNumbered kind) (treeAt (now (text .entry)) at)) ⌝ }
 {
     match f {
         Function::Less => ordered_at(text, ends, ops, fresh, f, at, xs),

@@ -14,13 +14,14 @@ use Rattle.model.specs.declared.Fault.{Fault}
 use Rattle.model.specs.declared.Fault.the-variants.{Fine, Syntax, Resources, Duplicate, Constraint, Domain, Range, Aborted, Integrity}
 use Rattle.model.specs.declared.Function.{Function}
 use Rattle.model.specs.Json.{Json}
-use Rattle.model.specs.Nav.{treeAt, wellAt, nextItem}
-use Rattle.model.specs.Text as Text
-use Rattle.model.specs.Schema.{baseOf, Column, scalar}
+use Rattle.inner.specs.Positions.{treeAt, wellAt, nextItem}
+use Rattle.inner.specs.Positions as Text
+use Rattle.inner.specs.Packed.{baseNumbered}
+use Rattle.model.specs.Schema.{Column, scalar}
 use Rattle.model.specs.Faults.{rank, earlier}
 use Rattle.model.specs.Written.{Names, stringIn, testFault, written}
-use Rattle.model.specs.Conditions.{Subject, idColumn, isInteger, orders, allowed, noTest, testBy, testOf, subjectNamed, functionNamed, readTests}
-use Rattle.model.specs.Packed.{columnFrom}
+use Rattle.model.specs.Conditions.{Subject, idColumn, isIntegerBase, orders, allowed, noTest, testBy, testOf, subjectNamed, functionNamed, readTests}
+use Rattle.inner.specs.Packed.{columnFrom}
 use Rattle.model.proofs.Tests.{split}
 use Rattle.nav.proofs.Walk.{walk-rest, walk-end}
 use Rattle.uuids.specs.Named.{namesAt}
@@ -65,18 +66,18 @@ earlier-assoc f g h =
     (λ b. let c : leb (rank f) (rank h) ≡ false = lt-leb (rank f) (rank h) (omega (arith, leb-false (rank f) (rank g) a, leb-false (rank g) (rank h) b)) in rw (a, b) (rw c refl)))
 
 -- ── what a column takes ──
-base-integer : (k : ℕ) → isInteger (baseOf k) ≡ eqb k 0
-unfolding baseOf
+base-integer : (k : ℕ) → isIntegerBase (baseNumbered k) ≡ eqb k 0
+unfolding baseNumbered
 base-integer k = split (eqb k 0)
-    (λ a. rw (baseOf, a))
-    (λ a. split (eqb k 1) (λ b. rw (baseOf, a, b)) (λ b. split (eqb k 2) (λ d. rw (baseOf, a, b, d)) (λ d. rw (baseOf, a, b, d))))
+    (λ a. rw (baseNumbered, a))
+    (λ a. split (eqb k 1) (λ b. rw (baseNumbered, a, b)) (λ b. split (eqb k 2) (λ d. rw (baseNumbered, a, b, d)) (λ d. rw (baseNumbered, a, b, d))))
 
 module _ (cell : List ℕ) (f : Function) where
   pub allowed-order : orders f ≡ true → (eqb (getD cell 25 0) 0 && (eqb (getD cell 28 0) 1 && eqb (getD cell 29 0) 1)) ≡ allowed (columnFrom cell) f
-  allowed-order h = sym (ap (λ b. not b || (isInteger (baseOf (getD cell 25 0)) && scalar (columnFrom cell))) h ∙ ap (λ b. b && scalar (columnFrom cell)) (base-integer (getD cell 25 0)))
+  allowed-order h = sym (ap (λ b. not b || (isIntegerBase (baseNumbered (getD cell 25 0)) && scalar (columnFrom cell))) h ∙ ap (λ b. b && scalar (columnFrom cell)) (base-integer (getD cell 25 0)))
 
   pub allowed-other : orders f ≡ false → true ≡ allowed (columnFrom cell) f
-  allowed-other h = sym (ap (λ b. not b || (isInteger (baseOf (getD cell 25 0)) && scalar (columnFrom cell))) h)
+  allowed-other h = sym (ap (λ b. not b || (isIntegerBase (baseNumbered (getD cell 25 0)) && scalar (columnFrom cell))) h)
 
 -- ── a condition ──
 module _ (names : Names) (c : Column) (f : Function) (j : Json) where
@@ -134,7 +135,7 @@ module _ (s : List ℕ) (ops : Found) (fresh : List ℕ) (cells : List (List ℕ
       let n = namesAt s ops fresh in
       let cs = map columnFrom cells in
       ap (λ o. elim o [ none ↦ noTest | some t ↦ testOf n (t .value) (subjectNamed cs (t .name)) (functionNamed (t .word)) ]) (q .all)
-      ∙ ap (λ o. testOf n (treeAt s v) o (functionNamed (Text.stringIn (treeAt s b)))) (sym (ap (λ o. elim o [ none ↦ none | some w ↦ subjectNamed cs w ]) (q .name)))
+      ∙ ap (λ o. testOf n (treeAt s v) o (functionNamed (Text.wordIn (treeAt s b)))) (sym (ap (λ o. elim o [ none ↦ none | some w ↦ subjectNamed cs w ]) (q .name)))
       ∙ ap (testOf n (treeAt s v) (subjectIn cs (treeAt s a))) (sym (ap (λ o. elim o [ none ↦ none | some w ↦ functionNamed w ]) (q .word)))
 
   pub value-well : {a b v : ℕ} → t ≡ triple.Of a b v → wellAt s v ≡ true

@@ -3,8 +3,7 @@ use mathlib.Core.Path.{_≡_, refl, sym, ap, subst, _∙_}
 use mathlib.Core.Bool.{Bool, true, false, not, _&&_, _||_}
 use mathlib.Core.List.{List, [], _∷_, _++_, map}
 use mathlib.Core.Option.{none, some}
-use Prim.Native.Nat.{ℕ, _-_, _%_, _^_, _<_, _≤_, min}
-use native.Mathlib.Nat.{mod-eq-of-lt}
+use Prim.Native.Nat.{ℕ, _-_, _<_, _≤_, min}
 use native.Mathlib.Omega.{arith}
 use borrow.Author.Tests.{eq-eqb, ne-eqb}
 use lib.Dec.{eqb}
@@ -13,23 +12,24 @@ use lib.Seq.{length-take-le}
 use Rattle.model.specs.declared.Found.{Found}
 use Rattle.model.specs.declared.Found.the-variants.{At, Nothing}
 use Rattle.model.specs.declared.Function.{Function}
-use Rattle.model.specs.Octets.{big, value}
+use Rattle.model.specs.Octets.{value}
 use Rattle.model.specs.Base.{if_then_else_, all}
 use Rattle.model.specs.Json.{Json}
-use Rattle.model.specs.Nav.{nextItem}
-use Rattle.model.specs.Schema.{Base, integer, boolean, text, uuid, baseOf, Column, scalar, Schema, columnsOf}
+use Rattle.inner.specs.Positions.{nextItem}
+use Rattle.model.specs.Schema.{Base, integer, boolean, text, uuid, Column, scalar, Schema, columnsOf}
+use Rattle.inner.specs.Packed.{baseNumbered}
 use Rattle.model.specs.Value.{uuidAtom, pad, elements, Value}
 use Rattle.model.specs.Faults.{Judged, isFine}
 use Rattle.model.specs.Written.{Names, testFault, written}
-use Rattle.model.specs.Conditions.{Subject, idColumn, isInteger, allowed, Test, noTest, testBy, testOf, compare, holds, matches}
+use Rattle.model.specs.Conditions.{Subject, idColumn, isIntegerBase, allowed, Test, noTest, testBy, testOf, compare, holds, matches}
 use Rattle.model.specs.Areas.{rowFrom}
-use Rattle.model.specs.Packed.{columnFrom}
-use Rattle.model.specs.Working.{tableIn, idIn, valueIn}
+use Rattle.inner.specs.Packed.{columnFrom}
+use Rattle.inner.specs.Working.{tableIn, idIn, valueIn}
 use Rattle.model.proofs.Tests.{split, clash, and-l}
-use Rattle.model.proofs.Octets.{octet, length-big, big-octets, value-big, value-lt, value-inj}
+use Rattle.model.proofs.Octets.{octet, big-value}
 use Rattle.model.proofs.FaultLaws.{earlier-fine}
-use Rattle.model.proofs.Columns.{column-value}
-use Rattle.model.proofs.Working.{row-table, row-id}
+use Rattle.inner.proofs.Columns.{column-value}
+use Rattle.inner.proofs.Working.{row-table, row-id}
 use Rattle.references.proofs.Walks.{take-min}
 use Rattle.judged.specs.Weights.{atomsAs}
 use Rattle.judged.proofs.Fits.{fine-typed, fine-got}
@@ -40,7 +40,7 @@ use Rattle.conditions.specs.Tests.{About, subjectIn, columnFault, testAs
 use Rattle.conditions.proofs.Faulty.{fault-allowed, fault-not, test-by, fault-on, got-on, tests-end}
 
 -- ── a test without a fault ──
-is-integer : (k : Base) → isInteger k ≡ true → k ≡ integer
+is-integer : (k : Base) → isIntegerBase k ≡ true → k ≡ integer
 is-integer integer h = refl
 is-integer boolean h = cc
 is-integer text h = cc
@@ -56,7 +56,7 @@ module _ (names : Names) (c : Column) (f : Function) (j : Json) (h : isFine (col
   comparable : Comparable names (c .base) f j
   comparable = record {
     typed = fine-typed names (c .base) (testFault c f) j written-fine;
-    ordered = λ o. is-integer (c .base) (and-l (isInteger (c .base)) (scalar c) (ap (λ b. not b || (isInteger (c .base) && scalar c)) (sym o) ∙ takes));
+    ordered = λ o. is-integer (c .base) (and-l (isIntegerBase (c .base)) (scalar c) (ap (λ b. not b || (isIntegerBase (c .base) && scalar c)) (sym o) ∙ takes));
   }
 
   -- what is read of it
@@ -84,17 +84,17 @@ module _ (names : Names) (cells : List (List ℕ)) (a : Json) (f : Function) (v 
       unfolding About
       about = subst (λ n. About cells n (subjectIn (map columnFrom cells) a)) e p
 
-      pub column-comparable : Comparable names (baseOf (getD (getD cells k []) 25 0)) f v
+      pub column-comparable : Comparable names (baseNumbered (getD (getD cells k []) 25 0)) f v
       column-comparable = comparable names (columnFrom (getD cells k [])) f v (fine-of (about .1))
 
       pub column-within : k < length cells
       column-within = about .0
 
-      pub column-says : (row : List (List ℕ)) {r : Bool} → r ≡ compare f (baseOf (getD (getD cells k []) 25 0)) (elements (valueIn k row)) (atomsAs names (baseOf (getD (getD cells k []) 25 0)) v)
+      pub column-says : (row : List (List ℕ)) {r : Bool} → r ≡ compare f (baseNumbered (getD (getD cells k []) 25 0)) (elements (valueIn k row)) (atomsAs names (baseNumbered (getD (getD cells k []) 25 0)) v)
           → Holds (map columnFrom cells) row (testAs names (map columnFrom cells) a (some f) v .got) r
       unfolding Holds
       column-says row {r} q = λ s w.
-          let b = baseOf (getD (getD cells k []) 25 0) in
+          let b = baseNumbered (getD (getD cells k []) 25 0) in
           let l : k < length (columnsOf s (tableIn row)) = omega (arith, about .0, ap length w, length-map cells columnFrom) in
           q ∙ ap (λ x. compare f b (elements x) (atomsAs names b v)) (sym (column-value s row k l)) ∙ ap (holds (rowFrom s row)) (sym (got-of (about .1)))
 
@@ -151,10 +151,7 @@ module _ (cs : List Column) (t : ℕ) (ts : List Test) (row : List (List ℕ)) (
 -- ── the id as an atom ──
 pub id-atom : (id : List ℕ) → length id ≡ 16 → all octet id ≡ true → id ++ drop (length id) (replicate 25 0) ≡ uuidAtom (value id)
 id-atom id e h =
-    let b : big 16 (value id) ≡ id =
-    value-inj (big 16 (value id)) id (length-big 16 (value id) ∙ sym e) (big-octets 16 (value id)) h
-    (value-big 16 (value id) ∙ ap (λ n. value id % 256 ^ n) (sym e) ∙ mod-eq-of-lt (value-lt id h)) in
-    ap (λ n. id ++ drop n (replicate 25 0)) e ∙ ap (λ n. id ++ replicate {A = ℕ} (25 - n) 0) (sym e) ∙ ap pad (sym b)
+    ap (λ n. id ++ drop n (replicate 25 0)) e ∙ ap (λ n. id ++ replicate {A = ℕ} (25 - n) 0) (sym e) ∙ ap pad (sym (big-value 16 id e h))
 
 -- the elements of a column: as many atoms as its count says, of four
 pub elements-min : (v : Value) {n : ℕ} {xs : List (List ℕ)} → xs ≡ v .atoms → length xs ≡ 4 → n ≡ min (v .count) 4 → (take n xs ≡ elements v) × (n ≡ length (take n xs)) × (n ≤ 4)

@@ -15,7 +15,7 @@ use Rattle.model.specs.Json.{Json, null, bool, num, str, arr, obj}
 use Rattle.model.specs.Text.{isWord}
 use Rattle.model.specs.Schema.{Column, columnNamed}
 use Rattle.model.specs.Conditions.{Subject, idColumn, placeSubject}
-use Rattle.model.specs.Packed.{columnFrom}
+use Rattle.inner.specs.Packed.{columnFrom}
 use Rattle.model.proofs.Tests.{split}
 use Rattle.fields.specs.Fields.{wordsFrom, wordsOf, choiceFrom, choice}
 use Rattle.names.specs.Names.{foundAt}

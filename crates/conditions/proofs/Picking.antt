@@ -11,10 +11,10 @@ use Rattle.model.specs.Base.{count, keep}
 use Rattle.model.specs.Schema.{Schema}
 use Rattle.model.specs.Rows.{Row}
 use Rattle.model.specs.Areas.{rowFrom}
-use Rattle.model.specs.Working.{working, TidyRow, Tidy}
+use Rattle.inner.specs.Working.{working, TidyRow, Tidy}
 use Rattle.model.proofs.Tests.{split}
-use Rattle.model.proofs.Working.{working-on, working-end}
-use Rattle.model.proofs.Places.{tidy-append, tidy-at}
+use Rattle.inner.proofs.Working.{working-on, working-end}
+use Rattle.inner.proofs.Places.{tidy-append, tidy-at}
 
 -- ── counted ──
 module _ (s : Schema) (cells : List (List (List ℕ))) (n : ℕ) (h : n ≤ length cells) (q : Row → Bool) (i found : ℕ) where

@@ -8,15 +8,15 @@ use lib.Dec.{eqb}
 use lib.ListN.{length, getD, take}
 use Rattle.model.specs.Base.{if_then_else_, all, keep}
 use Rattle.model.specs.Json.{Json}
-use Rattle.model.specs.Nav.{treeAt, itemsFrom}
+use Rattle.inner.specs.Positions.{treeAt, itemsFrom}
 use Rattle.model.specs.Schema.{Column, Schema, columnsOf}
 use Rattle.model.specs.Faults.{Judged}
 use Rattle.model.specs.Written.{Names, stringIn, testFault, written}
 use Rattle.model.specs.Rows.{Row}
 use Rattle.model.specs.Areas.{rowFrom}
-use Rattle.model.specs.Working.{working, tableIn, Tidy}
+use Rattle.inner.specs.Working.{working, tableIn, Tidy}
 use Rattle.model.specs.Conditions.{Subject, idColumn, subjectNamed, functionNamed, allowed, Test, testOf, readTest, readTests, holds, matches}
-use Rattle.model.specs.Packed.{columnFrom}
+use Rattle.inner.specs.Packed.{columnFrom}
 use Rattle.model.specs.declared.Found.{Found}
 use Rattle.model.specs.declared.Fault.{Fault}
 use Rattle.model.specs.declared.Fault.the-variants.{Syntax}

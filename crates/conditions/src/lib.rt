@@ -11,14 +11,15 @@ ghost use Prim.Native.Nat.{_≤_, _<_};
 ghost use lib.ListN.{length, getD, set};
 ghost use Rattle.model.specs.Octets.{value};
 ghost use Rattle.model.specs.Base.{count};
-ghost use Rattle.model.specs.Nav.{wellAt, treeAt, itemsFine};
-ghost use Rattle.model.specs.Schema.{uuid, baseOf, Schema, columnsOf};
+ghost use Rattle.inner.specs.Positions.{wellAt, treeAt, itemsFine};
+ghost use Rattle.model.specs.Schema.{uuid, Schema, columnsOf};
+ghost use Rattle.inner.specs.Packed.{baseNumbered};
 ghost use Rattle.model.specs.Value.{uuidAtom, elements};
 ghost use Rattle.model.specs.Faults.{isFine, rank, earlier};
 ghost use Rattle.model.specs.Conditions.{idColumn, orders, allowed, compare, matches};
 ghost use Rattle.model.specs.Areas.{rowFrom};
-ghost use Rattle.model.specs.Packed.{columnFrom};
-ghost use Rattle.model.specs.Working.{working, idIn, valueIn};
+ghost use Rattle.inner.specs.Packed.{columnFrom};
+ghost use Rattle.inner.specs.Working.{working, idIn, valueIn};
 ghost use Rattle.uuids.specs.Named.{namesAt, Running};
 ghost use Rattle.judged.specs.Weights.{atomsAs};
 ghost use Rattle.comparison.specs.Comparing.{Comparable};
@@ -329,9 +330,9 @@ fn column_holds(
 ) -> bool
     requires { ⌜ Running (now text) (now ends) ops (now fresh) ⌝ }
     requires { ⌜ wellAt (now text) at ≡ true ⌝ }
-    requires { ⌜ Comparable (namesAt (now text) ops (now fresh)) (baseOf kind) f (treeAt (now text) at) ⌝ }
+    requires { ⌜ Comparable (namesAt (now text) ops (now fresh)) (baseNumbered kind) f (treeAt (now text) at) ⌝ }
     requires { ⌜ c < 6 ⌝ }
-    ensures { λ r. ⌜ r ≡ compare f (baseOf kind) (elements (valueIn c (now (row .entry)))) (atomsAs (namesAt (now (text .entry)) ops (now (fresh .entry))) (baseOf kind) (treeAt (now (text .entry)) at)) ⌝ }
+    ensures { λ r. ⌜ r ≡ compare f (baseNumbered kind) (elements (valueIn c (now (row .entry)))) (atomsAs (namesAt (now (text .entry)) ops (now (fresh .entry))) (baseNumbered kind) (treeAt (now (text .entry)) at)) ⌝ }
 {
     let xs = rows::atoms_in(row, c);
     let n = references::size(rows::count_of(row, c));

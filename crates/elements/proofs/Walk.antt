@@ -10,7 +10,8 @@ use Rattle.model.specs.declared.Found.{Found}
 use Rattle.model.specs.declared.Found.the-variants.{At, Nothing}
 use Rattle.model.specs.Base.{ascii}
 use Rattle.model.specs.Json.{Json, null, bool, num, str, arr, obj}
-use Rattle.model.specs.Nav.{wellAt, treeAt, firstOf, nextItem, itemsFrom, itemsFine, listOf, itemsIn, kindOf, isArray, left}
+use Rattle.inner.specs.Positions.{wellAt, treeAt, firstOf, nextItem, itemsFrom, itemsFine, left}
+use Rattle.model.specs.Nav.{listOf, itemsIn, kindOf, isArray}
 use Rattle.model.specs.Text.{isWord}
 use Rattle.model.specs.Written.{arrayIn, elementsOf, elementsIn}
 use Rattle.model.proofs.Tests.{split, and-l, and-r}

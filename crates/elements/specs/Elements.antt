@@ -6,7 +6,7 @@ use mathlib.Core.List.{List, [], _∷_}
 use Rattle.model.specs.declared.Found.{Found}
 use Rattle.model.specs.declared.Found.the-variants.{At, Nothing}
 use Rattle.model.specs.Json.{Json}
-use Rattle.model.specs.Nav.{treeAt, wellAt, itemsFrom, itemsFine, nextItem}
+use Rattle.inner.specs.Positions.{treeAt, wellAt, itemsFrom, itemsFine, nextItem}
 use Rattle.model.specs.Written.{elementsIn}
 use Rattle.elements.specs.declared.Pair.{Pair}
 use Rattle.elements.specs.declared.Pair.the-variants.{Of, Other}

@@ -2,7 +2,8 @@
 use model::Found;
 ghost use mathlib.Core.Path.{_≡_};
 ghost use mathlib.Core.Bool.{true};
-ghost use Rattle.model.specs.Nav.{Says, wellAt, treeAt, itemsIn};
+ghost use Rattle.inner.specs.Positions.{Says, wellAt, treeAt};
+ghost use Rattle.model.specs.Nav.{itemsIn};
 ghost use Rattle.elements.specs.Elements.{Pairs, nextElement, Begins};
 
 // Where the two items of an array begin; or that a value is no array of two.

@@ -17,10 +17,11 @@ use Rattle.model.specs.declared.Found.the-variants.{At}
 use Rattle.model.specs.Scan.{byte, andThen, withinAt, spacesAt, endOr}
 use Rattle.model.specs.Strings.{stringAt}
 use Rattle.model.specs.Json.{Json, null, str, Named, keyAt, memberAt, valueAt}
-use Rattle.model.specs.Nav.{treeAt, wellAt, kindOf, isObject, membersFrom, membersFine, nextMember}
+use Rattle.inner.specs.Positions.{treeAt, wellAt, membersFrom, membersFine, nextMember}
+use Rattle.model.specs.Nav.{kindOf, isObject}
 use Rattle.nav.proofs.Rest.{members-fine, member-well}
 use Rattle.nav.proofs.Walk.{pass-rest, pass-name, pass-value}
-use Rattle.model.specs.Members.{membersIn, has, namedOr, valueOr, valueOf}
+use Rattle.model.specs.Members.{membersIn, hasMember, namedOr, valueOr, memberValue}
 use Rattle.model.specs.SchemaText.{only, membersOr}
 use Rattle.model.proofs.Tests.{split, or-true, bytes-self}
 use Rattle.model.proofs.SchemaLaws.{has-or}
@@ -30,7 +31,7 @@ use Rattle.fields.proofs.Choices.{choice-at, choice-not, choice-other}
 -- slots after some members, of which the rest is left
 pub record Kept (s : List ℕ) (ws : List (List ℕ)) (ms : List Named) (slots : List ℕ) (rest : List Named) : Type 0 where
   pub size : length slots ≡ 10
-  pub here : (i : ℕ) → i < length ws → has (getD ws i []) ms ≡ (not (eqb (getD slots i 0) 0) || has (getD ws i []) rest)
+  pub here : (i : ℕ) → i < length ws → hasMember (getD ws i []) ms ≡ (not (eqb (getD slots i 0) 0) || hasMember (getD ws i []) rest)
   pub value : (i : ℕ) → i < length ws → valueOr (getD ws i []) null ms ≡ valueOr (getD ws i []) (slotTree s (getD slots i 0)) rest
   pub well : (i : ℕ) → i < length ws → eqb (getD slots i 0) 0 ≡ false → wellAt s (getD slots i 0) ≡ true
   pub listed : only ws ms ≡ (eqb (getD slots 9 0) 0 && only ws rest)
@@ -74,7 +75,7 @@ module _ (s : List ℕ) (ws : List (List ℕ)) where
       }
 
   pub kept-end : {ms : List Named} {slots : List ℕ} → Kept s ws ms slots [] → Slots s ws ms slots
-  unfolding has valueOr valueOf only
+  unfolding hasMember valueOr memberValue only
   kept-end k =
       record {
         size = k .size;
@@ -102,7 +103,7 @@ module _ (s : List ℕ) (ws : List (List ℕ)) where
     nonzero = ne-eqb v 0 (λ e. omega arith)
 
     module _ (slots : List ℕ) (rest : List Named) (i : ℕ) where
-      here-step : Slot slots i → (not (eqb (getD slots i 0) 0) || has (getD ws i []) (m ∷ rest)) ≡ (not (eqb (getD (set slots (choice ws j) v) i 0) 0) || has (getD ws i []) rest)
+      here-step : Slot slots i → (not (eqb (getD slots i 0) 0) || hasMember (getD ws i []) (m ∷ rest)) ≡ (not (eqb (getD (set slots (choice ws j) v) i 0) 0) || hasMember (getD ws i []) rest)
       here-step (named e q) = rw (has-or (getD ws i []) m rest, e, q, nonzero) (or-true (not (eqb (getD slots i 0) 0)))
       here-step (other e q) = rw (has-or (getD ws i []) m rest, e, q)
 

@@ -9,7 +9,8 @@ use lib.ListN.{length, getD}
 use Rattle.model.specs.declared.Kind.the-variants.{Null}
 use Rattle.model.specs.declared.Whole.the-variants.{Other}
 use Rattle.model.specs.Json.{Json, null, bool, num, str, arr, obj, Named}
-use Rattle.model.specs.Nav.{treeAt, kindOf, isTruth, isTrue}
+use Rattle.inner.specs.Positions.{treeAt, isTrue}
+use Rattle.model.specs.Nav.{kindOf, isTruth}
 use Rattle.model.specs.Whole.{wholeOf}
 use Rattle.model.specs.Text.{isWord}
 use Rattle.model.specs.SchemaText.{must, may, truthOr}

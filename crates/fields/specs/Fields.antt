@@ -6,8 +6,8 @@ use mathlib.Core.Bool.{Bool, true, false, not}
 use lib.Dec.{eqb, leb}
 use lib.ListN.{length, getD, take, drop}
 use Rattle.model.specs.Json.{Json, null, Named}
-use Rattle.model.specs.Nav.{treeAt, wellAt}
-use Rattle.model.specs.Members.{has, valueOf}
+use Rattle.inner.specs.Positions.{treeAt, wellAt}
+use Rattle.model.specs.Members.{hasMember, memberValue}
 use Rattle.model.specs.Text.{isWord}
 use Rattle.model.specs.SchemaText.{only}
 
@@ -35,7 +35,7 @@ slotTree s p = elim (eqb p 0) [ true ↦ null | false ↦ treeAt s p ]
 -- ten slots say of each word whether a member has it and where its last value begins; the tenth is 0 where all members are among the words
 pub record Slots (s : List ℕ) (ws : List (List ℕ)) (ms : List Named) (slots : List ℕ) : Type 0 where
   pub size : length slots ≡ 10
-  pub here : (i : ℕ) → i < length ws → has (getD ws i []) ms ≡ not (eqb (getD slots i 0) 0)
-  pub value : (i : ℕ) → i < length ws → valueOf (getD ws i []) ms ≡ slotTree s (getD slots i 0)
+  pub here : (i : ℕ) → i < length ws → hasMember (getD ws i []) ms ≡ not (eqb (getD slots i 0) 0)
+  pub value : (i : ℕ) → i < length ws → memberValue (getD ws i []) ms ≡ slotTree s (getD slots i 0)
   pub well : (i : ℕ) → i < length ws → eqb (getD slots i 0) 0 ≡ false → wellAt s (getD slots i 0) ≡ true
   pub listed : only ws ms ≡ eqb (getD slots 9 0) 0

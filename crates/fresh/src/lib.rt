@@ -6,7 +6,7 @@ ghost use lib.ListN.{length};
 ghost use Rattle.model.specs.Octets.{value};
 ghost use Rattle.model.specs.Base.{any};
 ghost use Rattle.model.specs.Schema.{Schema};
-ghost use Rattle.model.specs.Working.{working};
+ghost use Rattle.inner.specs.Working.{working};
 ghost use Rattle.fresh.specs.Fresh.{freshFrom, FreshId, idGood, freshGood};
 
 // Whether two ids are the same number.

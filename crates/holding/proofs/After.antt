@@ -8,14 +8,14 @@ use lib.ListN.{length, take}
 use Rattle.model.specs.Octets.{big}
 use Rattle.model.specs.Base.{every}
 use Rattle.model.specs.Schema.{Schema, Database}
-use Rattle.model.specs.Packed.{databaseFrom, tablesIn}
+use Rattle.inner.specs.Packed.{databaseFrom, packedTables}
 use Rattle.model.specs.Value.{meets}
 use Rattle.model.specs.Commit.{lawful}
 use Rattle.model.specs.Replies.{reply}
 use Rattle.model.specs.Areas as areas
 use Rattle.model.specs.Areas.{Store, encodeStore, textFrom, headTests, rowsPass, storeGood}
-use Rattle.model.specs.Calls.{databaseOf, replyOf}
-use Rattle.model.specs.Working.{working, Tidy}
+use Rattle.model.specs.Calls.{heldDatabase, replyOf}
+use Rattle.inner.specs.Working.{working, Tidy}
 use Rattle.model.proofs.Tests.{and-l, and-r}
 use Rattle.model.proofs.GoodOrder.{meets-pass}
 use Rattle.model.proofs.Areas.{Fits, pass-fits, store-of-is}
@@ -35,15 +35,15 @@ good-fits st h =
 
 module _ (a : List ℕ) (cells : List (List ℕ)) (rows : List (List (List ℕ))) (k : Holding a cells rows) where
   abbrev s : Schema
-  s = tablesIn cells
+  s = packedTables cells
 
   abbrev pub store : Store
-  store = storeIn (tablesIn cells) (runIn a) (numberIn a) (textFrom a) (rowCount a) rows
+  store = storeIn (packedTables cells) (runIn a) (numberIn a) (textFrom a) (rowCount a) rows
 
   pub fits : Fits store
   fits = good-fits store (store-of-is a store (k .store) .1)
 
-  pub database-is : databaseOf store ≡ databaseFrom cells
+  pub database-is : heldDatabase store ≡ databaseFrom cells
   unfolding storeIn
   database-is = ap (λ (o : Option Database). elim o [ none ↦ record { name = []; tables = [] } | some d ↦ d ]) (k .database)
 

@@ -10,10 +10,10 @@ use Rattle.model.specs.Octets.{value, part}
 use Rattle.model.specs.Base.{all, isSome}
 use Rattle.model.specs.Schema.{Schema}
 use Rattle.model.specs.SchemaText.{readSchema}
-use Rattle.model.specs.Packed as packed
+use Rattle.inner.specs.Packed as packed
 use Rattle.model.specs.Commit.{lawful}
 use Rattle.model.specs.Areas.{textFrom, tablesOf, tablesIn, decodeStore, storeOf}
-use Rattle.model.specs.Working.{working}
+use Rattle.inner.specs.Working.{working}
 use Rattle.model.proofs.Tests.{clash}
 use Rattle.model.proofs.Octets.{octet}
 use Rattle.model.proofs.Accepted.{text-kept}
@@ -48,7 +48,7 @@ module _ (a : List ℕ) (cells : List (List ℕ)) (x : InCells a cells) where
 
 module _ (a : List ℕ) (cells : List (List ℕ)) (x : InCells a cells) (size : length a ≡ 24107) (bytes : all octet a ≡ true) where
   abbrev s : Schema
-  s = packed.tablesIn cells
+  s = packed.packedTables cells
 
   same : s ≡ tablesIn (textFrom a)
   same = sym (ap tablesOf (x .database))

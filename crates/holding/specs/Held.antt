@@ -8,9 +8,9 @@ use lib.ListN.{length, take}
 use Rattle.model.specs.Octets.{value, part}
 use Rattle.model.specs.Base.{isSome}
 use Rattle.model.specs.SchemaText.{readSchema}
-use Rattle.model.specs.Packed.{schemaCells, databaseFrom, tablesIn}
+use Rattle.inner.specs.Packed.{schemaCells, databaseFrom, packedTables}
 use Rattle.model.specs.Areas.{storeBytes, textFrom, storeOf}
-use Rattle.model.specs.Working.{Tidy}
+use Rattle.inner.specs.Working.{Tidy}
 use Rattle.area.specs.Layout.{rowCount, Sized}
 use Rattle.area.specs.Writing.{numberIn, storeIn}
 use Rattle.references.specs.Links.{Accepted}
@@ -27,12 +27,12 @@ pub record InCells (a : List ℕ) (cells : List (List ℕ)) : Type 0 where
 -- what an area in good order is, by its schema's cells and the cells of its rows
 pub record Holding (a : List ℕ) (cells : List (List ℕ)) (rows : List (List (List ℕ))) : Type 0 where
   pub size : length a ≡ storeBytes
-  pub store : storeOf a ≡ some (storeIn (tablesIn cells) (runIn a) (numberIn a) (textFrom a) (rowCount a) rows)
+  pub store : storeOf a ≡ some (storeIn (packedTables cells) (runIn a) (numberIn a) (textFrom a) (rowCount a) rows)
   pub database : readSchema (textFrom a) ≡ some (databaseFrom cells)
   pub accepted : Accepted cells
   pub sized : Sized cells
   pub few : rowCount a ≤ 32
-  pub tidy : Tidy (tablesIn cells) (take (rowCount a) rows)
+  pub tidy : Tidy (packedTables cells) (take (rowCount a) rows)
 
 -- whether an area's text is an accepted schema
 pub record TextRead (a : List ℕ) (cells : List (List ℕ)) (r : Bool) : Type 0 where

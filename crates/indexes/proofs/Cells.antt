@@ -12,8 +12,9 @@ use Rattle.model.specs.declared.Found.{Found}
 use Rattle.model.specs.declared.Found.the-variants.{At, Nothing}
 use Rattle.model.specs.Base.{all}
 use Rattle.model.specs.Json.{Json}
-use Rattle.model.specs.Nav.{treeAt, wellAt, itemsIn, firstOf, nextItem, itemsFrom, itemsFine}
-use Rattle.model.specs.Packed.{indexFrom}
+use Rattle.inner.specs.Positions.{treeAt, wellAt, firstOf, nextItem, itemsFrom, itemsFine}
+use Rattle.model.specs.Nav.{itemsIn}
+use Rattle.inner.specs.Packed.{indexFrom}
 use Rattle.model.specs.SchemaText.{indexOf}
 use Rattle.model.proofs.Tests.{and-l, and-r}
 use Rattle.nav.proofs.FirstByte.{items-in}

@@ -11,7 +11,8 @@ use Rattle.model.specs.declared.Found.{Found}
 use Rattle.model.specs.declared.Found.the-variants.{At, Nothing}
 use Rattle.model.specs.Base.{all}
 use Rattle.model.specs.Json.{Json, null, bool, num, str, arr, obj, Named}
-use Rattle.model.specs.Nav.{treeAt, wellAt, kindOf, isArray, itemsIn, firstOf, nextItem, itemsFrom, itemsFine}
+use Rattle.inner.specs.Positions.{treeAt, wellAt, firstOf, nextItem, itemsFrom, itemsFine}
+use Rattle.model.specs.Nav.{kindOf, isArray, itemsIn}
 use Rattle.model.specs.SchemaText.{isIndexed, indexFits, indexesFit}
 use Rattle.model.proofs.Tests.{split, clash}
 use Rattle.nav.proofs.FirstByte.{items-in}

@@ -15,11 +15,12 @@ use Rattle.model.specs.declared.Found.the-variants.{At, Nothing}
 use Rattle.model.specs.Octets.{eqBytes}
 use Rattle.model.specs.Base.{all, placeOf}
 use Rattle.model.specs.Json.{Json, Named}
-use Rattle.model.specs.Nav.{treeAt, wellAt, kindOf, isText, itemsIn, textIn, firstOf, nextItem, itemsFrom, itemsFine}
-use Rattle.model.specs.Members.{has}
+use Rattle.inner.specs.Positions.{treeAt, wellAt, firstOf, nextItem, itemsFrom, itemsFine}
+use Rattle.model.specs.Nav.{kindOf, isText, itemsIn, textIn}
+use Rattle.model.specs.Members.{hasMember}
 use Rattle.model.specs.Value.{textOf}
-use Rattle.model.specs.Packed.{cellName}
-use Rattle.model.specs.SchemaText.{names, isId, isIndexed, indexTests, indexFits, indexesTests, indexesFit, numberOf, indexOf, isLasting}
+use Rattle.inner.specs.Packed.{cellName}
+use Rattle.model.specs.SchemaText.{names, isId, isIndexed, indexTests, indexFits, indexesTests, indexesFit, placeOr, indexOf, isLasting}
 use Rattle.model.proofs.Tests.{split, and-l, and-r, parts}
 use Rattle.names.specs.Names.{nameCell, shortCell, foundAt, cellNamed}
 use Rattle.nav.proofs.FirstByte.{items-in}
@@ -56,30 +57,30 @@ module _ (cells : List (List ℕ)) (j : Json) (short : isShort j ≡ true) {name
     unfolding cellNamed
     found-is = e ∙ ap (λ (w : List ℕ). foundAt (placeOf w (map cellName cells))) name-is
 
-    pub number-at : {k : ℕ} → f ≡ At k → (k ≡ numberOf (textIn j) (map cellName cells)) × (k < length cells)
+    pub number-at : {k : ℕ} → f ≡ At k → (k ≡ placeOr (textIn j) (map cellName cells)) × (k < length cells)
     unfolding foundAt
     number-at {k} h = go (placeOf (textIn j) (map cellName cells)) refl
       where
-        go : (o : Option ℕ) → placeOf (textIn j) (map cellName cells) ≡ o → (k ≡ numberOf (textIn j) (map cellName cells)) × (k < length cells)
+        go : (o : Option ℕ) → placeOf (textIn j) (map cellName cells) ≡ o → (k ≡ placeOr (textIn j) (map cellName cells)) × (k < length cells)
         go none p = absurd (let m : At k ≡ Nothing = sym h ∙ found-is ∙ ap foundAt p in let z : _≡_ {A = ℕ} 0 1 = cc in omega arith)
         go (some i) p =
             let m : At k ≡ At i = sym h ∙ found-is ∙ ap foundAt p in
             let z : k ≡ i = cc in
-            (rw (numberOf, p) z, omega (arith, place-small (textIn j) (map cellName cells) i p, length-names cells))
+            (rw (placeOr, p) z, omega (arith, place-small (textIn j) (map cellName cells) i p, length-names cells))
 
-    pub number-none : f ≡ Nothing → 0 ≡ numberOf (textIn j) (map cellName cells)
+    pub number-none : f ≡ Nothing → 0 ≡ placeOr (textIn j) (map cellName cells)
     unfolding foundAt
     number-none h = go (placeOf (textIn j) (map cellName cells)) refl
       where
-        go : (o : Option ℕ) → placeOf (textIn j) (map cellName cells) ≡ o → 0 ≡ numberOf (textIn j) (map cellName cells)
-        go none p = rw (numberOf, p)
+        go : (o : Option ℕ) → placeOf (textIn j) (map cellName cells) ≡ o → 0 ≡ placeOr (textIn j) (map cellName cells)
+        go none p = rw (placeOr, p)
         go (some i) p = absurd (let m : Nothing ≡ At i = sym h ∙ found-is ∙ ap foundAt p in let z : _≡_ {A = ℕ} 0 1 = cc in omega arith)
 
 -- what is written of an index when the walk stands at g
 pub record Filled (s : List ℕ) (ns : List (List ℕ)) (j : Json) (q : List ℕ) (n : ℕ) (g : Found) : Type 0 where
   pub size : length q ≡ 4
   pub few : n + length (itemsFrom s g) ≤ 3
-  pub holds : indexOf ns j ≡ take n (drop 1 q) ++ map (λ (x : Json). numberOf (textIn x) ns) (itemsFrom s g)
+  pub holds : indexOf ns j ≡ take n (drop 1 q) ++ map (λ (x : Json). placeOr (textIn x) ns) (itemsFrom s g)
   pub short : all isShort (itemsFrom s g) ≡ true
   pub fine : itemsFine s g ≡ true
 
@@ -93,7 +94,7 @@ module _ (s : List ℕ) (ns : List (List ℕ)) where
       record {
         size = refl;
         few = omega (arith, l, ap length z);
-        holds = ap (map (λ (x : Json). numberOf (textIn x) ns)) z;
+        holds = ap (map (λ (x : Json). placeOr (textIn x) ns)) z;
         short = ap (all isShort) (sym z) ∙ and-r (leb (length (itemsIn (treeAt s at))) 3) _ h;
         fine = rw e (q .1);
       }
@@ -106,7 +107,7 @@ module _ (s : List ℕ) (ns : List (List ℕ)) where
         record {
           size = length-set q 0 n ∙ so .size;
           few = omega (arith, so .few, a);
-          holds = rw (a, d) (sym (so .holds ∙ ap (λ l. take n (drop 1 q) ++ map (λ (x : Json). numberOf (textIn x) ns) l) (walk-end s e) ∙ append-nil (take n (drop 1 q))));
+          holds = rw (a, d) (sym (so .holds ∙ ap (λ l. take n (drop 1 q) ++ map (λ (x : Json). placeOr (textIn x) ns) l) (walk-end s e) ∙ append-nil (take n (drop 1 q))));
         }
 
     module _ {i : ℕ} (h : g ≡ At i) where
@@ -119,9 +120,9 @@ module _ (s : List ℕ) (ns : List (List ℕ)) where
       pub filled-short : isShort (treeAt s i) ≡ true
       filled-short = and-l (isShort (treeAt s i)) _ shorts
 
-      pub filled-on : {k : ℕ} {t : Found} → k ≡ numberOf (textIn (treeAt s i)) ns → t ≡ nextItem s i → Filled s ns j (set q (n + 1) k) (n + 1) t
+      pub filled-on : {k : ℕ} {t : Found} → k ≡ placeOr (textIn (treeAt s i)) ns → t ≡ nextItem s i → Filled s ns j (set q (n + 1) k) (n + 1) t
       filled-on {k} {t} ek et =
-          let f : Json → ℕ = λ (x : Json). numberOf (textIn x) ns in
+          let f : Json → ℕ = λ (x : Json). placeOr (textIn x) ns in
           let o : n + 1 ≡ 1 + n = omega arith in
           let d : drop 1 (set q (n + 1) k) ≡ set (drop 1 q) n k = rw o (drop-set-add 1 q n k) in
           let m : take (n + 1) (drop 1 (set q (n + 1) k)) ≡ take n (drop 1 q) ++ (k ∷ []) =
@@ -144,7 +145,7 @@ module _ (columns : List Named) (ids : all isId (names columns) ≡ true) where
   unfolding isIndexed isShort
   indexed-short j h =
       let t = and-l (isText (kindOf j)) _ h in
-      let k = and-l (has (textIn j) columns) (isLasting _) (and-r (isText (kindOf j)) _ h) in
+      let k = and-l (hasMember (textIn j) columns) (isLasting _) (and-r (isText (kindOf j)) _ h) in
       rw (t, id-short (textIn j) (has-id (textIn j) columns ids k))
 
   index-short : (j : Json) → indexFits columns j ≡ true → shortIndex j ≡ true

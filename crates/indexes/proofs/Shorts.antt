@@ -11,9 +11,11 @@ use Rattle.model.specs.declared.Found.the-variants.{At, Nothing}
 use Rattle.model.specs.Octets.{eqBytes}
 use Rattle.model.specs.Base.{all, ascii}
 use Rattle.model.specs.Json.{Json, null, bool, num, str, arr, obj, Named}
-use Rattle.model.specs.Nav.{treeAt, wellAt, kindOf, isText, isTrue, textIn}
-use Rattle.model.specs.Members.{membersIn, has, valueOf, Means}
-use Rattle.model.specs.Text.{stringIn}
+use Rattle.inner.specs.Positions.{treeAt, wellAt, isTrue}
+use Rattle.model.specs.Nav.{kindOf, isText, textIn}
+use Rattle.model.specs.Members.{membersIn, hasMember, memberValue}
+use Rattle.inner.specs.Positions.{Means}
+use Rattle.inner.specs.Positions.{wordIn}
 use Rattle.model.specs.Value.{textOf}
 use Rattle.model.specs.SchemaText.{names, isLetter, isIdByte, isId, truthOr, isLasting, isIndexed, partsTests, columnsFit, columnFits}
 use Rattle.model.proofs.Tests.{split, clash, and-l, and-r, parts, bytes-same}
@@ -21,8 +23,8 @@ use Rattle.model.proofs.SchemaLaws.{value-missing}
 use Rattle.names.specs.Names.{shortCell, nameCell}
 
 -- a string, and what it says
-pub string-text : (j : Json) → isText (kindOf j) ≡ true → stringIn j ≡ textIn j
-unfolding isText kindOf stringIn textIn
+pub string-text : (j : Json) → isText (kindOf j) ≡ true → wordIn j ≡ textIn j
+unfolding isText kindOf wordIn textIn
 string-text null h = refl
 string-text (bool b) h = refl
 string-text (num t) h = absurd (clash false h refl)
@@ -45,28 +47,28 @@ unfolding isId
 id-short [] h = refl
 id-short (b ∷ t) h = and-r (isLetter b && all isIdByte t) _ h
 
-pub has-id : (w : List ℕ) (ms : List Named) → all isId (names ms) ≡ true → has w ms ≡ true → isId w ≡ true
-unfolding has
+pub has-id : (w : List ℕ) (ms : List Named) → all isId (names ms) ≡ true → hasMember w ms ≡ true → isId w ≡ true
+unfolding hasMember
 has-id w [] a h = absurd (clash false h refl)
 has-id w (m ∷ ms) a h =
     split
     (eqBytes (m .name) w)
     (λ e. rw (bytes-same (m .name) w e) at (and-l (isId (m .name)) _ a))
-    (λ e. has-id w ms (and-r (isId (m .name)) _ a) (rw (has, e) at h))
+    (λ e. has-id w ms (and-r (isId (m .name)) _ a) (rw (hasMember, e) at h))
 
 -- what is looked up by the text in a name's cell is what is looked up by the name
 module _ (ms : List Named) (ids : all isId (names ms) ≡ true) where
-  pub has-cell : (t : List ℕ) → has (textOf (shortCell t)) ms ≡ has t ms
+  pub has-cell : (t : List ℕ) → hasMember (textOf (shortCell t)) ms ≡ hasMember t ms
   unfolding isId
   has-cell t =
-      split (leb (length t) 24) (λ e. ap (λ (w : List ℕ). has w ms) (cell-short t e))
+      split (leb (length t) 24) (λ e. ap (λ (w : List ℕ). hasMember w ms) (cell-short t e))
       (λ e.
-      let none-here : has [] ms ≡ false = split (has [] ms) (λ h. absurd (clash false (has-id [] ms ids h) refl)) (λ h. h) in
-      let none-there : has t ms ≡ false = split (has t ms) (λ h. absurd (clash _ (id-short t (has-id t ms ids h)) e)) (λ h. h) in
-      ap (λ (w : List ℕ). has w ms) (cell-long t e) ∙ none-here ∙ sym none-there)
+      let none-here : hasMember [] ms ≡ false = split (hasMember [] ms) (λ h. absurd (clash false (has-id [] ms ids h) refl)) (λ h. h) in
+      let none-there : hasMember t ms ≡ false = split (hasMember t ms) (λ h. absurd (clash _ (id-short t (has-id t ms ids h)) e)) (λ h. h) in
+      ap (λ (w : List ℕ). hasMember w ms) (cell-long t e) ∙ none-here ∙ sym none-there)
 
-  pub value-cell : (t : List ℕ) → has t ms ≡ true → valueOf (textOf (shortCell t)) ms ≡ valueOf t ms
-  value-cell t h = ap (λ (w : List ℕ). valueOf w ms) (cell-short t (id-short t (has-id t ms ids h)))
+  pub value-cell : (t : List ℕ) → hasMember t ms ≡ true → memberValue (textOf (shortCell t)) ms ≡ memberValue t ms
+  value-cell t h = ap (λ (w : List ℕ). memberValue w ms) (cell-short t (id-short t (has-id t ms ids h)))
 
 truth-true : (j : Json) → truthOr false j ≡ isTrue j
 unfolding truthOr isTrue
@@ -79,16 +81,16 @@ truth-true (obj ms) = refl
 
 -- a column that has the member, and one that has it not
 module _ (s : List ℕ) (j : Json) where
-  pub lasting-at : {f : Found} {v : ℕ} → Means s f (has (ascii "ephemeral") (membersIn j)) (valueOf (ascii "ephemeral") (membersIn j)) → f ≡ At v → not (isTrue (treeAt s v)) ≡ isLasting j
+  pub lasting-at : {f : Found} {v : ℕ} → Means s f (hasMember (ascii "ephemeral") (membersIn j)) (memberValue (ascii "ephemeral") (membersIn j)) → f ≡ At v → not (isTrue (treeAt s v)) ≡ isLasting j
   unfolding Means isLasting
   lasting-at {f} {v} m e =
-      let k : Means s (At v) (has (ascii "ephemeral") (membersIn j)) (valueOf (ascii "ephemeral") (membersIn j)) = rw e at m in
+      let k : Means s (At v) (hasMember (ascii "ephemeral") (membersIn j)) (memberValue (ascii "ephemeral") (membersIn j)) = rw e at m in
       ap not (sym (truth-true (treeAt s v)) ∙ ap (truthOr false) (sym (k .1)))
 
-  pub lasting-none : {f : Found} → Means s f (has (ascii "ephemeral") (membersIn j)) (valueOf (ascii "ephemeral") (membersIn j)) → f ≡ Nothing → true ≡ isLasting j
-  unfolding Means isLasting valueOf truthOr
+  pub lasting-none : {f : Found} → Means s f (hasMember (ascii "ephemeral") (membersIn j)) (memberValue (ascii "ephemeral") (membersIn j)) → f ≡ Nothing → true ≡ isLasting j
+  unfolding Means isLasting memberValue truthOr
   lasting-none {f} m e =
-      let k : has (ascii "ephemeral") (membersIn j) ≡ false = rw e at m in
+      let k : hasMember (ascii "ephemeral") (membersIn j) ≡ false = rw e at m in
       sym (ap (λ (x : Json). not (truthOr false x)) (value-missing (ascii "ephemeral") null (membersIn j) k))
 
 -- an item that is a string, looked up among the columns
@@ -102,27 +104,27 @@ module _ (s : List ℕ) (ms : List Named) (ids : all isId (names ms) ≡ true) (
     unfolding nameCell
     looked = q ∙ ap (λ (w : List ℕ). textOf (shortCell w)) (string-text j t)
 
-    has-is : has name ms ≡ has (textIn j) ms
-    has-is = ap (λ (w : List ℕ). has w ms) looked ∙ has-cell ms ids (textIn j)
+    has-is : hasMember name ms ≡ hasMember (textIn j) ms
+    has-is = ap (λ (w : List ℕ). hasMember w ms) looked ∙ has-cell ms ids (textIn j)
 
-    module _ (f : Found) (m : Means s f (has name ms) (valueOf name ms)) where
+    module _ (f : Found) (m : Means s f (hasMember name ms) (memberValue name ms)) where
       pub found-well : {v : ℕ} → f ≡ At v → wellAt s v ≡ true
       unfolding Means
-      found-well {v} e = let k : Means s (At v) (has name ms) (valueOf name ms) = rw e at m in k .2
+      found-well {v} e = let k : Means s (At v) (hasMember name ms) (memberValue name ms) = rw e at m in k .2
 
       pub indexed-at : {v : ℕ} → f ≡ At v → isLasting (treeAt s v) ≡ isIndexed ms j
       unfolding Means isIndexed
       indexed-at {v} e =
-          let k : Means s (At v) (has name ms) (valueOf name ms) = rw e at m in
-          let h : has (textIn j) ms ≡ true = sym has-is ∙ k .0 in
-          let u : treeAt s v ≡ valueOf (textIn j) ms = sym (k .1) ∙ ap (λ (w : List ℕ). valueOf w ms) looked ∙ value-cell ms ids (textIn j) h in
+          let k : Means s (At v) (hasMember name ms) (memberValue name ms) = rw e at m in
+          let h : hasMember (textIn j) ms ≡ true = sym has-is ∙ k .0 in
+          let u : treeAt s v ≡ memberValue (textIn j) ms = sym (k .1) ∙ ap (λ (w : List ℕ). memberValue w ms) looked ∙ value-cell ms ids (textIn j) h in
           rw (isIndexed, t, h, u)
 
       pub indexed-none : f ≡ Nothing → false ≡ isIndexed ms j
       unfolding Means isIndexed
       indexed-none e =
-          let k : has name ms ≡ false = rw e at m in
-          let h : has (textIn j) ms ≡ false = sym has-is ∙ k in
+          let k : hasMember name ms ≡ false = rw e at m in
+          let h : hasMember (textIn j) ms ≡ false = sym has-is ∙ k in
           rw (isIndexed, t, h)
 
 -- the columns of a table that fits have ids for names

@@ -9,7 +9,7 @@ use Rattle.model.specs.Base.{all}
 use Rattle.model.specs.Limits.{mostTextBytes, mostIndexes, mostIndexColumns}
 use Rattle.model.specs.Json.{Json, Named}
 use Rattle.model.specs.Nav.{itemsIn}
-use Rattle.model.specs.Packed.{indexesFrom}
+use Rattle.inner.specs.Packed.{indexesFrom}
 use Rattle.model.specs.SchemaText.{isStringOf, indexFits}
 
 -- at most two items that are indexes

@@ -7,10 +7,11 @@ ghost use Prim.Native.Nat.{_≤_};
 ghost use lib.ListN.{length};
 ghost use lib.Seq.{sets};
 ghost use Rattle.model.specs.Base.{all};
-ghost use Rattle.model.specs.Nav.{Says, wellAt, treeAt, itemsIn, textIn};
+ghost use Rattle.inner.specs.Positions.{Says, wellAt, treeAt};
+ghost use Rattle.model.specs.Nav.{itemsIn, textIn};
 ghost use Rattle.model.specs.Members.{membersIn};
-ghost use Rattle.model.specs.Packed.{cellName};
-ghost use Rattle.model.specs.SchemaText.{names, isId, isLasting, isIndexed, indexFits, indexesFit, numberOf, indexOf};
+ghost use Rattle.inner.specs.Packed.{cellName};
+ghost use Rattle.model.specs.SchemaText.{names, isId, isLasting, isIndexed, indexFits, indexesFit, placeOr, indexOf};
 ghost use Rattle.indexes.specs.Indexes.{fewFit, isShort, shortIndex, shortIndexes, Index, Stored};
 
 // Whether the column at `at` is not ephemeral.
@@ -127,7 +128,7 @@ pub fn fits(text: &[u8], ends: &[u16], at: usize, columns: usize) -> bool
 fn number(text: &[u8], at: usize, columns: &[[u8; 48]]) -> u8
     requires { ⌜ isShort (treeAt (now text) at) ≡ true ⌝ }
     requires { ⌜ length (now columns) ≤ 256 ⌝ }
-    ensures { λ r. ⌜ r ≡ numberOf (textIn (treeAt (now (text .entry)) at)) (map cellName (now (columns .entry))) ⌝ }
+    ensures { λ r. ⌜ r ≡ placeOr (textIn (treeAt (now (text .entry)) at)) (map cellName (now (columns .entry))) ⌝ }
 {
     let name = names::name_at(text, at);
     let f = names::cell_named(columns, atom::text_of(&name));

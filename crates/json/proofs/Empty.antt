@@ -4,7 +4,7 @@ use mathlib.Core.Logic.{inl}
 use mathlib.Core.List.{List}
 use Prim.Native.Nat.{ℕ, zero, suc}
 use lib.ListN.{getD, replicate}
-use Rattle.model.specs.Nav.{Says}
+use Rattle.inner.specs.Positions.{Says}
 
 all-zero : (n p : ℕ) → _≡_ {A = ℕ} (getD (replicate n 0) p 0) 0
 all-zero zero p = refl

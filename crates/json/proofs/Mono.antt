@@ -13,7 +13,7 @@ use Rattle.model.specs.declared.Next.the-variants.{More, Done}
 use Rattle.model.specs.declared.Open.{Open}
 use Rattle.model.specs.declared.Open.the-variants.{Array, Object, Scalar}
 use Rattle.model.specs.Scan.{byte, Parsed, andThen, Turn, run, spacesAt}
-use Rattle.model.specs.Json.{Json, null, Named, keyAt, afterItem, itemTurn, listAt, arrayAt, memberAt, objectAt, opens, dispatch, valueAt, failed}
+use Rattle.model.specs.Json.{Json, null, Named, keyAt, afterItem, itemTurn, listAt, arrayAt, memberAt, objectAt, opens, dispatch, valueAt, noValue}
 
 -- q reads whatever p reads, and the same
 abbrev pub Below : {A : Type 0} → (ℕ → Parsed A) → (ℕ → Parsed A) → Type 0
@@ -76,13 +76,13 @@ module _ (s : List ℕ) where
       go Object k = rw (dispatch, k) (g i e (sym (rw (dispatch, k)) ∙ h))
       go Scalar k = rw (dispatch, k)
 
-  deep : (q : ℕ → Parsed Json) → Below (λ i. failed (Deep i)) q
+  deep : (q : ℕ → Parsed Json) → Below (λ i. noValue (Deep i)) q
   deep q i e h = let z : _≡_ {A = ℕ} 0 1 = cc in absurd (omega arith)
 
   -- the theorem: one level more, and so any number
   pub level-more : (l : ℕ) → Below (valueAt l s) (valueAt (suc l) s)
   unfolding valueAt
-  level-more zero at = dispatch-more (λ i. failed (Deep i)) (λ i. failed (Deep i)) (λ i. arrayAt (valueAt zero s) s (i + 1)) (λ i. objectAt (valueAt zero s) s (i + 1)) (deep _) (deep _) (spacesAt s at)
+  level-more zero at = dispatch-more (λ i. noValue (Deep i)) (λ i. noValue (Deep i)) (λ i. arrayAt (valueAt zero s) s (i + 1)) (λ i. objectAt (valueAt zero s) s (i + 1)) (deep _) (deep _) (spacesAt s at)
   level-more (suc l) at =
       dispatch-more (λ i. arrayAt (valueAt l s) s (i + 1)) (λ i. objectAt (valueAt l s) s (i + 1)) (λ i. arrayAt (valueAt (suc l) s) s (i + 1)) (λ i. objectAt (valueAt (suc l) s) s (i + 1))
       (λ i. array-more (valueAt l s) (valueAt (suc l) s) (level-more l) (i + 1)) (λ i. object-more (valueAt l s) (valueAt (suc l) s) (level-more l) (i + 1)) (spacesAt s at)

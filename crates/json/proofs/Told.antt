@@ -13,7 +13,7 @@ use lib.Seq.{set-out, getD-set-same, getD-set-other}
 use Rattle.model.specs.declared.Read.{Read}
 use Rattle.model.specs.declared.Read.the-variants.{End, Stop, Deep}
 use Rattle.model.specs.Json.{valueAt}
-use Rattle.model.specs.Nav.{Says}
+use Rattle.inner.specs.Positions.{Says}
 use Rattle.json.proofs.Mono.{levels-more}
 use Rattle.json.specs.Table.{noted}
 

@@ -8,10 +8,11 @@ use Rattle.model.specs.declared.Read.{Read}
 use Rattle.model.specs.declared.Read.the-variants.{End, Stop, Deep}
 use Rattle.model.specs.Scan.{andThen}
 use Rattle.model.specs.Json.{Json, valueAt, textAt}
-use Rattle.model.specs.Nav.{isEnd, wellAt, treeAt}
+use Rattle.model.specs.Nav.{isRead}
+use Rattle.inner.specs.Positions.{wellAt, treeAt}
 
-pub text-well : (s : List ℕ) → isEnd (textAt s .read) ≡ true → (wellAt s 0 ≡ true) × (textAt s .tree ≡ treeAt s 0)
-unfolding textAt andThen wellAt treeAt isEnd
+pub text-well : (s : List ℕ) → isRead (textAt s .read) ≡ true → (wellAt s 0 ≡ true) × (textAt s .tree ≡ treeAt s 0)
+unfolding textAt andThen wellAt treeAt isRead
 text-well s h = go (valueAt 12 s 0 .read) refl
   where
     go : (r : Read) → valueAt 12 s 0 .read ≡ r → (wellAt s 0 ≡ true) × (textAt s .tree ≡ treeAt s 0)

@@ -6,7 +6,7 @@ ghost use mathlib.Core.Path.{_≡_};
 ghost use Prim.Native.Nat.{_≤_};
 ghost use lib.ListN.{length, replicate};
 ghost use Rattle.model.specs.Json.{valueAt, arrayAt, memberAt, objectAt, textAt};
-ghost use Rattle.model.specs.Nav.{Says};
+ghost use Rattle.inner.specs.Positions.{Says};
 ghost use Rattle.json.specs.Table.{noted};
 
 // Keeps where what begins at `at` ended.

@@ -7,14 +7,15 @@ ghost use mathlib.Core.Bool.{true};
 ghost use mathlib.Core.List.{[], _∷_};
 ghost use lib.Dec.{eqb};
 ghost use lib.ListN.{length};
-ghost use Rattle.model.specs.Base.{if_then_else_, member, distinct};
-ghost use Rattle.model.specs.Nav.{Says, wellAt, treeAt};
-ghost use Rattle.model.specs.Schema.{integer, baseOf, scalar};
+ghost use Rattle.model.specs.Base.{if_then_else_, distinct};
+ghost use Rattle.inner.specs.Positions.{Says, wellAt, treeAt};
+ghost use Rattle.model.specs.Schema.{integer, scalar};
+ghost use Rattle.inner.specs.Packed.{baseNumbered};
 ghost use Rattle.model.specs.Value.{valueOf};
 ghost use Rattle.model.specs.Faults.{isFine};
 ghost use Rattle.model.specs.Written.{elementsIn, rowFault, insertFault, deleteFault, operandFault, setCount, testFault, written};
 ghost use Rattle.model.specs.Operations.{valueWritten};
-ghost use Rattle.model.specs.Packed.{columnFrom};
+ghost use Rattle.inner.specs.Packed.{columnFrom};
 ghost use Rattle.elements.specs.Elements.{elementsFrom, elementsFine};
 ghost use Rattle.uuids.specs.Named.{namesAt, Running};
 ghost use Rattle.written.specs.Atoms.{atomsOf};
@@ -43,7 +44,7 @@ fn different(
     requires { ⌜ Running (now text) (now ends) ops (now fresh) ⌝ }
     requires { ⌜ elementsFine (now text) set f ≡ true ⌝ }
     requires { ⌜ count ≡ length (elementsFrom (now text) set f) ⌝ }
-    ensures { λ r. ⌜ r ≡ distinct (atomsOf (namesAt (now (text .entry)) ops (now (fresh .entry))) (baseOf kind) (elementsFrom (now (text .entry)) set f)) ⌝ }
+    ensures { λ r. ⌜ r ≡ distinct (atomsOf (namesAt (now (text .entry)) ops (now (fresh .entry))) (baseNumbered kind) (elementsFrom (now (text .entry)) set f)) ⌝ }
 {
     if count < 2 {
         return true;
@@ -271,26 +272,6 @@ pub fn count_at(text: &[u8], ends: &[u16], at: usize) -> usize
     count_from(text, ends, set, f)
 }
 
-// Whether the atom x is among those of the value at `at`.
-pub fn among(
-    text: &[u8],
-    ends: &[u16],
-    ops: Found,
-    fresh: &[u8],
-    kind: u8,
-    at: usize,
-    x: &[u8; 25],
-) -> bool
-    requires { ⌜ Running (now text) (now ends) ops (now fresh) ⌝ }
-    requires { ⌜ wellAt (now text) at ≡ true ⌝ }
-    ensures { λ r. ⌜ r ≡ member (now (x .entry)) (atomsAs (namesAt (now (text .entry)) ops (now (fresh .entry))) (baseOf kind) (treeAt (now (text .entry)) at)) ⌝ }
-{
-    let e = elements::elements_at(text, ends, at);
-    let set = e.set;
-    let f = e.first;
-    written::cell_among(text, ends, ops, fresh, kind, set, f, x)
-}
-
 // The atoms of the value at `at`, in the text's order.
 pub fn atoms_at(
     text: &[u8],
@@ -302,8 +283,8 @@ pub fn atoms_at(
 ) -> [[u8; 25]; 4]
     requires { ⌜ Running (now text) (now ends) ops (now fresh) ⌝ }
     requires { ⌜ wellAt (now text) at ≡ true ⌝ }
-    requires { ⌜ Fitting (namesAt (now text) ops (now fresh)) (baseOf kind) (treeAt (now text) at) ⌝ }
-    ensures { λ r. ⌜ r ≡ valueOf (atomsAs (namesAt (now (text .entry)) ops (now (fresh .entry))) (baseOf kind) (treeAt (now (text .entry)) at)) .atoms ⌝ }
+    requires { ⌜ Fitting (namesAt (now text) ops (now fresh)) (baseNumbered kind) (treeAt (now text) at) ⌝ }
+    ensures { λ r. ⌜ r ≡ valueOf (atomsAs (namesAt (now (text .entry)) ops (now (fresh .entry))) (baseNumbered kind) (treeAt (now (text .entry)) at)) .atoms ⌝ }
 {
     let e = elements::elements_at(text, ends, at);
     let set = e.set;

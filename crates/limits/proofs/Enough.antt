@@ -10,9 +10,9 @@ use Rattle.model.specs.Schema.{Column, columnsOf}
 use Rattle.model.specs.Commit.{enough, notOver}
 use Rattle.model.specs.Octets.{value, part}
 use Rattle.model.specs.Areas.{rowFrom}
-use Rattle.model.specs.Packed.{columnFrom, columnCell, tablesIn, maxRowsFrom}
-use Rattle.model.specs.Working.{tableIn, valueIn}
-use Rattle.model.proofs.Working.{row-table}
+use Rattle.inner.specs.Packed.{columnFrom, columnCell, packedTables, maxRowsFrom}
+use Rattle.inner.specs.Working.{tableIn, valueIn}
+use Rattle.inner.proofs.Working.{row-table}
 use Rattle.references.specs.Links.{Accepted}
 use Rattle.references.proofs.Packs.{columns-on}
 use Rattle.references.proofs.Links.{values-on}
@@ -21,24 +21,24 @@ use Rattle.limits.specs.Alike.{rowEnough}
 module _ (schema cells : List (List ℕ)) where
   -- the columns from c on have their minimums
   abbrev pub enoughFrom : ℕ → Bool
-  enoughFrom c = enough (drop c (columnsOf (tablesIn schema) (tableIn cells))) (drop c (rowFrom (tablesIn schema) cells .columns))
+  enoughFrom c = enough (drop c (columnsOf (packedTables schema) (tableIn cells))) (drop c (rowFrom (packedTables schema) cells .columns))
 
-  pub enough-all : rowEnough (tablesIn schema) (rowFrom (tablesIn schema) cells) ≡ enoughFrom 0
+  pub enough-all : rowEnough (packedTables schema) (rowFrom (packedTables schema) cells) ≡ enoughFrom 0
   unfolding rowEnough
-  enough-all = ap (λ (t : ℕ). enough (columnsOf (tablesIn schema) t) (rowFrom (tablesIn schema) cells .columns)) (row-table (tablesIn schema) cells)
+  enough-all = ap (λ (t : ℕ). enough (columnsOf (packedTables schema) t) (rowFrom (packedTables schema) cells .columns)) (row-table (packedTables schema) cells)
 
-  pub enough-end : (c : ℕ) → length (columnsOf (tablesIn schema) (tableIn cells)) ≤ c → enoughFrom c ≡ true
-  enough-end c h = rw (drop-of-length-le (columnsOf (tablesIn schema) (tableIn cells)) {i = c} h)
+  pub enough-end : (c : ℕ) → length (columnsOf (packedTables schema) (tableIn cells)) ≤ c → enoughFrom c ≡ true
+  enough-end c h = rw (drop-of-length-le (columnsOf (packedTables schema) (tableIn cells)) {i = c} h)
 
-  module _ (ok : Accepted schema) (c : ℕ) (h : c < length (columnsOf (tablesIn schema) (tableIn cells))) where
+  module _ (ok : Accepted schema) (c : ℕ) (h : c < length (columnsOf (packedTables schema) (tableIn cells))) where
     abbrev pub least : ℕ
     least = columnFrom (getD schema (columnCell (tableIn cells) c) []) .min
 
     pub enough-here : valueIn c cells .count < least → enoughFrom c ≡ false
-    enough-here g = rw (columns-on schema ok (tableIn cells) c h, values-on (tablesIn schema) cells c h, lt-leb least (valueIn c cells .count) g)
+    enough-here g = rw (columns-on schema ok (tableIn cells) c h, values-on (packedTables schema) cells c h, lt-leb least (valueIn c cells .count) g)
 
     pub enough-on : least ≤ valueIn c cells .count → enoughFrom c ≡ enoughFrom (c + 1)
-    enough-on g = rw (columns-on schema ok (tableIn cells) c h, values-on (tablesIn schema) cells c h, le-leb least (valueIn c cells .count) g)
+    enough-on g = rw (columns-on schema ok (tableIn cells) c h, values-on (packedTables schema) cells c h, le-leb least (valueIn c cells .count) g)
 
 -- ── a table's limit, by the bytes of its cell ──
 module _ (cell : List ℕ) (k : ℕ) where

@@ -12,11 +12,11 @@ use Rattle.model.specs.Value.{sameValue}
 use Rattle.model.specs.Rows.{Row, columnValue, ofTable}
 use Rattle.model.specs.Commit.{sameAt, unique}
 use Rattle.model.specs.Areas.{rowFrom}
-use Rattle.model.specs.Working.{working, tableIn, valueIn}
+use Rattle.inner.specs.Working.{working, tableIn, valueIn}
 use Rattle.model.proofs.Tests.{split}
 use Rattle.model.proofs.Lists.{all-head, all-tail}
-use Rattle.model.proofs.Working.{row-table}
-use Rattle.model.proofs.Columns.{column-value}
+use Rattle.inner.proofs.Working.{row-table}
+use Rattle.inner.proofs.Columns.{column-value}
 use Rattle.limits.specs.Alike.{ofT, sameCells, uniqueCells}
 
 module _ (s : Schema) (t : ℕ) where

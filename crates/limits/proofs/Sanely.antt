@@ -11,8 +11,8 @@ use lib.ListN.{length, getD, take, drop, length-take, length-drop}
 use lib.Seq.{getD-take, getD-drop}
 use Rattle.model.specs.Base.{all}
 use Rattle.model.specs.Schema.{Table, columnsOf}
-use Rattle.model.specs.Packed.{tableCell, tableFrom, tablesFrom, tablesIn, indexFrom, indexesFrom, databaseFrom}
-use Rattle.model.specs.Sane.{saneTable, tableSane, saneIndex, indexSane, sane, databaseSane}
+use Rattle.inner.specs.Packed.{tableCell, tableFrom, tablesFrom, packedTables, indexFrom, indexesFrom, databaseFrom}
+use Rattle.model.proofs.Sane.{saneTable, tableSane, saneIndex, indexSane, sane, databaseSane}
 use Rattle.model.proofs.Tests.{parts}
 use Rattle.model.proofs.Lists.{all-head, all-tail, all-at}
 use Rattle.references.specs.Links.{Accepted}
@@ -49,7 +49,7 @@ module _ (cells : List (List ℕ)) (t : ℕ) where
   cellAt = getD cells (tableCell t) []
 
   abbrev pub widthAt : ℕ
-  widthAt = length (columnsOf (tablesIn cells) t)
+  widthAt = length (columnsOf (packedTables cells) t)
 
 module _ (cells : List (List ℕ)) (ok : Accepted cells) (t : ℕ) (h : t < tableCount cells) where
   abbrev cellOf : List ℕ
@@ -65,15 +65,15 @@ module _ (cells : List (List ℕ)) (ok : Accepted cells) (t : ℕ) (h : t < tabl
       let m : a + suc u ≡ suc a + u = omega arith in
       rw m (table-at q (suc a) k u (omega arith) (all-tail q (tableFrom cells a) (tablesFrom cells (suc a) k) e))
 
-  sane-table : saneTable (length (tablesIn cells)) (tableFrom cells t) ≡ true
+  sane-table : saneTable (length (packedTables cells)) (tableFrom cells t) ≡ true
   unfolding sane
   sane-table =
       let e : 0 + t ≡ t = omega arith in
-      rw e at (table-at (saneTable (length (tablesIn cells))) 0 (tableCount cells) t h (parts (databaseSane (databaseFrom cells)) (ok .sane) .1 .1 .0))
+      rw e at (table-at (saneTable (length (packedTables cells))) 0 (tableCount cells) t h (parts (databaseSane (databaseFrom cells)) (ok .sane) .1 .1 .0))
 
   sane-indexes : all (saneIndex (length (tableFrom cells t .columns))) (indexesFrom cellOf) ≡ true
   unfolding saneTable tableFrom
-  sane-indexes = parts (tableSane (length (tablesIn cells)) (tableFrom cells t)) sane-table .1 .1 .1 .1 .0
+  sane-indexes = parts (tableSane (length (packedTables cells)) (tableFrom cells t)) sane-table .1 .1 .1 .1 .0
 
   width-same : length (tableFrom cells t .columns) ≡ widthOf
   unfolding tableFrom

@@ -10,8 +10,8 @@ use Rattle.model.specs.Base.{all, keep}
 use Rattle.model.specs.Schema.{Table}
 use Rattle.model.specs.Rows.{Row, ofTable}
 use Rattle.model.specs.Commit.{unique, notOver, tableGood, tablesGood}
-use Rattle.model.specs.Packed.{tableFrom, tablesFrom, tablesIn, indexFrom, indexesFrom, maxRowsFrom}
-use Rattle.model.specs.Working.{working}
+use Rattle.inner.specs.Packed.{tableFrom, tablesFrom, packedTables, indexFrom, indexesFrom, maxRowsFrom}
+use Rattle.inner.specs.Working.{working}
 use Rattle.references.proofs.Packs.{tableCount, tables-on, tables-end}
 use Rattle.limits.specs.Alike.{ofT, uniqueCells}
 use Rattle.limits.proofs.Indexed.{of-length, unique-model}
@@ -45,7 +45,7 @@ module _ {A : Type 0} (q : A → Bool) (i j : A) where
 
 module _ (schema : List (List ℕ)) (t n : ℕ) (rows : List (List (List ℕ))) where
   abbrev pub good : Bool
-  good = tableGood (tableFrom schema t) (ofTable t (working (tablesIn schema) n rows))
+  good = tableGood (tableFrom schema t) (ofTable t (working (packedTables schema) n rows))
 
   abbrev pub mine : List (List (List ℕ))
   mine = keep (ofT t) (take n rows)
@@ -54,7 +54,7 @@ module _ (schema : List (List ℕ)) (t n : ℕ) (rows : List (List (List ℕ))) 
   fewEnough = notOver (maxRowsFrom (cellAt schema t)) (length mine)
 
   abbrev uniqueIn : List ℕ → Bool
-  uniqueIn index = unique index (ofTable t (working (tablesIn schema) n rows))
+  uniqueIn index = unique index (ofTable t (working (packedTables schema) n rows))
 
   abbrev count : ℕ
   count = getD (cellAt schema t) 36 0
@@ -64,7 +64,7 @@ module _ (schema : List (List ℕ)) (t n : ℕ) (rows : List (List (List ℕ))) 
 
   good-is : good ≡ (fewEnough && all uniqueIn (take count (index 37 ∷ index 41 ∷ [])))
   unfolding tableFrom
-  good-is = ap (λ (k : ℕ). notOver (maxRowsFrom (cellAt schema t)) k && all uniqueIn (take count (index 37 ∷ index 41 ∷ []))) (of-length (tablesIn schema) t n rows)
+  good-is = ap (λ (k : ℕ). notOver (maxRowsFrom (cellAt schema t)) k && all uniqueIn (take count (index 37 ∷ index 41 ∷ []))) (of-length (packedTables schema) t n rows)
 
   pub good-over : fewEnough ≡ false → good ≡ false
   good-over e = good-is ∙ rw e
@@ -75,7 +75,7 @@ module _ (schema : List (List ℕ)) (t n : ℕ) (rows : List (List (List ℕ))) 
 
     module _ (b : Below (widthAt schema t) (index 37)) where
       first : (v : Bool) → uniqueCells (index 37) mine ≡ v → uniqueIn (index 37) ≡ v
-      first v e = unique-model (tablesIn schema) t (index 37) b n rows ∙ e
+      first v e = unique-model (packedTables schema) t (index 37) b n rows ∙ e
 
       pub good-first-no : 0 < count → uniqueCells (index 37) mine ≡ false → good ≡ false
       good-first-no h e = good-is ∙ rw few (two-no uniqueIn (index 37) (index 41) count h (first false e))
@@ -84,18 +84,18 @@ module _ (schema : List (List ℕ)) (t n : ℕ) (rows : List (List (List ℕ))) 
       good-one h e = good-is ∙ rw few (two-one uniqueIn (index 37) (index 41) count h (first true e))
 
       pub good-two : Below (widthAt schema t) (index 41) → 1 < count → uniqueCells (index 37) mine ≡ true → good ≡ uniqueCells (index 41) mine
-      good-two d h e = good-is ∙ rw few (two-both uniqueIn (index 37) (index 41) count h (first true e) ∙ unique-model (tablesIn schema) t (index 41) d n rows)
+      good-two d h e = good-is ∙ rw few (two-both uniqueIn (index 37) (index 41) count h (first true e) ∙ unique-model (packedTables schema) t (index 41) d n rows)
 
 -- ── one table after another ──
 module _ (schema : List (List ℕ)) (n : ℕ) (rows : List (List (List ℕ))) (t : ℕ) where
   abbrev pub goodFrom : ℕ → Bool
-  goodFrom u = tablesGood u (tablesFrom schema u (tableCount schema - u)) (working (tablesIn schema) n rows)
+  goodFrom u = tablesGood u (tablesFrom schema u (tableCount schema - u)) (working (packedTables schema) n rows)
 
   pub tables-here : t < tableCount schema → good schema t n rows ≡ false → goodFrom t ≡ false
-  tables-here h e = ap (λ (l : List Table). tablesGood t l (working (tablesIn schema) n rows)) (tables-on schema t (tableCount schema) h) ∙ rw e
+  tables-here h e = ap (λ (l : List Table). tablesGood t l (working (packedTables schema) n rows)) (tables-on schema t (tableCount schema) h) ∙ rw e
 
   pub tables-next : t < tableCount schema → good schema t n rows ≡ true → goodFrom t ≡ goodFrom (t + 1)
-  tables-next h e = ap (λ (l : List Table). tablesGood t l (working (tablesIn schema) n rows)) (tables-on schema t (tableCount schema) h) ∙ rw (e, add-one t)
+  tables-next h e = ap (λ (l : List Table). tablesGood t l (working (packedTables schema) n rows)) (tables-on schema t (tableCount schema) h) ∙ rw (e, add-one t)
 
   pub tables-last : tableCount schema ≤ t → goodFrom t ≡ true
-  tables-last h = ap (λ (l : List Table). tablesGood t l (working (tablesIn schema) n rows)) (tables-end schema t (tableCount schema) h)
+  tables-last h = ap (λ (l : List Table). tablesGood t l (working (packedTables schema) n rows)) (tables-end schema t (tableCount schema) h)

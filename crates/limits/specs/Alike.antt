@@ -10,7 +10,7 @@ use Rattle.model.specs.Schema.{Schema, columnsOf}
 use Rattle.model.specs.Value.{sameValue}
 use Rattle.model.specs.Rows.{Row}
 use Rattle.model.specs.Commit.{enough}
-use Rattle.model.specs.Working.{tableIn, valueIn}
+use Rattle.inner.specs.Working.{tableIn, valueIn}
 
 -- a row is one of table t
 unfoldable pub ofT : ℕ → List (List ℕ) → Bool

@@ -9,8 +9,8 @@ ghost use Rattle.model.specs.Schema.{Schema, columnsOf};
 ghost use Rattle.model.specs.Rows.{ofTable};
 ghost use Rattle.model.specs.Commit.{allEnough, notOver, tableGood, tablesGood};
 ghost use Rattle.model.specs.Areas.{rowFrom};
-ghost use Rattle.model.specs.Packed.{columnCell, columnFrom, tableFrom, tablesIn, indexFrom, maxRowsFrom};
-ghost use Rattle.model.specs.Working.{working, tableIn, valueIn};
+ghost use Rattle.inner.specs.Packed.{columnCell, columnFrom, tableFrom, packedTables, indexFrom, maxRowsFrom};
+ghost use Rattle.inner.specs.Working.{working, tableIn, valueIn};
 ghost use Rattle.references.specs.Links.{Accepted};
 ghost use Rattle.limits.specs.Alike.{ofT, sameCells, uniqueCells, rowEnough, IndexFits};
 
@@ -23,7 +23,7 @@ fn wide(b: u8) -> usize
 // The minimum of column c of a table.
 fn minimum(schema: &[[u8; 48]], table: u8, c: usize) -> u8
     requires { ⌜ Accepted (now schema) ⌝ }
-    requires { ⌜ c < length (columnsOf (tablesIn (now schema)) table) ⌝ }
+    requires { ⌜ c < length (columnsOf (packedTables (now schema)) table) ⌝ }
     ensures { λ r. ⌜ r ≡ columnFrom (getD (now (schema .entry)) (columnCell table c) []) .min ⌝ }
 {
     let at = 5 + 6 * wide(table) + c;
@@ -33,7 +33,7 @@ fn minimum(schema: &[[u8; 48]], table: u8, c: usize) -> u8
 // Whether every column of a row has its minimum.
 fn row_enough(row: &[[u8; 25]; 25], schema: &[[u8; 48]]) -> bool
     requires { ⌜ Accepted (now schema) ⌝ }
-    ensures { λ r. ⌜ r ≡ rowEnough (tablesIn (now (schema .entry))) (rowFrom (tablesIn (now (schema .entry))) (now (row .entry))) ⌝ }
+    ensures { λ r. ⌜ r ≡ rowEnough (packedTables (now (schema .entry))) (rowFrom (packedTables (now (schema .entry))) (now (row .entry))) ⌝ }
 {
     let table = rows::table_of(row);
     let w = references::width(schema, table);
@@ -51,7 +51,7 @@ fn row_enough(row: &[[u8; 25]; 25], schema: &[[u8; 48]]) -> bool
 pub fn all_enough(schema: &[[u8; 48]], rows: &[[[u8; 25]; 25]], n: usize) -> bool
     requires { ⌜ Accepted (now schema) ⌝ }
     requires { ⌜ n ≤ length (now rows) ⌝ }
-    ensures { λ r. ⌜ r ≡ allEnough (tablesIn (now (schema .entry))) (working (tablesIn (now (schema .entry))) n (now (rows .entry))) ⌝ }
+    ensures { λ r. ⌜ r ≡ allEnough (packedTables (now (schema .entry))) (working (packedTables (now (schema .entry))) n (now (rows .entry))) ⌝ }
 {
     let mut i = 0;
     while i < n {
@@ -153,9 +153,9 @@ fn unique(cell: &[u8], at: usize, rows: &[[[u8; 25]; 25]], n: usize, table: u8) 
 // Whether a table has no more rows than it may, and no two that are equal in an index.
 fn table_good(schema: &[[u8; 48]], table: u8, rows: &[[[u8; 25]; 25]], n: usize) -> bool
     requires { ⌜ Accepted (now schema) ⌝ }
-    requires { ⌜ table < length (tablesIn (now schema)) ⌝ }
+    requires { ⌜ table < length (packedTables (now schema)) ⌝ }
     requires { ⌜ n ≤ length (now rows) ⌝ }
-    ensures { λ r. ⌜ r ≡ tableGood (tableFrom (now (schema .entry)) table) (ofTable table (working (tablesIn (now (schema .entry))) n (now (rows .entry)))) ⌝ }
+    ensures { λ r. ⌜ r ≡ tableGood (tableFrom (now (schema .entry)) table) (ofTable table (working (packedTables (now (schema .entry))) n (now (rows .entry)))) ⌝ }
 {
     let cell = &schema[1 + wide(table)];
     if !within(cell, rows_of(rows, n, table)) {
@@ -179,7 +179,7 @@ fn table_good(schema: &[[u8; 48]], table: u8, rows: &[[[u8; 25]; 25]], n: usize)
 pub fn tables_good(schema: &[[u8; 48]], rows: &[[[u8; 25]; 25]], n: usize) -> bool
     requires { ⌜ Accepted (now schema) ⌝ }
     requires { ⌜ n ≤ length (now rows) ⌝ }
-    ensures { λ r. ⌜ r ≡ tablesGood 0 (tablesIn (now (schema .entry))) (working (tablesIn (now (schema .entry))) n (now (rows .entry))) ⌝ }
+    ensures { λ r. ⌜ r ≡ tablesGood 0 (packedTables (now (schema .entry))) (working (packedTables (now (schema .entry))) n (now (rows .entry))) ⌝ }
 {
     let k = schema[0][25];
     let mut t = 0;

@@ -11,7 +11,7 @@ use Rattle.model.specs.Base.{placeOf}
 use Rattle.model.specs.Json.{Json, null, bool, num, str, arr, obj}
 use Rattle.model.specs.Text.{isWord}
 use Rattle.model.specs.Schema.{Column}
-use Rattle.model.specs.Packed.{cellName, columnFrom}
+use Rattle.inner.specs.Packed.{cellName, columnFrom}
 use Rattle.names.specs.Names.{foundAt, cellNamed}
 use Rattle.names.proofs.Named.{foundFrom, left, named-start, named-here, named-next, named-end}
 use Rattle.lookup.specs.Lookup.{columnIn}

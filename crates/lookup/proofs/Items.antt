@@ -6,8 +6,9 @@ use mathlib.Core.Option.{Option, none, some}
 use Prim.Native.Nat.{ℕ}
 use Rattle.model.specs.declared.Found.the-variants.{At, Nothing}
 use Rattle.model.specs.Json.{Json, null, bool, num, str, arr, obj}
-use Rattle.model.specs.Nav.{wellAt, treeAt, firstOf, nextItem, itemsFrom, itemsFine, listOf, itemsIn, kindOf, isText}
-use Rattle.model.specs.Text as Text
+use Rattle.inner.specs.Positions.{wellAt, treeAt, firstOf, nextItem, itemsFrom, itemsFine}
+use Rattle.model.specs.Nav.{listOf, itemsIn, kindOf, isText}
+use Rattle.inner.specs.Positions as Text
 use Rattle.model.specs.Written.{stringIn}
 use Rattle.model.specs.Conditions.{tripleOf, tripleItems, tripleIn}
 use Rattle.model.proofs.Tests.{split}
@@ -26,8 +27,8 @@ triple-items (str t) = refl
 triple-items (arr xs) = refl
 triple-items (obj ms) = refl
 
-pub text-some : (j : Json) → isText (kindOf j) ≡ true → stringIn j ≡ some (Text.stringIn j)
-unfolding kindOf isText Text.stringIn
+pub text-some : (j : Json) → isText (kindOf j) ≡ true → stringIn j ≡ some (Text.wordIn j)
+unfolding kindOf isText Text.wordIn
 text-some null h = cc
 text-some (bool b) h = cc
 text-some (num t) h = cc
@@ -100,7 +101,7 @@ module _ (s : List ℕ) (at : ℕ) (w : wellAt s at ≡ true) where
             let z : r ≡ Of a b c = e ∙ rw (byNames, x, y) in
             subst (λ r. Triples s r (treeAt s at)) (sym z)
             (record {
-              all = three k ∙ ap (λ o. tripleOf o (stringIn (treeAt s b)) (treeAt s c)) p ∙ ap (λ o. tripleOf (some (Text.stringIn (treeAt s a))) o (treeAt s c)) q;
+              all = three k ∙ ap (λ o. tripleOf o (stringIn (treeAt s b)) (treeAt s c)) p ∙ ap (λ o. tripleOf (some (Text.wordIn (treeAt s a))) o (treeAt s c)) q;
               name = p;
               word = q;
               well = items-fine s c (subst (λ x. itemsFine s x ≡ true) h second-fine) .0;

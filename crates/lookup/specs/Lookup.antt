@@ -5,8 +5,8 @@ use mathlib.Core.Bool.{Bool, true, false, _&&_}
 use mathlib.Core.List.{List}
 use mathlib.Core.Option.{Option, none, some}
 use Rattle.model.specs.Json.{Json}
-use Rattle.model.specs.Nav.{treeAt, wellAt}
-use Rattle.model.specs.Text as Text
+use Rattle.inner.specs.Positions.{treeAt, wellAt}
+use Rattle.inner.specs.Positions as Text
 use Rattle.model.specs.Schema.{Column, columnNamed}
 use Rattle.model.specs.Written.{stringIn}
 use Rattle.model.specs.Conditions.{tripleIn}
@@ -19,9 +19,9 @@ columnIn cs j = elim (stringIn j) [ none ↦ none | some w ↦ columnNamed cs w 
 
 -- three places stand for a name, a word and a value
 pub record Thrice (s : List ℕ) (a b c : ℕ) (j : Json) : Type 0 where
-  pub all : tripleIn j ≡ some (record { name = Text.stringIn (treeAt s a); word = Text.stringIn (treeAt s b); value = treeAt s c })
-  pub name : stringIn (treeAt s a) ≡ some (Text.stringIn (treeAt s a))
-  pub word : stringIn (treeAt s b) ≡ some (Text.stringIn (treeAt s b))
+  pub all : tripleIn j ≡ some (record { name = Text.wordIn (treeAt s a); word = Text.wordIn (treeAt s b); value = treeAt s c })
+  pub name : stringIn (treeAt s a) ≡ some (Text.wordIn (treeAt s a))
+  pub word : stringIn (treeAt s b) ≡ some (Text.wordIn (treeAt s b))
   pub well : wellAt s c ≡ true
 
 unfoldable pub Triples : List ℕ → Triple → Json → Type 0

@@ -3,8 +3,9 @@ use model::Found;
 ghost use mathlib.Core.Path.{_≡_};
 ghost use mathlib.Core.Bool.{true};
 ghost use mathlib.Core.List.{map};
-ghost use Rattle.model.specs.Nav.{Says, wellAt, treeAt, kindOf, isText};
-ghost use Rattle.model.specs.Packed.{columnFrom};
+ghost use Rattle.inner.specs.Positions.{Says, wellAt, treeAt};
+ghost use Rattle.model.specs.Nav.{kindOf, isText};
+ghost use Rattle.inner.specs.Packed.{columnFrom};
 ghost use Rattle.names.specs.Names.{foundAt};
 ghost use Rattle.lookup.specs.Lookup.{columnIn, Triples, byNames};
 

@@ -13,10 +13,11 @@ use lib.ListN.{length, getD, take, drop, drop-of-length-le}
 use lib.Seq.{drop-cons}
 use Rattle.model.specs.Octets.{big, value}
 use Rattle.model.specs.Text.{chars, begins}
-use Rattle.model.specs.Schema.{Base, integer, boolean, text, uuid, Column, baseOf}
-use Rattle.model.specs.Packed.{columnFrom}
+use Rattle.model.specs.Schema.{Base, integer, boolean, text, uuid, Column}
+use Rattle.inner.specs.Packed.{baseNumbered}
+use Rattle.inner.specs.Packed.{columnFrom}
 use Rattle.model.specs.Value.{Value, elements, countInLimits, allInLimits, intOf, fromTwos, textOf, inLimits, atomInLimits}
-use Rattle.model.specs.Working.{valueIn}
+use Rattle.inner.specs.Working.{valueIn}
 use Rattle.model.proofs.Tests.{split}
 use Rattle.model.proofs.Octets.{value-big-fits}
 use Rattle.meets.specs.Met.{allMet, metFor, metFrom}
@@ -45,8 +46,8 @@ chars-short (b ∷ t) = split (begins b)
     (λ e. rw (e, chars) (omega (arith, chars-short t)))
 
 -- ── an atom by its column's base ──
-base-uuid : (k : ℕ) → eqb k 0 ≡ false → eqb k 1 ≡ false → eqb k 2 ≡ false → baseOf k ≡ uuid
-unfolding baseOf
+base-uuid : (k : ℕ) → eqb k 0 ≡ false → eqb k 1 ≡ false → eqb k 2 ≡ false → baseNumbered k ≡ uuid
+unfolding baseNumbered
 base-uuid k x y z =
     let pick : Bool → Bool → Bool → Base = λ p q r. elim p [ true ↦ integer | false ↦ elim q [ true ↦ boolean | false ↦ elim r [ true ↦ text | false ↦ uuid ] ] ] in
     λ j. pick (x j) (y j) (z j)
@@ -55,18 +56,18 @@ module _ (cell a : List ℕ) where
   abbrev base : ℕ
   base = getD cell 25 0
 
-  pub at-integer : base ≡ 0 → atomInLimits (columnFrom cell) (baseOf base) a ≡ inLimits (columnFrom cell) (intOf a)
-  unfolding baseOf
-  at-integer e = ap (λ (k : ℕ). atomInLimits (columnFrom cell) (baseOf k) a) e
+  pub at-integer : base ≡ 0 → atomInLimits (columnFrom cell) (baseNumbered base) a ≡ inLimits (columnFrom cell) (intOf a)
+  unfolding baseNumbered
+  at-integer e = ap (λ (k : ℕ). atomInLimits (columnFrom cell) (baseNumbered k) a) e
 
-  pub at-text : base ≡ 2 → atomInLimits (columnFrom cell) (baseOf base) a ≡ inLimits (columnFrom cell) (pos (chars (textOf a)))
-  unfolding baseOf
-  at-text e = ap (λ (k : ℕ). atomInLimits (columnFrom cell) (baseOf k) a) e
+  pub at-text : base ≡ 2 → atomInLimits (columnFrom cell) (baseNumbered base) a ≡ inLimits (columnFrom cell) (pos (chars (textOf a)))
+  unfolding baseNumbered
+  at-text e = ap (λ (k : ℕ). atomInLimits (columnFrom cell) (baseNumbered k) a) e
 
-  pub at-other : (base ≡ 0 → ⊥) → (base ≡ 2 → ⊥) → atomInLimits (columnFrom cell) (baseOf base) a ≡ true
-  unfolding baseOf
+  pub at-other : (base ≡ 0 → ⊥) → (base ≡ 2 → ⊥) → atomInLimits (columnFrom cell) (baseNumbered base) a ≡ true
+  unfolding baseNumbered
   at-other x y = split (eqb base 1)
-      (λ e. ap (λ (k : ℕ). atomInLimits (columnFrom cell) (baseOf k) a) (eqb-true base 1 e))
+      (λ e. ap (λ (k : ℕ). atomInLimits (columnFrom cell) (baseNumbered k) a) (eqb-true base 1 e))
       (λ e. ap (λ (k : Base). atomInLimits (columnFrom cell) k a) (base-uuid base (ne-eqb base 0 x) e (ne-eqb base 2 y)))
 
 -- ── the loop over the columns ──

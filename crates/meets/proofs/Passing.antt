@@ -10,14 +10,14 @@ use lib.ListN.{length, getD, take, drop, length-map, length-take}
 use lib.Seq.{drop-drop, getD-drop}
 use Rattle.model.specs.Base.{all, isSome}
 use Rattle.model.specs.Schema.{Column, Schema, columnsOf}
-use Rattle.model.specs.Packed.{columnFrom, tablesIn}
+use Rattle.inner.specs.Packed.{columnFrom, packedTables}
 use Rattle.model.specs.Value.{Value, canonicalTests, canonicalFor, countInLimits, allInLimits, elements, meets}
 use Rattle.model.specs.Records.{known}
 use Rattle.model.specs.SchemaText.{readSchema}
 use Rattle.model.specs.Areas as areas
 use Rattle.model.specs.Areas.{columnsFrom, rowFrom, ascends, distinctIds, valuesPass, rowPasses, rowsPass, textFrom, decodeStore, storeOf}
 use Rattle.model.specs.Commit.{lawful}
-use Rattle.model.specs.Working.{working, tableIn, valueIn}
+use Rattle.inner.specs.Working.{working, tableIn, valueIn}
 use Rattle.model.proofs.Tests.{split, and-l, and-r, parts}
 use Rattle.model.proofs.Octets.{octet}
 use Rattle.model.proofs.Accepted.{text-kept}
@@ -71,7 +71,7 @@ met-pass (cell ∷ l) c row h =
 -- ── one row ──
 module _ (schema : List (List ℕ)) where
   abbrev s : Schema
-  s = tablesIn schema
+  s = packedTables schema
 
   abbrev tables : ℕ
   tables = getD (getD schema 0 []) 25 0
@@ -123,9 +123,9 @@ module _ (schema : List (List ℕ)) where
       and-one false = refl
 
 -- ── a store's area, its schema in cells and its rows read from it ──
-module _ (schema : List (List ℕ)) (a : List ℕ) (size : 24107 ≤ length a) (bytes : all octet a ≡ true) (same : tablesIn schema ≡ areas.tablesIn (textFrom a)) (rows : List (List (List ℕ))) where
+module _ (schema : List (List ℕ)) (a : List ℕ) (size : 24107 ≤ length a) (bytes : all octet a ≡ true) (same : packedTables schema ≡ areas.tablesIn (textFrom a)) (rows : List (List (List ℕ))) where
   abbrev d : Schema
-  d = tablesIn schema
+  d = packedTables schema
 
   abbrev n : ℕ
   n = rowCount a
@@ -135,7 +135,7 @@ module _ (schema : List (List ℕ)) (a : List ℕ) (size : 24107 ≤ length a) (
     held = part-holds schema a size bytes same (rw same (text-kept (textFrom a) .narrow)) good
 
     -- the rows are those of the state
-    pub rows-held : decodeStore a .rows ≡ working (tablesIn schema) (rowCount a) rows
+    pub rows-held : decodeStore a .rows ≡ working (packedTables schema) (rowCount a) rows
     unfolding working
     rows-held = held .rows ∙ (λ j. map (rowFrom (sym same j)) (sym read j))
 
@@ -149,7 +149,7 @@ module _ (schema : List (List ℕ)) (a : List ℕ) (size : 24107 ≤ length a) (
 
   -- "Good order, for a store", by the tests that the code makes
   pub store-when : isSome (readSchema (textFrom a)) ≡ true → length a ≡ 24107 → (partGood schema a ≡ true → take (rowCount a) rows ≡ rowsIn (rowCount a) (drop 4107 a))
-      → storeOf a ≡ when (partGood schema a && (rowsMeet schema (rowCount a) rows && lawful (tablesIn schema) (working (tablesIn schema) (rowCount a) rows))) (decodeStore a)
+      → storeOf a ≡ when (partGood schema a && (rowsMeet schema (rowCount a) rows && lawful (packedTables schema) (working (packedTables schema) (rowCount a) rows))) (decodeStore a)
   store-when accepted long read =
       let tests = rowsMeet schema n rows && lawful d (working d n rows) in
       let asked = rowsPass meets (areas.tablesIn (textFrom a)) (decodeStore a .rows) && lawful (areas.tablesIn (textFrom a)) (decodeStore a .rows) in

@@ -6,9 +6,9 @@ use lib.Dec.{leb, ltb}
 use lib.ListN.{getD, take}
 use Rattle.model.specs.Base.{all}
 use Rattle.model.specs.Schema.{Column}
-use Rattle.model.specs.Packed.{columnFrom}
+use Rattle.inner.specs.Packed.{columnFrom}
 use Rattle.model.specs.Value.{Value, elements, countInLimits, allInLimits}
-use Rattle.model.specs.Working.{tableIn, valueIn}
+use Rattle.inner.specs.Working.{tableIn, valueIn}
 use Rattle.area.specs.Layout.{columnCells}
 
 -- "range, length in characters" of atoms, by their column's cell

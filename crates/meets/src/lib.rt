@@ -7,10 +7,10 @@ ghost use lib.IntN.{pos};
 ghost use lib.ListN.{length, take, getD};
 ghost use Rattle.model.specs.Octets.{value, part};
 ghost use Rattle.model.specs.Text.{chars};
-ghost use Rattle.model.specs.Schema.{baseOf};
-ghost use Rattle.model.specs.Packed.{columnFrom};
+ghost use Rattle.inner.specs.Packed.{baseNumbered};
+ghost use Rattle.inner.specs.Packed.{columnFrom};
 ghost use Rattle.model.specs.Value.{intOf, fromTwos, inLimits, atomInLimits};
-ghost use Rattle.model.specs.Working.{valueIn};
+ghost use Rattle.inner.specs.Working.{valueIn};
 ghost use Rattle.area.specs.Layout.{Sized};
 ghost use Rattle.meets.specs.Met.{allMet, metFor, metFrom, rowMeets, rowsMeet};
 
@@ -48,7 +48,7 @@ fn in_limits(cell: &[u8; 48], a: &[u8; 25]) -> bool
 
 // Whether an atom is in its column's limits.
 fn atom_meets(cell: &[u8; 48], a: &[u8; 25]) -> bool
-    ensures { λ r. ⌜ r ≡ atomInLimits (columnFrom (now (cell .entry))) (baseOf (getD (now (cell .entry)) 25 0)) (now (a .entry)) ⌝ }
+    ensures { λ r. ⌜ r ≡ atomInLimits (columnFrom (now (cell .entry))) (baseNumbered (getD (now (cell .entry)) 25 0)) (now (a .entry)) ⌝ }
 {
     if cell[25] == 0 {
         return in_limits(cell, a);

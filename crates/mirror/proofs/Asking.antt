@@ -9,9 +9,9 @@ use lib.Dec.{eqb}
 use lib.ListN.{length, replicate}
 use lib.Seq.{getD-drop}
 use Rattle.model.specs.Octets.{value}
-use Rattle.model.specs.Packed as packed
+use Rattle.inner.specs.Packed as packed
 use Rattle.model.specs.Rows.{Row, keyOf, has}
-use Rattle.model.specs.Working.{working}
+use Rattle.inner.specs.Working.{working}
 use Rattle.model.specs.Mirror.{Mirror, level}
 use Rattle.model.specs.Areas.{decodeStore, MirrorState, decodeMirror, mirrorOf}
 use Rattle.model.specs.Calls.{asked, Progress, progressOf, Presence, presenceOf, Contents, noContents, contentsOf, mirrorColumn}
@@ -52,13 +52,13 @@ presenceIn r = record { answer = r .answer; there = r .there }
 
 -- what the code found of the rows is what the area's mirror has
 module _ {a : List ℕ} {schema : List (List ℕ)} {cells : List (List (List ℕ))} (h : Held a schema cells) (count : ℕ) (e : count ≡ rowCount a) where
-  rows-found : working (packed.tablesIn schema) count cells ≡ decodeMirror a .mirror .rows
-  rows-found = ap (λ (n : ℕ). working (packed.tablesIn schema) n cells) e ∙ h .rows
+  rows-found : working (packed.packedTables schema) count cells ≡ decodeMirror a .mirror .rows
+  rows-found = ap (λ (n : ℕ). working (packed.packedTables schema) n cells) e ∙ h .rows
 
-  pub there-is : (t : ℕ) (id : List ℕ) (r : Bool) → r ≡ has (keyOf t (value id)) (working (packed.tablesIn schema) count cells) → presenceOf t id (decodeMirror a .mirror) ≡ record { answer = Accepted; there = r }
+  pub there-is : (t : ℕ) (id : List ℕ) (r : Bool) → r ≡ has (keyOf t (value id)) (working (packed.packedTables schema) count cells) → presenceOf t id (decodeMirror a .mirror) ≡ record { answer = Accepted; there = r }
   there-is t id r p = ap (λ (b : Bool). record { answer = Accepted; there = b }) (sym (p ∙ ap (has (keyOf t (value id))) rows-found))
 
-  pub contents-are : (t : ℕ) (id : List ℕ) (c : ℕ) (out : List ℕ) → out ≡ columnOf (working (packed.tablesIn schema) count cells) t (value id) c → contentsOf t id c (decodeMirror a .mirror) ≡ record { answer = Accepted; out = out }
+  pub contents-are : (t : ℕ) (id : List ℕ) (c : ℕ) (out : List ℕ) → out ≡ columnOf (working (packed.packedTables schema) count cells) t (value id) c → contentsOf t id c (decodeMirror a .mirror) ≡ record { answer = Accepted; out = out }
   unfolding columnOf
   contents-are t id c out p = ap (λ (l : List ℕ). record { answer = Accepted; out = l }) (sym (p ∙ ap (λ (l : List Row). columnOf l t (value id) c) rows-found))
 

@@ -11,12 +11,12 @@ use lib.ListN.{length, take}
 use Rattle.model.specs.Octets.{big, value, part}
 use Rattle.model.specs.Base.{all}
 use Rattle.model.specs.Schema.{Schema}
-use Rattle.model.specs.Packed as packed
+use Rattle.inner.specs.Packed as packed
 use Rattle.model.specs.Records.{Record, decode}
 use Rattle.model.specs.Mirror.{Mirror, Step, hears, step}
 use Rattle.model.specs.Areas.{tablesIn, decodeStore, MirrorState, storePart, encodeMirror, decodeMirror, headTests, mirrorOf}
-use Rattle.model.specs.Working.{working, Tidy}
-use Rattle.model.specs.Order.{Good}
+use Rattle.inner.specs.Working.{working, Tidy}
+use Rattle.model.proofs.Order.{Good}
 use Rattle.model.specs.Calls.{Arrived, mirrorAfter, hearOn, mirrorHear}
 use Rattle.model.specs.declared.Answer.the-variants.{Disordered, WrongLength}
 use Rattle.model.proofs.Tests.{clash, and-l, and-r, whole}
@@ -78,12 +78,12 @@ module _ (a x : List ℕ) (schema : List (List ℕ)) (cells exit : List (List (L
 
   -- the mirror that the code has afterwards
   abbrev got : Mirror
-  got = steps.mirrorOf (r .numbers) (working (packed.tablesIn schema) (r .count) exit)
+  got = steps.mirrorOf (r .numbers) (working (packed.packedTables schema) (r .count) exit)
 
-  was-is : steps.mirrorOf (numbersIn a) (working (packed.tablesIn schema) (rowCount a) cells) ≡ m .mirror
+  was-is : steps.mirrorOf (numbersIn a) (working (packed.packedTables schema) (rowCount a) cells) ≡ m .mirror
   was-is = ap (steps.mirrorOf (numbersIn a)) (h .rows) ∙ numbers-are a
 
-  step-is : stepOf (packed.tablesIn schema) (value (part 0 4 a)) (steps.mirrorOf (numbersIn a) (working (packed.tablesIn schema) (rowCount a) cells)) x ≡ after
+  step-is : stepOf (packed.packedTables schema) (value (part 0 4 a)) (steps.mirrorOf (numbersIn a) (working (packed.packedTables schema) (rowCount a) cells)) x ≡ after
   unfolding stepOf decodeMirror decodeStore
   step-is = λ j. step (h .tables j) (value (part 0 4 a)) (was-is j) x
 
@@ -102,10 +102,10 @@ module _ (a x : List ℕ) (schema : List (List ℕ)) (cells exit : List (List (L
   view : Said (tablesIn (m .schema)) (m .run) (m .mirror) (decode x) after
   view = said (tablesIn (m .schema)) (m .run) (m .mirror) (decode x)
 
-  tidy : Tidy (packed.tablesIn schema) (take (r .count) exit)
+  tidy : Tidy (packed.packedTables schema) (take (r .count) exit)
   unfolding decodeMirror decodeStore
   tidy =
-      let g : Good (packed.tablesIn schema) (working (packed.tablesIn schema) (rowCount a) cells) = rw (h .rows, h .tables) (fine .rows) in
+      let g : Good (packed.packedTables schema) (working (packed.packedTables schema) (rowCount a) cells) = rw (h .rows, h .tables) (fine .rows) in
       st .tidy g (h .tidy)
 
   was-n : numbersIn a .n ≡ m .mirror .n
@@ -140,7 +140,7 @@ module _ (a x : List ℕ) (schema : List (List ℕ)) (cells exit : List (List (L
 
   written-all : placed 24107 6 (tailBytes (r .numbers .top) (r .numbers .heard) (r .numbers .whole)) (placed 4106 20001 (rowsPart (r .count) exit) (placed 4 4 (big 4 (r .numbers .n)) a)) ≡ encodeMirror (withMirror got m)
   written-all =
-      let p = rows-are (packed.tablesIn schema) exit (r .count) (omega (arith, st .few)) tidy in
+      let p = rows-are (packed.packedTables schema) exit (r .count) (omega (arith, st .few)) tidy in
       (λ j. placed 24107 6 (tailBytes (r .numbers .top) (r .numbers .heard) (r .numbers .whole)) (placed 4106 20001 (p j) (placed 4 4 (big 4 (r .numbers .n)) (sym encoded j)))) ∙ mirror-put m fits got fits-after
 
   written : rewritten (numbersIn a) (r .numbers) (r .count) exit a ≡ encodeMirror (withMirror got m)

@@ -3,4 +3,4 @@ pub mod Opening
 pub mod Asking
 pub mod Hearing
 pub mod Starting
-pub mod Following
+pub mod Numbered

@@ -7,10 +7,10 @@ use Prim.Native.Nat.{ℕ, _+_, _-_, _<_}
 use native.Mathlib.Omega.{arith}
 use lib.ListN.{length, take, drop}
 use Rattle.model.specs.Base.{all, isSome}
-use Rattle.model.specs.Packed as packed
+use Rattle.inner.specs.Packed as packed
 use Rattle.model.specs.SchemaText.{readSchema}
 use Rattle.model.specs.Areas.{rowFrom, textFrom, tablesOf, tablesIn, decodeStore, decodeMirror, mirrorOf}
-use Rattle.model.specs.Working.{working}
+use Rattle.inner.specs.Working.{working}
 use Rattle.model.proofs.Tests.{clash}
 use Rattle.model.proofs.Octets.{octet}
 use Rattle.model.proofs.Accepted.{narrow, text-kept}
@@ -49,10 +49,10 @@ module _ (a : List ℕ) (size : length a ≡ 24113) (schema : List (List ℕ)) (
     read : SchemaRead (textFrom a) true schema
     read = rw (← same-text, ← good) found
 
-    same : packed.tablesIn schema ≡ tablesIn (textFrom a)
+    same : packed.packedTables schema ≡ tablesIn (textFrom a)
     same = sym (ap tablesOf (read .database refl))
 
-    slim : narrow (packed.tablesIn schema) ≡ true
+    slim : narrow (packed.packedTables schema) ≡ true
     slim = rw same (text-kept (textFrom a) .narrow)
 
     state : (p t : Bool) → p ≡ partGood schema a → t ≡ tailGood a → mirrorOf a ≡ when (p && t) (decodeMirror a)

@@ -11,7 +11,7 @@ use Rattle.model.specs.Base.{isSome}
 use Rattle.model.specs.SchemaText.{readSchema}
 use Rattle.model.specs.Mirror.{fresh}
 use Rattle.model.specs.Areas.{encodeStore, encodeMirror}
-use Rattle.model.specs.Working.{working}
+use Rattle.inner.specs.Working.{working}
 use Rattle.model.specs.Calls.{Started, mirrorStart}
 use Rattle.model.specs.declared.Answer.the-variants.{Accepted, WrongLength, BadSchema}
 use Rattle.model.proofs.Tests.{clash}

@@ -6,9 +6,9 @@ use Prim.Native.Nat.{ℕ, _≤_}
 use lib.Dec.{eqb}
 use lib.ListN.{getD, take}
 use Rattle.model.specs.Octets.{big}
-use Rattle.model.specs.Packed as packed
+use Rattle.inner.specs.Packed as packed
 use Rattle.model.specs.Areas.{textFrom, tablesIn, decodeMirror, mirrorOf}
-use Rattle.model.specs.Working.{working, Tidy}
+use Rattle.inner.specs.Working.{working, Tidy}
 use Rattle.area.specs.Layout.{Sized, rowCount}
 use Rattle.area.specs.Writing.{topIn, numberIn, tailBytes, placed, rowsPart, when}
 use Rattle.arrival.specs.declared.Numbers.{Numbers}
@@ -16,10 +16,10 @@ use Rattle.arrival.specs.declared.Numbers.{Numbers}
 -- an area in good order: its schema and its rows in cells
 pub record Held (a : List ℕ) (schema : List (List ℕ)) (cells : List (List (List ℕ))) : Type 0 where
   pub fit : Sized schema
-  pub tables : packed.tablesIn schema ≡ tablesIn (textFrom a)
+  pub tables : packed.packedTables schema ≡ tablesIn (textFrom a)
   pub few : rowCount a ≤ 32
-  pub rows : working (packed.tablesIn schema) (rowCount a) cells ≡ decodeMirror a .mirror .rows
-  pub tidy : Tidy (packed.tablesIn schema) (take (rowCount a) cells)
+  pub rows : working (packed.packedTables schema) (rowCount a) cells ≡ decodeMirror a .mirror .rows
+  pub tidy : Tidy (packed.packedTables schema) (take (rowCount a) cells)
 
 -- whether it is in good order (refusal 1 where it is not), and what was read of it on the way
 pub record Opened (a : List ℕ) (schema : List (List ℕ)) (cells : List (List (List ℕ))) (r : Bool) : Type 0 where

@@ -1,13 +1,14 @@
 // The mirror that a display keeps: starting it, arrivals, and questions, on areas of any bytes.
-// Each promise is the equation of the model's definition for that call (crates/model/specs/Calls.antt): its answer, and its area or output afterwards. Demand 3
-// (crates/model/specs/Demands.antt, proved in crates/model/proofs/Demand3Bytes.antt) speaks of those same definitions, so with these equations it speaks of this code;
-// specs/Following.antt says it once more of areas that these calls leave, with what every question answers of them.
+// Each promises its answer's number, as the first refusal of document 01 that applies (crates/model/specs/FirstRefusal.antt), and the equation of the model's definition for that
+// call (Calls.antt): its answer, and its area or output afterwards. Demand 3 (Demands.antt) speaks of those same definitions, so with these equations it speaks of this code.
 use arrival::Numbers;
 use model::Answer;
 ghost use mathlib.Core.Path.{_≡_};
 ghost use mathlib.Core.Bool.{false};
 ghost use Prim.Native.Nat.{_≤_};
 ghost use lib.ListN.{length};
+ghost use Rattle.model.specs.Refusals.{numberOf};
+ghost use Rattle.model.specs.FirstRefusal.{mirrorStartNumber, hearNumber, askNumber, columnNumber};
 ghost use Rattle.model.specs.Calls.{zeroed, mirrorStart, mirrorHear, mirrorProgress, mirrorHasRow, mirrorColumn};
 ghost use Rattle.mirror.specs.Held.{Opened, numbersIn, rewritten};
 
@@ -76,6 +77,7 @@ fn rewrite(area: &mut [u8], was: Numbers, is: Numbers, rows: &[[[u8; 25]; 25]], 
 
 // A new mirror of a schema and a run: no rows, and nothing heard.
 pub fn start(area: &mut [u8], schema: &[u8], run: u32) -> Answer
+    ensures { λ r. ⌜ numberOf r ≡ mirrorStartNumber (now (area .entry)) (now (schema .entry)) ⌝ }
     ensures { λ r. ⌜ mirrorStart (now (area .entry)) (now (schema .entry)) run ≡ record { answer = r; area = now (area .exit) } ⌝ }
 {
     if area.len() != 24113 {
@@ -93,6 +95,7 @@ pub fn start(area: &mut [u8], schema: &[u8], run: u32) -> Answer
 
 // One arrival: its bytes are a change record or a mark, or are refused.
 pub fn hear(area: &mut [u8], bytes: &[u8]) -> Answer
+    ensures { λ r. ⌜ numberOf r ≡ hearNumber (now (area .entry)) (now (bytes .entry)) ⌝ }
     ensures { λ r. ⌜ mirrorHear (now (area .entry)) (now (bytes .entry)) ≡ record { answer = r; area = now (area .exit) } ⌝ }
 {
     if area.len() != 24113 {
@@ -125,6 +128,7 @@ fn no_standing(answer: Answer) -> Standing
 
 // How many records made the mirror's rows, and whether it is level.
 pub fn progress(area: &[u8]) -> Standing
+    ensures { λ r. ⌜ numberOf (r .answer) ≡ askNumber (now (area .entry)) ⌝ }
     ensures { λ r. ⌜ mirrorProgress (now (area .entry)) ≡ record { answer = r .answer; n = r .n; level = r .level } ⌝ }
 {
     if area.len() != 24113 {
@@ -155,6 +159,7 @@ fn no_presence(answer: Answer) -> Presence
 
 // Whether a row is there, by table and id.
 pub fn has_row(area: &[u8], table: u8, id: &[u8; 16]) -> Presence
+    ensures { λ r. ⌜ numberOf (r .answer) ≡ askNumber (now (area .entry)) ⌝ }
     ensures { λ r. ⌜ mirrorHasRow (now (area .entry)) table (now (id .entry)) ≡ record { answer = r .answer; there = r .there } ⌝ }
 {
     if area.len() != 24113 {
@@ -182,6 +187,7 @@ fn no_contents(out: &mut [u8], answer: Answer) -> Answer
 
 // The count and the atoms of a column, by table, id and column, as a column record has them: 101 bytes, all zero where the row or the column is missing or the question is refused.
 pub fn column(area: &[u8], table: u8, id: &[u8; 16], column: u8, out: &mut [u8]) -> Answer
+    ensures { λ r. ⌜ numberOf r ≡ columnNumber (now (area .entry)) (now (out .entry)) ⌝ }
     ensures { λ r. ⌜ mirrorColumn (now (area .entry)) table (now (id .entry)) column (now (out .entry)) ≡ record { answer = r; out = now (out .exit) } ⌝ }
 {
     if (out.len() != 101) | (area.len() != 24113) {

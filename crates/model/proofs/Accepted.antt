@@ -12,7 +12,7 @@ use Rattle.model.specs.Base.{all, isSome}
 use Rattle.model.specs.Limits.{mostSchemaBytes, mostTables, mostColumns}
 use Rattle.model.specs.Schema.{Table, Schema, Database}
 use Rattle.model.specs.SchemaText.{readSchema}
-use Rattle.model.specs.Sane.{tableSane, saneTable, databaseSane, sane}
+use Rattle.model.proofs.Sane.{tableSane, saneTable, databaseSane, sane}
 use Rattle.model.specs.Areas.{tablesOf, tablesIn}
 use Rattle.model.proofs.Tests.{split, clash, parts}
 use Rattle.model.proofs.Lists.{all-imply}

@@ -15,7 +15,7 @@ use Rattle.model.specs.Schema.{Column, Schema, columnsOf}
 use Rattle.model.specs.Value.{Value, blank, shaped, canonicalTests, canonicalFor, meets}
 use Rattle.model.specs.Rows.{Row}
 use Rattle.model.specs.Records.{cut}
-use Rattle.model.specs.Order.{Typed, Fine, AllFine}
+use Rattle.model.proofs.Order.{Typed, Fine, AllFine}
 use Rattle.model.specs.Commit.{lawful}
 use Rattle.model.specs.Areas.{headCell, atomCells, rowCells, columnsFrom, rowFrom, Store, storeBytes, tablesIn, rowsBytes, encodeStore, rowsFrom, textFrom, decodeStore, MirrorState, mirrorBytes, bit, storePart, encodeMirror, decodeMirror, rowsPass, headTests, stateOf, storeGood, storeOf, mirrorTests, mirrorGood, mirrorOf}
 use Rattle.model.proofs.Tests.{split, and-l, and-r, parts, bytes-self, bytes-same}

@@ -12,10 +12,10 @@ use Rattle.model.specs.Schema.{Column, Schema, columnsOf}
 use Rattle.model.specs.Value.{Value, shaped, canonicalTests}
 use Rattle.model.specs.Rows.{Row}
 use Rattle.model.specs.Records.{Change, born, gone, column, end, acts, fits, known, allows, sound, Record, numbered, mark}
-use Rattle.model.specs.Mirror.{Mirror, fresh, Step, hears, applies, bad, onRead, numberOf}
+use Rattle.model.specs.Mirror.{Mirror, fresh, Step, hears, applies, bad, onRead, numberCarried}
 use Rattle.model.specs.Refusals.{isRefusal}
 use Rattle.model.specs.declared.Answer.the-variants.{BadRecord, OtherRun, Repeat, Behind, Heard, Applied}
-use Rattle.model.specs.Demand3.{endsAt}
+use Rattle.model.proofs.StateDemand.{endsAt}
 use Rattle.model.proofs.Tests.{split, clash, parts, and-l, and-r, or-l, or-r}
 use Rattle.model.proofs.Chain.{Chain}
 use Rattle.model.proofs.GoodOrder.{known-short}
@@ -134,7 +134,7 @@ module _ (s : Schema) (run : ℕ) (es : List Change) (final : List Row) (chain :
       go (early u k e r p) z = absurd (omega arith)
 
   -- what was heard
-  pub heard-said : {m : Mirror} {o : Option Record} {x : Step} → Held m → Said s run m o x → isRefusal (x .answer) ≡ false → (x .next .top ≡ max (m .top) (numberOf o)) × (x .next .heard ≡ true)
+  pub heard-said : {m : Mirror} {o : Option Record} {x : Step} → Held m → Said s run m o x → isRefusal (x .answer) ≡ false → (x .next .top ≡ max (m .top) (numberCarried o)) × (x .next .heard ≡ true)
   heard-said h unread q = absurd (clash true refl q)
   heard-said h (strangeMark u k p) q = absurd (clash true refl q)
   heard-said h (marked u k r) q = (refl, refl)

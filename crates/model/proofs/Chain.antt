@@ -14,7 +14,7 @@ use Rattle.model.specs.Schema.{Column, Schema, columnsOf}
 use Rattle.model.specs.Value.{Value, sameValue, initial}
 use Rattle.model.specs.Rows.{Row, keyOf, key, find, has, hasId, initials}
 use Rattle.model.specs.Records.{Change, gone, act, fits, known, allows, sound, gones, writes, rowWrites, walk, never}
-use Rattle.model.specs.Order.{Above, Sorted, Distinct, Typed, AllFine}
+use Rattle.model.proofs.Order.{Above, Sorted, Distinct, Typed, AllFine}
 use Rattle.model.proofs.Tests.{split, or-l, or-r, eqb-flip, value-same}
 use Rattle.model.proofs.Seams.{Below, remove-at, change-at, has-at, add-at, below-at, sorted-drop, sorted-rest}
 

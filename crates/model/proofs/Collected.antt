@@ -12,7 +12,7 @@ use lib.ListN.{length}
 use Rattle.model.specs.Base.{any, all}
 use Rattle.model.specs.Schema.{Schema, isRoot}
 use Rattle.model.specs.Rows.{Row, key, has, hasId, remove}
-use Rattle.model.specs.Order.{Above, Sorted, Distinct, AllFine, Good, AllMeet}
+use Rattle.model.proofs.Order.{Above, Sorted, Distinct, AllFine, Good, AllMeet}
 use Rattle.model.specs.Commit.{strongOf, allFound, loose, firstLoose, collect}
 use Rattle.model.proofs.Tests.{split, clash, and-l, and-r, or-l, or-r, eqb-flip}
 use Rattle.model.proofs.Within.{In, all-in, all-of, none-in, none-of}

@@ -13,8 +13,8 @@ use Rattle.model.specs.Schema.{Schema}
 use Rattle.model.specs.Value.{Value, sameValue}
 use Rattle.model.specs.Rows.{Row, key, has, find, initials}
 use Rattle.model.specs.Records.{Change, end, gones, writes, rowWrites, walk, closed, never, isEnd}
-use Rattle.model.specs.History.{State, Call, transact, askMark, room, changesOf, stateAfter, finally, changes}
-use Rattle.model.specs.Demand3.{endsAt, Keeps}
+use Rattle.model.proofs.StateHistory.{State, Call, transact, askMark, room, changesOf, stateAfter, finally, changes}
+use Rattle.model.proofs.StateDemand.{endsAt, Keeps}
 use Rattle.model.proofs.Tests.{split, clash}
 
 -- no end among them

@@ -14,52 +14,77 @@ use Rattle.model.specs.Schema.{Schema, Database}
 use Rattle.model.specs.SchemaText.{readSchema}
 use Rattle.model.specs.Rows.{Row}
 use Rattle.model.specs.Transact.{Request, readRequest, freshIds, idsGood, transactRows}
-use Rattle.model.specs.Refusals.{isRefusal}
+use Rattle.model.specs.Refusals.{numberOf, isRefusal}
 use Rattle.model.specs.Replies.{Reply, reply, changesOf, refused, replyTo, named, freshly, told}
 use Rattle.model.specs.Replies as Replies
-use Rattle.model.specs.Records.{Record, numbered, mark, decode}
+use Rattle.model.specs.Records.{Change, Record, numbered, mark, decode}
 use Rattle.model.specs.Mirror.{Mirror, bad, Step, onRead, step, columnBytes}
 use Rattle.model.specs.Value.{meets}
 use Rattle.model.specs.Commit.{lawful}
 use Rattle.model.specs.Areas.{rowsPass, Store, storeBytes, storeOf, MirrorState, mirrorBytes, mirrorOf, tablesIn, storeGood, headTests}
-use Rattle.model.specs.Calls.{Started, Transacted, transactRefused, Marked, Arrived, startAs, storeStart, mirrorStart, zeroed, lengthsGood, databaseOf, replyOf, storeTransact, transactOn, transactReplied, storeMark, markOn, mirrorHear, hearOn, hearStep, mirrorProgress, mirrorHasRow, mirrorColumn}
-use Rattle.model.specs.Demands.{Condition, first, storeOr, requestOr, mirrorOr, transactConditions, startConditions, markConditions, hearConditions, badRecord, runIn, heardAs, askConditions}
+use Rattle.model.specs.Calls.{Started, Transacted, transactRefused, Marked, Arrived, startAs, storeStart, mirrorStart, zeroed, lengthsGood, heldDatabase, replyOf, storeTransact, transactOn, transactReplied, storeMark, markOn, mirrorHear, hearOn, hearStep, mirrorProgress, mirrorHasRow, mirrorColumn}
+use Rattle.model.specs.Laid.{storeOr, requestOr, mirrorOr, held, tables, asks, changesLaid, textLaid}
+use Rattle.model.specs.FirstRefusal.{Condition, given, startConditions, storeStartNumber, mirrorStartNumber, transactConditions, transactNumber, markConditions, markNumber, badRecord, runIn, recordConditions, hearConditions, heardAs, hearNumber}
+use Rattle.model.specs.Demands.{StoreStartEnds, MirrorStartEnds, HearEnds}
 use Rattle.model.specs.declared.Answer.{Answer}
 use Rattle.model.specs.declared.Answer.the-variants.{Accepted, Disordered, WrongLength, BadSchema, BadRequest, OtherDatabase, BadFreshIds, AnswerTooLong, BadRecord, OtherRun, NumbersSpent, Repeat, Behind, Heard, Applied}
 use Rattle.model.proofs.Tests.{split, clash, and-l, and-r, parts}
 use Rattle.model.proofs.Areas.{store-of-is}
+use Rattle.model.proofs.Laid.{laid-text, laid-changes}
 
 -- by what there is, with its equation
 pub look : {A P : Type 0} (o : Option A) → (o ≡ none → P) → ((a : A) → o ≡ some a → P) → P
 look none f g = f refl
 look (some a) f g = g a refl
 
+-- the number of the first condition that applies, of those in a list that is in the paper's order
+abbrev first : ℕ → List Condition → ℕ
+first d [] = d
+first d (c ∷ cs) = elim (c .applies) [ true ↦ c .number | false ↦ first d cs ]
+
+-- one condition more in front of those of what comes where it does not apply
+chosen : {A : Type 0} (number : A → ℕ) (d : ℕ) (b : Bool) (k : ℕ) (cs : List Condition) (x y : A) → number x ≡ k → number y ≡ first d cs
+    → number (elim b [ true ↦ y | false ↦ x ]) ≡ first d (record { number = k; applies = not b } ∷ cs)
+chosen number d true k cs x y p q = q
+chosen number d false k cs x y p q = p
+
 -- ── starting ──
-starts : (bytes : ℕ) (area schema made : List ℕ) → startAs bytes area schema made .answer ≡ first Accepted (startConditions bytes area schema)
+starts : (bytes : ℕ) (area schema made : List ℕ) → numberOf (startAs bytes area schema made .answer) ≡ given (startConditions bytes area schema) 0
 starts bytes area schema made = split (eqb (length area) bytes)
-    (λ e. split (isSome (readSchema schema)) (λ f. rw (startAs, e, f, first, first)) (λ f. rw (startAs, e, f, first, first)))
-    (λ e. rw (startAs, e, first))
+    (λ e. split (isSome (readSchema schema)) (λ f. rw (startAs, e, f)) (λ f. rw (startAs, e, f)))
+    (λ e. rw (startAs, e))
 
 starts-refused : (bytes : ℕ) (area schema made : List ℕ) → isRefusal (startAs bytes area schema made .answer) ≡ true → startAs bytes area schema made .area ≡ area
 starts-refused bytes area schema made = split (eqb (length area) bytes)
     (λ e. split (isSome (readSchema schema)) (λ f. rw (startAs, e, f) (λ h. absurd (clash false h refl))) (λ f. rw (startAs, e, f) (λ h. refl)))
     (λ e. rw (startAs, e) (λ h. refl))
 
-pub store-start-first : (area schema : List ℕ) (run : ℕ) → storeStart area schema run .answer ≡ first Accepted (startConditions storeBytes area schema)
-unfolding storeStart
+starts-accepted : (bytes : ℕ) (area schema made : List ℕ) → isRefusal (startAs bytes area schema made .answer) ≡ false → startAs bytes area schema made .area ≡ made
+starts-accepted bytes area schema made = split (eqb (length area) bytes)
+    (λ e. split (isSome (readSchema schema)) (λ f. rw (startAs, e, f) (λ h. refl)) (λ f. rw (startAs, e, f) (λ h. absurd (clash true refl h))))
+    (λ e. rw (startAs, e) (λ h. absurd (clash true refl h)))
+
+pub store-start-first : (area schema : List ℕ) (run : ℕ) → numberOf (storeStart area schema run .answer) ≡ storeStartNumber area schema
+unfolding storeStart storeStartNumber
 store-start-first area schema run = starts storeBytes area schema _
 
-pub store-start-refused : (area schema : List ℕ) (run : ℕ) → isRefusal (storeStart area schema run .answer) ≡ true → storeStart area schema run .area ≡ area
+pub store-start-ends : (area schema : List ℕ) (run : ℕ) → StoreStartEnds area schema run
 unfolding storeStart
-store-start-refused area schema run h = starts-refused storeBytes area schema _ h
+store-start-ends area schema run = (
+  record { first = store-start-first area schema run; refused = λ h. (starts-refused storeBytes area schema _ h, tt); accepted = λ h. tt },
+  λ h. starts-accepted storeBytes area schema _ h,
+)
 
-pub mirror-start-first : (area schema : List ℕ) (run : ℕ) → mirrorStart area schema run .answer ≡ first Accepted (startConditions mirrorBytes area schema)
-unfolding mirrorStart
+pub mirror-start-first : (area schema : List ℕ) (run : ℕ) → numberOf (mirrorStart area schema run .answer) ≡ mirrorStartNumber area schema
+unfolding mirrorStart mirrorStartNumber
 mirror-start-first area schema run = starts mirrorBytes area schema _
 
-pub mirror-start-refused : (area schema : List ℕ) (run : ℕ) → isRefusal (mirrorStart area schema run .answer) ≡ true → mirrorStart area schema run .area ≡ area
+pub mirror-start-ends : (area schema : List ℕ) (run : ℕ) → MirrorStartEnds area schema run
 unfolding mirrorStart
-mirror-start-refused area schema run h = starts-refused mirrorBytes area schema _ h
+mirror-start-ends area schema run = (
+  record { first = mirror-start-first area schema run; refused = λ h. (starts-refused mirrorBytes area schema _ h, tt); accepted = λ h. tt },
+  λ h. starts-accepted mirrorBytes area schema _ h,
+)
 
 -- ── transact ──
 -- a store in good order holds an accepted schema
@@ -70,96 +95,116 @@ holds-schema area st e =
     let p = and-l (every (headTests st) && rowsPass meets (tablesIn (st .schema)) (st .rows)) (lawful (tablesIn (st .schema)) (st .rows)) g in
     parts (headTests st) (and-l (every (headTests st)) (rowsPass meets (tablesIn (st .schema)) (st .rows)) p) .0
 
--- one condition more in front of those of what comes where it does not apply
-chosen : {A : Type 0} (answer : A → Answer) (d : Answer) (b : Bool) (a : Answer) (cs : List Condition) (x y : A) → answer x ≡ a → answer y ≡ first d cs
-    → answer (elim b [ true ↦ y | false ↦ x ]) ≡ first d (record { answer = a; applies = not b } ∷ cs)
-chosen answer d true a cs x y p q = q
-chosen answer d false a cs x y p q = p
-
 abbrev behind : List Condition → List Condition
 behind [] = []
 behind (c ∷ cs) = cs
 
--- the refusals that a reply has
-abbrev replyConditions : Database → ℕ → List Row → List ℕ → ℕ → Request → List Condition
-replyConditions d number rows ids room q =
-    let t = transactRows (d .tables) ids rows (q .operations) in
-    record { answer = OtherDatabase; applies = not (eqBytes (q .name) (d .name)) }
-    ∷ record { answer = BadFreshIds; applies = not (idsGood ids rows) }
-    ∷ record { answer = AnswerTooLong; applies = not (leb (length (t .text)) room) }
-    ∷ record { answer = NumbersSpent; applies = not (leb (number + length (changesOf (d .tables) rows t)) lastNumber) }
+-- the refusals that a reply has, by the text and the changes that there are to be
+abbrev replyConditions : Database → ℕ → List Row → List ℕ → ℕ → Request → List ℕ → List Change → List Condition
+replyConditions d number rows ids room q text es =
+    record { number = 5; applies = not (eqBytes (q .name) (d .name)) }
+    ∷ record { number = 6; applies = not (idsGood ids rows) }
+    ∷ record { number = 7; applies = not (leb (length text) room) }
+    ∷ record { number = 10; applies = not (leb (number + length es) lastNumber) }
     ∷ []
 
-replyAnswer : Reply → Answer
-replyAnswer r = r .answer
+replyNumber : Reply → ℕ
+replyNumber r = numberOf (r .answer)
 
 named-first : (d : Database) (number : ℕ) (rows : List Row) (ids : List ℕ) (room : ℕ) (q : Request)
-    → named d number rows ids room q .answer ≡ first Accepted (replyConditions d number rows ids room q)
-unfolding replyAnswer
+    → let t = transactRows (d .tables) ids rows (q .operations) in
+    numberOf (named d number rows ids room q .answer) ≡ first 0 (replyConditions d number rows ids room q (t .text) (changesOf (d .tables) rows t))
+unfolding replyNumber
 named-first d number rows ids room q =
     let t = transactRows (d .tables) ids rows (q .operations) in
     let es = changesOf (d .tables) rows t in
-    let cs = replyConditions d number rows ids room q in
-    chosen replyAnswer Accepted (eqBytes (q .name) (d .name)) OtherDatabase (behind cs) (refused OtherDatabase rows) (freshly (d .tables) number rows ids room q) refl
-    (chosen replyAnswer Accepted (idsGood ids rows) BadFreshIds (behind (behind cs)) (refused BadFreshIds rows) (told (d .tables) number rows room t) refl
-    (chosen replyAnswer Accepted (leb (length (t .text)) room) AnswerTooLong (behind (behind (behind cs))) (refused AnswerTooLong rows) (Replies.numbered number rows t es) refl
-    (chosen replyAnswer Accepted (leb (number + length es) lastNumber) NumbersSpent [] (refused NumbersSpent rows) (record { answer = Accepted; rows = t .rows; changes = es; text = t .text }) refl refl)))
+    let cs = replyConditions d number rows ids room q (t .text) es in
+    chosen replyNumber 0 (eqBytes (q .name) (d .name)) 5 (behind cs) (refused OtherDatabase rows) (freshly (d .tables) number rows ids room q) refl
+    (chosen replyNumber 0 (idsGood ids rows) 6 (behind (behind cs)) (refused BadFreshIds rows) (told (d .tables) number rows room t) refl
+    (chosen replyNumber 0 (leb (length (t .text)) room) 7 (behind (behind (behind cs))) (refused AnswerTooLong rows) (Replies.numbered number rows t es) refl
+    (chosen replyNumber 0 (leb (number + length es) lastNumber) 10 [] (refused NumbersSpent rows) (record { answer = Accepted; rows = t .rows; changes = es; text = t .text }) refl refl)))
 
 reply-first : (d : Database) (number : ℕ) (rows : List Row) (request fresh : List ℕ) (room : ℕ)
-    → reply d number rows request fresh room .answer
-    ≡ first Accepted (record { answer = BadRequest; applies = not (isSome (readRequest request)) } ∷ replyConditions d number rows (freshIds fresh) room (requestOr (readRequest request)))
+    → let q = requestOr (readRequest request) in
+    let t = transactRows (d .tables) (freshIds fresh) rows (q .operations) in
+    numberOf (reply d number rows request fresh room .answer)
+    ≡ first 0 (record { number = 4; applies = not (isSome (readRequest request)) } ∷ replyConditions d number rows (freshIds fresh) room q (t .text) (changesOf (d .tables) rows t))
 reply-first d number rows request fresh room = go (readRequest request)
   where
     go : (o : Option Request)
-        → replyTo d number rows (freshIds fresh) room o .answer
-        ≡ first Accepted (record { answer = BadRequest; applies = not (isSome o) } ∷ replyConditions d number rows (freshIds fresh) room (requestOr o))
+        → let q = requestOr o in
+        let t = transactRows (d .tables) (freshIds fresh) rows (q .operations) in
+        numberOf (replyTo d number rows (freshIds fresh) room o .answer)
+        ≡ first 0 (record { number = 4; applies = not (isSome o) } ∷ replyConditions d number rows (freshIds fresh) room q (t .text) (changesOf (d .tables) rows t))
     go none = refl
     go (some q) = named-first d number rows (freshIds fresh) room q
 
 replied : (area records text : List ℕ) (st : Store) (r : Reply) → transactReplied area records text st r .answer ≡ r .answer
 replied area records text st r = split (isRefusal (r .answer)) (λ e. rw (transactReplied, e)) (λ e. rw (transactReplied, e))
 
-transactAnswer : Transacted → Answer
-transactAnswer t = t .answer
+transactAs : Transacted → ℕ
+transactAs t = numberOf (t .answer)
+
+-- what comes once the lengths are right, by the area
+abbrev storeConditions : List ℕ → List ℕ → ℕ → Option Store → List ℕ → List Change → List Condition
+storeConditions request fresh room o text es =
+    let st = storeOr o in
+    record { number = 1; applies = not (isSome o) }
+    ∷ record { number = 3; applies = not (isSome (readSchema (st .schema))) }
+    ∷ record { number = 4; applies = not (isSome (readRequest request)) }
+    ∷ replyConditions (heldDatabase st) (st .number) (st .rows) (freshIds fresh) room (requestOr (readRequest request)) text es
+
+on-first : (area request fresh records text : List ℕ) (o : Option Store) → storeOf area ≡ o
+    → let st = storeOr o in
+    let d = heldDatabase st in
+    let t = transactRows (d .tables) (freshIds fresh) (st .rows) (requestOr (readRequest request) .operations) in
+    numberOf (transactOn area request fresh records text o .answer) ≡ first 0 (storeConditions request fresh (length text) o (t .text) (changesOf (d .tables) (st .rows) t))
+on-first area request fresh records text none e = refl
+on-first area request fresh records text (some st) e =
+    rw (holds-schema area st e) (ap numberOf (replied area records text st (replyOf st request fresh (length text))) ∙ reply-first (heldDatabase st) (st .number) (st .rows) request fresh (length text))
 
 pub transact-first : (area request fresh records text : List ℕ)
-    → storeTransact area request fresh records text .answer ≡ first Accepted (transactConditions area request fresh records text)
-unfolding storeTransact transactAnswer
+    → numberOf (storeTransact area request fresh records text .answer) ≡ transactNumber area request fresh records text
+unfolding storeTransact transactAs transactNumber
 transact-first area request fresh records text =
-    chosen transactAnswer Accepted (lengthsGood area fresh records text) WrongLength (behind (transactConditions area request fresh records text)) (transactRefused WrongLength area records text) (transactOn area request fresh records text (storeOf area)) refl
-    (look (storeOf area) (λ e. rw e) (λ st e. rw (e, holds-schema area st e) (replied area records text st (replyOf st request fresh (length text)) ∙ reply-first (databaseOf st) (st .number) (st .rows) request fresh (length text))))
+    let cs = transactConditions area request fresh records text in
+    chosen transactAs 0 (lengthsGood area fresh records text) 2 (behind cs) (transactRefused WrongLength area records text) (transactOn area request fresh records text (storeOf area)) refl
+    (on-first area request fresh records text (storeOf area) refl
+    ∙ (λ i. first 0 (storeConditions request fresh (length text) (storeOf area) (laid-text area request fresh i) (laid-changes area request fresh i))))
 
 -- a refused transact leaves the area, and every other buffer is zero over its whole length
-pub record Untouched (area records text : List ℕ) (t : Transacted) : Type 0 where
-  pub kept : t .area ≡ area
-  pub noRecords : t .records ≡ zeroed records
-  pub noText : t .text ≡ zeroed text
+abbrev Untouched : List ℕ → List ℕ → List ℕ → Transacted → Type 0
+Untouched area records text t = (t .area ≡ area) × (t .records ≡ zeroed records) × (t .text ≡ zeroed text)
 
 pub transact-refused : (area request fresh records text : List ℕ) → isRefusal (storeTransact area request fresh records text .answer) ≡ true
     → Untouched area records text (storeTransact area request fresh records text)
 unfolding storeTransact
 transact-refused area request fresh records text = split (lengthsGood area fresh records text)
     (λ e. rw (storeTransact, e) (go (storeOf area)))
-    (λ e. rw (storeTransact, e) (λ h. record { kept = refl; noRecords = refl; noText = refl }))
+    (λ e. rw (storeTransact, e) (λ h. (refl, refl, refl)))
   where
     on : (st : Store) (r : Reply) → isRefusal (transactReplied area records text st r .answer) ≡ true → Untouched area records text (transactReplied area records text st r)
     on st r = split (isRefusal (r .answer))
-        (λ e. rw (transactReplied, e) (λ h. record { kept = refl; noRecords = refl; noText = refl }))
+        (λ e. rw (transactReplied, e) (λ h. (refl, refl, refl)))
         (λ e. rw (transactReplied, e) (λ h. absurd (clash (isRefusal (r .answer)) h e)))
 
     go : (o : Option Store) → isRefusal (transactOn area request fresh records text o .answer) ≡ true → Untouched area records text (transactOn area request fresh records text o)
-    go none h = record { kept = refl; noRecords = refl; noText = refl }
+    go none h = (refl, refl, refl)
     go (some st) h = on st (replyOf st request fresh (length text)) h
 
 -- ── mark ──
-markAnswer : Marked → Answer
-markAnswer m = m .answer
+markAs : Marked → ℕ
+markAs m = numberOf (m .answer)
 
-pub mark-first : (area out : List ℕ) → storeMark area out .answer ≡ first Accepted (markConditions area out)
-unfolding storeMark markAnswer
+pub mark-first : (area out : List ℕ) → numberOf (storeMark area out .answer) ≡ markNumber area out
+unfolding storeMark markAs markNumber
 mark-first area out =
-    chosen markAnswer Accepted (every (eqb (length area) storeBytes ∷ leb leastMark (length out) ∷ [])) WrongLength (behind (markConditions area out)) (record { answer = WrongLength; mark = zeroed out }) (markOn out (storeOf area)) refl
-    (look (storeOf area) (λ e. rw e) (λ st e. rw e))
+    chosen markAs 0 (every (eqb (length area) storeBytes ∷ leb leastMark (length out) ∷ [])) 2 (behind (markConditions area out)) (record { answer = WrongLength; mark = zeroed out }) (markOn out (storeOf area)) refl
+    (go (storeOf area))
+  where
+    go : (o : Option Store) → numberOf (markOn out o .answer) ≡ first 0 (record { number = 1; applies = not (isSome o) } ∷ [])
+    go none = refl
+    go (some st) = refl
 
 pub mark-refused : (area out : List ℕ) → isRefusal (storeMark area out .answer) ≡ true → storeMark area out .mark ≡ zeroed out
 unfolding storeMark
@@ -172,12 +217,8 @@ mark-refused area out = split (every (eqb (length area) storeBytes ∷ leb least
     go (some st) h = absurd (clash false h refl)
 
 -- ── arrivals ──
-stepAnswer : Step → Answer
-stepAnswer x = x .answer
-
-step-first : (s : Schema) (run : ℕ) (m : Mirror) (o : Option Record)
-    → onRead s run m o .answer
-    ≡ first (heardAs (m .n) o) (record { answer = BadRecord; applies = badRecord s m o } ∷ record { answer = OtherRun; applies = not (eqb (runIn o) run) } ∷ [])
+pub step-first : (s : Schema) (run : ℕ) (m : Mirror) (o : Option Record)
+    → numberOf (onRead s run m o .answer) ≡ given (recordConditions s run m o) (heardAs (m .n) o)
 step-first s run m none = refl
 step-first s run m (some (mark u k)) = split (eqb u run) (λ e. rw e) (λ e. rw e)
 step-first s run m (some (numbered u k e)) = split (bad s m k e)
@@ -189,14 +230,21 @@ step-first s run m (some (numbered u k e)) = split (bad s m k e)
 heard-answer : (area : List ℕ) (m : MirrorState) (x : Step) → hearStep area m x .answer ≡ x .answer
 heard-answer area m x = split (isRefusal (x .answer)) (λ e. rw (hearStep, e)) (λ e. rw (hearStep, e))
 
-hearAnswer : Arrived → Answer
-hearAnswer a = a .answer
+hearAs : Arrived → ℕ
+hearAs a = numberOf (a .answer)
 
-pub hear-first : (area x : List ℕ) → mirrorHear area x .answer ≡ first (heardAs (mirrorOr (mirrorOf area) .mirror .n) (decode x)) (hearConditions area x)
-unfolding mirrorHear hearAnswer
+pub hear-first : (area x : List ℕ) → numberOf (mirrorHear area x .answer) ≡ hearNumber area x
+unfolding mirrorHear hearAs hearNumber
 hear-first area x =
-    chosen hearAnswer (heardAs (mirrorOr (mirrorOf area) .mirror .n) (decode x)) (eqb (length area) mirrorBytes) WrongLength (behind (hearConditions area x)) (record { answer = WrongLength; area = area }) (hearOn area x (mirrorOf area)) refl
-    (look (mirrorOf area) (λ e. rw e) (λ m e. rw e (heard-answer area m (step (tablesIn (m .schema)) (m .run) (m .mirror) x) ∙ step-first (tablesIn (m .schema)) (m .run) (m .mirror) (decode x))))
+    chosen hearAs (heardAs (mirrorOr (mirrorOf area) .mirror .n) (decode x)) (eqb (length area) mirrorBytes) 2 (behind (hearConditions area x)) (record { answer = WrongLength; area = area }) (hearOn area x (mirrorOf area)) refl
+    (go (mirrorOf area))
+  where
+    go : (o : Option MirrorState)
+        → let m = mirrorOr o in
+        numberOf (hearOn area x o .answer)
+        ≡ first (heardAs (m .mirror .n) (decode x)) (record { number = 1; applies = not (isSome o) } ∷ recordConditions (tablesIn (m .schema)) (m .run) (m .mirror) (decode x))
+    go none = refl
+    go (some m) = ap numberOf (heard-answer area m (step (tablesIn (m .schema)) (m .run) (m .mirror) x)) ∙ step-first (tablesIn (m .schema)) (m .run) (m .mirror) (decode x)
 
 pub hear-refused : (area x : List ℕ) → isRefusal (mirrorHear area x .answer) ≡ true → mirrorHear area x .area ≡ area
 unfolding mirrorHear
@@ -212,3 +260,6 @@ hear-refused area x = split (eqb (length area) mirrorBytes)
     go : (o : Option MirrorState) → isRefusal (hearOn area x o .answer) ≡ true → hearOn area x o .area ≡ area
     go none h = refl
     go (some m) h = on m (step (tablesIn (m .schema)) (m .run) (m .mirror) x) h
+
+pub hear-ends : (area x : List ℕ) → HearEnds area x
+hear-ends area x = record { first = hear-first area x; refused = λ h. (hear-refused area x h, tt); accepted = λ h. tt }

@@ -1,132 +1,139 @@
--- Demand 2: a transact commits exactly when it should, and otherwise rows and number stay and no record is written. Assumes nothing.
-use mathlib.Core.Path.{_≡_, refl, sym, _∙_, ap}
-use mathlib.Core.Bool.{Bool, true, false, not, _&&_, _||_}
-use mathlib.Core.List.{List, [], _∷_, _++_}
-use mathlib.Core.Option.{Option, none, some}
-use Prim.Native.Nat.{ℕ, suc, _+_}
+-- Demand 2, of a transact on any bytes. Assumes nothing.
+use mathlib.Core.Path.{_≡_, refl, sym, _∙_, ap, subst}
+use mathlib.Core.Logic.{_↔_}
+use mathlib.Core.Bool.{Bool, true, false, not, _&&_}
+use mathlib.Core.List.{List, [], _∷_, _++_, map}
+use mathlib.Core.Option.{Option, some}
+use Prim.Native.Nat.{ℕ, suc, _+_, _-_, _≤_}
+use native.Mathlib.Nat.{add-zero}
 use native.Mathlib.Omega.{arith}
-use lib.Dec.{eqb, leb}
-use lib.ListN.{length}
-use Rattle.model.specs.Octets.{eqBytes}
-use Rattle.model.specs.Limits.{freshBytes, lastNumber}
-use Rattle.model.specs.Base.{all}
-use Rattle.model.specs.Schema.{Schema, Database}
-use Rattle.model.specs.Sane.{sane}
+use lib.ListN.{length, replicate}
+use Rattle.model.specs.Octets.{filled}
+use Rattle.model.specs.Limits.{lastNumber}
+use Rattle.model.specs.Base.{all, flat}
+use Rattle.model.specs.Schema.{Schema}
 use Rattle.model.specs.Rows.{Row}
-use Rattle.model.specs.Faults.{isFine, check}
-use Rattle.model.specs.Commit.{allFound, settled, allEnough, tablesGood, commit}
-use Rattle.model.specs.Transact.{Request, readRequest, freshIds, idsGood, namesOf, Ran, runAll, Transacted, atCommit, transactRows}
 use Rattle.model.specs.Refusals.{isRefusal}
-use Rattle.model.specs.Replies.{Reply, reply, replyTo, named, freshly, told, changesOf, refused}
-use Rattle.model.specs.Replies as Replies
-use Rattle.model.specs.Records.{diff}
-use Rattle.model.specs.Areas.{Store}
-use Rattle.model.specs.Calls.{databaseOf, replyOf}
-use Rattle.model.specs.Demands.{requestOr, succeeds, Demand2}
-use Rattle.model.specs.declared.Answer.{Answer}
-use Rattle.model.specs.declared.Fault.the-variants.{Fine, Constraint, Integrity}
-use Rattle.model.proofs.Tests.{split, clash}
+use Rattle.model.specs.Records.{Change, diff, numbered, numberFrom, encode, pieces}
+use Rattle.model.specs.Areas.{Store, encodeStore, storeGood, storeOf}
+use Rattle.model.specs.Calls.{zeroed, heldDatabase, replyOf, storeAfter, Transacted}
+use Rattle.model.specs.Laid.{storeOr, held, tables, kept, succeeds, rowsLaid, changesLaid, recordsLaid, textLaid, storeLaid}
+use Rattle.model.specs.Demands.{call, commits, Transacts, Demand2}
+use Rattle.model.proofs.Tests.{split, clash, and-l, and-r}
+use Rattle.model.proofs.Order.{Good}
 use Rattle.model.proofs.Octets.{octet}
+use Rattle.model.proofs.Areas.{store-of-encode, store-of-is}
 use Rattle.model.proofs.Same.{diff-self, diff-none}
-use Rattle.model.proofs.TransactKeeps.{InOrder, reply-keeps}
+use Rattle.model.proofs.StoreCalls.{filled-is, no-bytes, none-there, commit-filled}
+use Rattle.model.proofs.Demand1.{transact-refused}
+use Rattle.model.proofs.Accepting.{fine-at, in-order, narrow-at, order-after, changes-between, reply-room, after-good, Given, given-is, records-fit-laid}
 
--- ── when it commits ──
-check-is : (a b : Bool) → isFine (check a Integrity (check b Constraint Fine)) ≡ (a && b)
-check-is true true = refl
-check-is true false = refl
-check-is false b = refl
+no-changes : (run k : ℕ) (es : List Change) → map encode (numberFrom run k es) ≡ [] → es ≡ []
+no-changes run k [] h = refl
+no-changes run k (e ∷ es) h = absurd (let y : _≡_ {A = ℕ} 0 (suc (length (map encode (numberFrom run (suc k) es)))) = sym (ap length h) in omega arith)
 
-and-assoc : (a b c d : Bool) → (a && (b && (c && d))) ≡ (a && b && c && d)
-and-assoc true true c d = refl
-and-assoc true false c d = refl
-and-assoc false b c d = refl
+-- a test that is not met for another reason
+not-l : (b : Bool) → not b ≡ true → b ≡ false
+not-l true h = absurd (clash false h refl)
+not-l false h = refl
 
-abbrev ranOf : Schema → List ℕ → List Row → Request → Ran
-ranOf s ids rows q = runAll s (namesOf ids (q .operations)) [] ids rows (q .operations)
+other : (b c : Bool) → (not b && c) ≡ false → b ≡ false → c ≡ false
+other b c h e = rw e at h
 
-at-commit : (s : Schema) (before : List Row) (r : Ran) → atCommit s before r .commits ≡ isFine (commit s (r .rows) .fault)
-at-commit s before r = split (isFine (commit s (r .rows) .fault)) (λ e. rw (atCommit, e)) (λ e. rw (atCommit, e))
+module _ (area request fresh records text : List ℕ) where
+  abbrev it : Transacted
+  it = call area request fresh records text
 
-pub commits-exactly : (s : Schema) (ids : List ℕ) (rows : List Row) (q : Request) → transactRows s ids rows (q .operations) .commits ≡ succeeds s ids rows q
-commits-exactly s ids rows q =
-    let r = ranOf s ids rows q in
-    split (isFine (r .fault))
-    (λ e. rw (transactRows, e) (at-commit s rows r ∙ check-is (allFound s (r .rows)) (allEnough s (settled s (r .rows)) && tablesGood 0 s (settled s (r .rows)))
-    ∙ and-assoc true (allFound s (r .rows)) (allEnough s (settled s (r .rows))) (tablesGood 0 s (settled s (r .rows)))))
-    (λ e. rw (transactRows, e))
+  abbrev st : Store
+  st = held area request fresh
 
--- ── what stays where it does not ──
-at-commit-stays : (s : Schema) (before : List Row) (r : Ran) → atCommit s before r .commits ≡ false → atCommit s before r .rows ≡ before
-at-commit-stays s before r = split (isFine (commit s (r .rows) .fault))
-    (λ e. rw (atCommit, e) (λ h. absurd (clash true refl h)))
-    (λ e. rw (atCommit, e) (λ h. refl))
+  abbrev after : Store
+  after = storeLaid area request fresh
 
-pub transact-stays : (s : Schema) (ids : List ℕ) (rows : List Row) (q : Request) → transactRows s ids rows (q .operations) .commits ≡ false → transactRows s ids rows (q .operations) .rows ≡ rows
-transact-stays s ids rows q = split (isFine (ranOf s ids rows q .fault))
-    (λ e. rw (transactRows, e) (at-commit-stays s rows (ranOf s ids rows q)))
-    (λ e. rw (transactRows, e) (λ h. refl))
+  abbrev es : List Change
+  es = changesLaid area request fresh
 
-changes-none : (s : Schema) (rows : List Row) (t : Transacted) → t .commits ≡ false → changesOf s rows t ≡ []
-changes-none s rows t e = rw (changesOf, e)
+  abbrev G : Type 0
+  G = Given area request fresh records text
 
--- ── a reply is a refusal that leaves everything, or what the rules make ──
-pub data Replied (s : Schema) (rows : List Row) (t : Transacted) : Reply → Type 0 where
-  refusing : (a : Answer) → isRefusal a ≡ true → Replied s rows t (refused a rows)
-  making : (r : Reply) → isRefusal (r .answer) ≡ false → r .rows ≡ t .rows → r .changes ≡ changesOf s rows t → r .text ≡ t .text → Replied s rows t r
+  -- no record is written exactly where nothing is laid down
+  silent : (g : G) → es ≡ [] → it .records ≡ zeroed records
+  silent g e = g .recordsAre ∙ ap (λ (l : List Change). filled (length records) (flat (map encode (numberFrom (st .run) (st .number) l)))) e ∙ no-bytes (length records)
 
-told-as : (s : Schema) (number : ℕ) (rows : List Row) (room : ℕ) (t : Transacted) → Replied s rows t (told s number rows room t)
-told-as s number rows room t = split (leb (length (t .text)) room)
-    (λ e. split (leb (number + length (changesOf s rows t)) lastNumber)
-    (λ f. rw (told, e, Replies.numbered, f) (making _ refl refl refl refl))
-    (λ f. rw (told, e, Replies.numbered, f) (refusing _ refl)))
-    (λ e. rw (told, e) (refusing _ refl))
+  -- where an operation or a rule fails, nothing is
+  failed : succeeds area request fresh ≡ false → (es ≡ []) × (rowsLaid area request fresh ≡ st .rows)
+  failed h = (
+    ap (λ (b : Bool). elim b [ true ↦ diff (tables area request fresh) (st .rows) (kept area request fresh) | false ↦ [] ]) h,
+    ap (λ (b : Bool). elim b [ true ↦ kept area request fresh | false ↦ st .rows ]) h,
+  )
 
-pub reply-as : (d : Database) (number : ℕ) (rows : List Row) (request fresh : List ℕ) (room : ℕ)
-    → Replied (d .tables) rows (transactRows (d .tables) (freshIds fresh) rows (requestOr (readRequest request) .operations)) (reply d number rows request fresh room)
-reply-as d number rows request fresh room = go (readRequest request)
-  where
-    go : (o : Option Request)
-        → Replied (d .tables) rows (transactRows (d .tables) (freshIds fresh) rows (requestOr o .operations)) (replyTo d number rows (freshIds fresh) room o)
-    go none = refusing _ refl
-    go (some q) = split (eqBytes (q .name) (d .name))
-        (λ e. split (idsGood (freshIds fresh) rows)
-        (λ f. rw (named, e, freshly, f) (told-as (d .tables) number rows room (transactRows (d .tables) (freshIds fresh) rows (q .operations))))
-        (λ f. rw (named, e, freshly, f) (refusing _ refl)))
-        (λ e. rw (named, e) (refusing _ refl))
+  same-area : (g : G) → es ≡ [] → rowsLaid area request fresh ≡ st .rows → it .area ≡ area
+  same-area g e p =
+      g .areaIs
+      ∙ (λ i. encodeStore (record { run = st .run; number = (ap (λ (l : List Change). st .number + length l) e ∙ add-zero (st .number)) i; schema = st .schema; rows = p i }))
+      ∙ store-of-is area st (g .here) .0
 
-module _ {s : Schema} {rows : List Row} {t : Transacted} where
-  pub replied-laid : {r : Reply} → Replied s rows t r → isRefusal (r .answer) ≡ false → (r .rows ≡ t .rows) × (r .changes ≡ changesOf s rows t) × (r .text ≡ t .text)
-  replied-laid (refusing a h) e = absurd (clash (isRefusal a) h e)
-  replied-laid (making r h p q u) e = (p, q, u)
+  stay : commits area request fresh records text ≡ false → (it .area ≡ area) × (it .records ≡ zeroed records)
+  stay h = split (isRefusal (it .answer))
+      (λ r. let u = transact-refused area request fresh records text r in (u .0, u .1))
+      (λ r.
+      let g = given-is area request fresh records text r in
+      let f = failed (other (isRefusal (it .answer)) (succeeds area request fresh) h r) in
+      (same-area g (f .0) (f .1), silent g (f .0)))
 
-  replied-refused : {r : Reply} → Replied s rows t r → isRefusal (r .answer) ≡ true → (r .rows ≡ rows) × (r .changes ≡ [])
-  replied-refused (refusing a h) e = (refl, refl)
-  replied-refused (making r h p q u) e = absurd (clash (isRefusal (r .answer)) e h)
+  module _ (b : all octet fresh ≡ true) (g : G) where
+    -- the area after it is in good order, and holds the rows laid down
+    holds : storeOf (it .area) ≡ some after
+    holds =
+        let e : storeAfter st (replyOf st request fresh (length text)) ≡ after =
+        (λ i. record { run = st .run; number = st .number + length (g .changes i); schema = st .schema; rows = g .rows i }) in
+        ap storeOf (g .areaIs) ∙ store-of-encode after (subst (λ (x : Store). storeGood x ≡ true) e (after-good area st (g .here) request fresh (length text) (g .sized) b))
 
-  replied-stays : {r : Reply} → Replied s rows t r → t .commits ≡ false → t .rows ≡ rows → (r .rows ≡ rows) × (r .changes ≡ [])
-  replied-stays (refusing a h) e f = (refl, refl)
-  replied-stays (making r h p q u) e f = (p ∙ f, q ∙ changes-none s rows t e)
+    -- the changes are those between the rows
+    between : es ≡ diff (tables area request fresh) (st .rows) (rowsLaid area request fresh)
+    between = sym (g .changes) ∙ changes-between area st (g .here) request fresh (length text) (g .sized) b ∙ ap (diff (tables area request fresh) (st .rows)) (g .rows)
 
-  -- the changes of a reply are those between the rows before and after it
-  pub replied-diff : {r : Reply} → Replied s rows t r → diff s rows rows ≡ [] → (t .commits ≡ false → t .rows ≡ rows) → r .changes ≡ diff s rows (r .rows)
-  replied-diff (refusing a h) e f = sym e
-  replied-diff (making r h p q u) e f = split (t .commits)
-      (λ c. q ∙ rw (changesOf, c, p))
-      (λ c. q ∙ changes-none s rows t c ∙ rw (p, f c, e))
+    abbrev Grown : List Row → Type 0
+    Grown rows = Good (tables area request fresh) rows
 
-pub demand2 : (st : Store) (request fresh : List ℕ) (room : ℕ) → sane (databaseOf st) ≡ true → length fresh ≡ freshBytes → all octet fresh ≡ true → InOrder (databaseOf st .tables) (st .rows)
-    → Demand2 st request fresh room
-demand2 st request fresh room h l os o =
-    let s = databaseOf st .tables in
-    let q = requestOr (readRequest request) in
-    let w = reply-as (databaseOf st) (st .number) (st .rows) request fresh room in
-    let after = reply-keeps (databaseOf st) (st .number) (st .rows) fresh room h l os o request in
-    let stay = transact-stays s (freshIds fresh) (st .rows) q in
-    let d = replied-diff w (diff-self s (st .rows) (o .good .sorted)) stay in
-    record {
-      exactly = commits-exactly s (freshIds fresh) (st .rows) q;
-      laid = replied-laid w;
-      stays = λ c. replied-stays w c (stay c);
-      refused = replied-refused w;
-      both = (λ e. sym (diff-none s (st .rows) (replyOf st request fresh room .rows) (o .good) (after .good) (sym d ∙ e)), λ e. d ∙ rw (e, diff-self s (st .rows) (o .good .sorted)));
-    }
+    grown : Grown (rowsLaid area request fresh)
+    grown = subst Grown (g .rows) (order-after area st (g .here) request fresh (length text) (g .sized) b .good)
+
+    room : st .number + length (diff (tables area request fresh) (st .rows) (rowsLaid area request fresh)) ≤ lastNumber
+    room =
+        let r = reply-room (st .number) (length text) (omega (arith, fine-at area st (g .here) .number)) (heldDatabase st) (st .rows) request fresh .last in
+        subst (λ (l : List Change). st .number + length l ≤ lastNumber) (g .changes ∙ between) r
+
+    quiet : it .records ≡ zeroed records → rowsLaid area request fresh ≡ st .rows
+    quiet z =
+        let s = tables area request fresh in
+        let o = in-order area st (g .here) .good in
+        let p : pieces (it .records) ≡ map encode (numberFrom (st .run) (st .number) (diff s (st .rows) (rowsLaid area request fresh))) =
+        ap pieces (g .recordsAre ∙ ap (λ (l : List Change). filled (length records) (flat (map encode (numberFrom (st .run) (st .number) l)))) between)
+        ∙ commit-filled s (st .run) (length records) (st .rows) (rowsLaid area request fresh) (st .number) o grown (narrow-at area st (g .here)) (fine-at area st (g .here) .run) room (g .wide) in
+        let n = no-changes (st .run) (st .number) (diff s (st .rows) (rowsLaid area request fresh)) (sym p ∙ ap pieces z ∙ none-there (length records)) in
+        sym (diff-none s (st .rows) (rowsLaid area request fresh) o grown n)
+
+    loud : rowsLaid area request fresh ≡ st .rows → it .records ≡ zeroed records
+    loud e = silent g (between ∙ ap (diff (tables area request fresh) (st .rows)) e ∙ diff-self (tables area request fresh) (st .rows) (in-order area st (g .here) .good .sorted))
+
+  both-ways : all octet fresh ≡ true → (storeOr (storeOf (it .area)) .rows ≡ storeOr (storeOf area) .rows) ↔ (it .records ≡ zeroed records)
+  both-ways b = split (isRefusal (it .answer))
+      (λ r. let u = transact-refused area request fresh records text r in ((λ _. u .1), (λ _. ap (λ (a : List ℕ). storeOr (storeOf a) .rows) (u .0))))
+      (λ r.
+      let g = given-is area request fresh records text r in
+      let e : storeOr (storeOf (it .area)) .rows ≡ rowsLaid area request fresh = ap (λ (o : Option Store). storeOr o .rows) (holds b g) in
+      ((λ p. loud b g (sym e ∙ p)), (λ z. e ∙ quiet b g z)))
+
+  pub transacts : all octet fresh ≡ true → Transacts area request fresh records text
+  transacts b = record {
+    committed = λ h.
+        let g = given-is area request fresh records text (not-l (isRefusal (it .answer)) (and-l (not (isRefusal (it .answer))) (succeeds area request fresh) h)) in
+        (g .areaIs, g .recordsAre ∙ filled-is (length records) (recordsLaid area request fresh) (records-fit-laid area request fresh records text g b));
+    stays = stay;
+    answered = λ r. let g = given-is area request fresh records text r in g .textIs ∙ filled-is (length text) (textLaid area request fresh) (g .textFits);
+    both = both-ways b;
+  }
+
+pub demand2 : Demand2
+demand2 area request fresh records text b = transacts area request fresh records text b

@@ -12,11 +12,12 @@ use lib.ListN.{length, getD, take}
 use Rattle.model.specs.Schema.{Schema}
 use Rattle.model.specs.Rows.{Row}
 use Rattle.model.specs.Records.{Change, end, acts, sound, Record, numbered, mark, encode, decode}
-use Rattle.model.specs.Order.{Good}
-use Rattle.model.specs.Mirror.{Mirror, fresh, step, through, heardOf, highest, something}
+use Rattle.model.proofs.Order.{Good}
+use Rattle.model.specs.Mirror.{Mirror, fresh, step, highest, something}
+use Rattle.model.proofs.StateDemand.{through, heardOf}
 use Rattle.model.specs.Refusals.{isRefusal}
-use Rattle.model.specs.History.{empty, Call, finally, changes, records, written}
-use Rattle.model.specs.Demand3.{Keeps, Arrive, Follows, Demand3}
+use Rattle.model.proofs.StateHistory.{empty, Call, finally, changes, records, written}
+use Rattle.model.proofs.StateDemand.{Keeps, Arrive, Follows, Demand3}
 use Rattle.model.proofs.Tests.{split, and-r}
 use Rattle.model.proofs.Chain.{Chain}
 use Rattle.model.proofs.Heart.{chain-acts}
@@ -117,6 +118,9 @@ module _ (s : Schema) (run : ℕ) (short : run < 256 ^ 4) (calls : List Call) (k
         let d = decode-encode (numbered run (suc (m .n)) (getD R (m .n) end)) (short, omega (arith, room), sound-fits s (getD R (m .n) end) (chain-at s R [] F chain (m .n) l .0)) in
         rw (p, d) (moves-said s run R F chain h l refl (said s run m (some (numbered run (suc (m .n)) (getD R (m .n) end)))));
     refusesNone = λ x b. of-sent m x h b .1;
+    top = top;
+    loud = heard;
+    whole = h .ends;
     levels = rw (heard, top, h .ends);
     store = λ v j e. h .made ∙ at-number (m .n) j e;
     commit = λ v. up (commit-at s run empty calls (m .n) (h .within) (sym (h .ends) ∙ and-r (m .heard && eqb (m .n) (m .top)) (m .whole) v));

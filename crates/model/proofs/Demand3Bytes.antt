@@ -8,17 +8,22 @@ use native.Mathlib.Omega.{arith}
 use lib.Dec.{eqb}
 use lib.ListN.{length, getD, take, length-map}
 use Rattle.model.specs.Base.{all, isSome}
+use Rattle.model.specs.Octets.{value}
+use Rattle.model.specs.Rows.{keyOf, has}
 use Rattle.model.specs.Schema.{Schema, Database}
 use Rattle.model.specs.SchemaText.{readSchema}
 use Rattle.model.specs.Records.{Change, end, acts, Record, numbered, mark, numberFrom, encode, decode}
-use Rattle.model.specs.Mirror.{Mirror, fresh, step, through, numberOf, heardOf, highest, something}
-use Rattle.model.specs.Refusals.{isRefusal}
+use Rattle.model.specs.Mirror.{Mirror, fresh, level, Step, onRead, step, numberCarried, columnAnswer}
+use Rattle.model.proofs.StateDemand.{through, heardOf}
+use Rattle.model.specs.Refusals.{numberOf, isRefusal}
 use Rattle.model.specs.Areas.{Store, storeBytes, encodeStore, storeOf, tablesOf, tablesIn, mirrorBytes, encodeMirror, storeGood}
-use Rattle.model.specs.Calls.{Started, startAs, storeStart, mirrorStart, Progress, mirrorProgress}
+use Rattle.model.specs.Calls.{Started, startAs, storeStart, mirrorStart, mirrorHear, Progress, mirrorProgress}
 use Rattle.model.specs.Histories.{StoreCall, ofBytes, areaAfterAll, recordsOf, sentOf, changeIn, made, endsCommit, heardAll, Arrivals, heardNumbers}
-use Rattle.model.specs.History.{State, empty, Call, finally, changes, records, written}
-use Rattle.model.specs.Demand3 as OnStates
-use Rattle.model.specs.Demands.{Follows, Keeps, Demand3}
+use Rattle.model.proofs.StateHistory.{State, empty, Call, finally, changes, records, written}
+use Rattle.model.proofs.StateDemand as OnStates
+use Rattle.model.specs.FirstRefusal.{given, recordConditions, heardAs}
+use Rattle.model.specs.Demands as claimed
+use Rattle.model.specs.Demands.{leftBy, Follows, Keeps, Demand3}
 use Rattle.model.specs.declared.Answer.the-variants.{Accepted, WrongLength, BadSchema, Applied}
 use Rattle.model.proofs.Tests.{clash}
 use Rattle.model.proofs.Lists.{all-take}
@@ -31,11 +36,12 @@ use Rattle.model.proofs.Demand3.{good-empty}
 use Rattle.model.proofs.SchemaLaws.{read-sane}
 use Rattle.model.proofs.Lengths.{AllFit, chain-fit, fit-wide}
 use Rattle.model.proofs.Areas.{store-of-encode, mirror-of-encode}
-use Rattle.model.proofs.Demand1.{look}
-use Rattle.model.proofs.States.{MirrorFine, mirror-whole, fresh-fine, store-whole, start-fine}
+use Rattle.model.proofs.Arrivals.{Said, unread, strangeMark, marked, unfit, strange, again, next, early, said}
+use Rattle.model.proofs.Demand1.{look, step-first}
+use Rattle.model.proofs.States.{MirrorFine, mirror-whole, hear-answer, hear-area, fresh-fine, store-whole, start-fine}
 use Rattle.model.proofs.StoreCalls.{storeAt, callOf, calls-keep}
 use Rattle.model.proofs.StoreHistory.{Lifted, lifted, said-changes, said-length, record-at, ends-same, map-take}
-use Rattle.model.proofs.MirrorArrivals.{mirrorAt, progress-is, arrivals-take, answer-at, area-at, good-at, came}
+use Rattle.model.proofs.MirrorArrivals.{mirrorAt, progress-is, has-row-is, column-is, arrivals-take, answer-at, area-at, good-at, came}
 
 -- ── a started store and a started mirror ──
 start-is : (bytes : ℕ) (area schema made : List ℕ) → startAs bytes area schema made .answer ≡ Accepted → (isSome (readSchema schema) ≡ true) × (startAs bytes area schema made .area ≡ made)
@@ -65,11 +71,25 @@ fit-at [] j f h = absurd (omega arith)
 fit-at (e ∷ es) zero f h = f .0
 fit-at (e ∷ es) (suc j) f h = fit-at es j (f .1) (omega arith)
 
-carried : (l : Record) → Wide l → numberOf (some l) < 256 ^ 4 → numberOf (decode (encode l)) < 256 ^ 4
+carried : (l : Record) → Wide l → numberCarried (some l) < 256 ^ 4 → numberCarried (decode (encode l)) < 256 ^ 4
 carried l w h = rw (decode-encode l w) h
 
 same-some : {A : Type 0} (x y : A) (o : Option A) → o ≡ some x → o ≡ some y → x ≡ y
 same-some x y o p q = cc
+
+-- a step leaves what its answer's number says
+left-by : (s : Schema) (run : ℕ) (m : Mirror) (o : Option Record) → onRead s run m o .next ≡ leftBy s (numberOf (onRead s run m o .answer)) m o
+left-by s run m o = go (said s run m o)
+  where
+    go : {o : Option Record} {x : Step} → Said s run m o x → x .next ≡ leftBy s (numberOf (x .answer)) m o
+    go unread = refl
+    go (strangeMark u k p) = refl
+    go (marked u k r) = refl
+    go (unfit u k e p) = refl
+    go (strange u k e p) = refl
+    go (again u k e r z p) = refl
+    go (next u k e b r p) = refl
+    go (early u k e r p) = refl
 
 -- ── the history ──
 module _ (schema : List ℕ) (run : ℕ) (d : Database) (read : readSchema schema ≡ some d) (short : run < 256 ^ 4) (calls : List StoreCall) (bytes : all ofBytes calls ≡ true) where
@@ -141,14 +161,14 @@ module _ (schema : List ℕ) (run : ℕ) (d : Database) (read : readSchema schem
   }
 
   -- ── what is sent carries numbers of their width ──
-  told-wide : (l : Record) → Told run 0 R l → numberOf (decode (encode l)) < 256 ^ 4
+  told-wide : (l : Record) → Told run 0 R l → numberCarried (decode (encode l)) < 256 ^ 4
   told-wide l (tellMark k h) = let n : k < 256 ^ 4 = omega (arith, few) in carried (mark run k) (short, n) n
   told-wide l (tell j k e h p q) =
       let n : k < 256 ^ 4 = omega (arith, few) in
       let f : Fits e = rw q (fit-at R j all-fit h) in
       carried (numbered run k e) (short, n, f) n
 
-  sent-wide : (x : List ℕ) → List·Memᴰ x (sentOf area calls) → numberOf (decode x) < 256 ^ 4
+  sent-wide : (x : List ℕ) → List·Memᴰ x (sentOf area calls) → numberCarried (decode x) < 256 ^ 4
   sent-wide x b =
       let u = unmap (records s run empty history) x (rw (all-calls .sent) at b) in
       rw (u .2) (told-wide (u .0) (told s run empty history (u .0) (u .1)))
@@ -161,11 +181,11 @@ module _ (schema : List ℕ) (run : ℕ) (d : Database) (read : readSchema schem
     next-is : m .n < length recs → getD recs (m .n) [] ≡ encode (numbered run (suc (m .n)) (getD R (m .n) end))
     next-is h = ap (λ (l : List (List ℕ)). getD l (m .n) []) records-are ∙ record-at run 0 R (m .n) (omega (arith, count)) ∙ ap (λ (k : ℕ). encode (numbered run (suc k) (getD R (m .n) end))) (omega arith)
 
-    next-wide : (h : m .n < length recs) → numberOf (decode (getD recs (m .n) [])) < 256 ^ 4
+    next-wide : (h : m .n < length recs) → numberCarried (decode (getD recs (m .n) [])) < 256 ^ 4
     next-wide h =
         let l : m .n < length R = omega (arith, count) in
         let n : suc (m .n) < 256 ^ 4 = omega (arith, few) in
-        subst (λ (x : List ℕ). numberOf (decode x) < 256 ^ 4) (sym (next-is h)) (carried (numbered run (suc (m .n)) (getD R (m .n) end)) (short, n, fit-at R (m .n) all-fit l) n)
+        subst (λ (x : List ℕ). numberCarried (decode x) < 256 ^ 4) (sym (next-is h)) (carried (numbered run (suc (m .n)) (getD R (m .n) end)) (short, n, fit-at R (m .n) all-fit l) n)
 
     next-moves : (h : m .n < length recs)
         → (step s run m (getD recs (m .n) []) .answer ≡ Applied) × (step s run m (getD recs (m .n) []) .next .n ≡ suc (m .n))
@@ -174,27 +194,51 @@ module _ (schema : List ℕ) (run : ℕ) (d : Database) (read : readSchema schem
     rows-made : made (tablesIn schema) (take (m .n) recs) ≡ acts s (take (m .n) R) []
     rows-made = λ i. acts (same i) ((map-take changeIn (m .n) recs ∙ ap (take (m .n)) changes-are) i) []
 
+    ends-are : m .whole ≡ endsCommit recs (m .n)
+    ends-are = f .whole ∙ sym (ap (λ (l : List (List ℕ)). endsCommit l (m .n)) records-are ∙ ends-same run R (m .n) (f .within))
+
+    -- the mirror is just what its number and what it heard make
+    abbrev M : Mirror
+    M = claimed.mirrorAt schema run area calls (m .n) ks
+
+    mirror-is : m ≡ M
+    mirror-is i = record { rows = (f .rows ∙ sym rows-made) i; n = m .n; top = f .top i; heard = f .loud i; whole = ends-are i }
+
+    answer-is : (x : List ℕ) → numberOf (mirrorHear shown x .answer) ≡ numberOf (step (tablesIn schema) run m x .answer)
+    answer-is x = ap numberOf (hear-answer (mirrorAt schema run m) g x)
+
+    left-is : (x : List ℕ) → mirrorHear shown x .area ≡ encodeMirror (mirrorAt schema run (leftBy (tablesIn schema) (numberOf (mirrorHear shown x .answer)) M (decode x)))
+    left-is x =
+        hear-area (mirrorAt schema run m) g x
+        ∙ ap (λ (y : Mirror). encodeMirror (mirrorAt schema run y)) (left-by (tablesIn schema) run m (decode x) ∙ (λ i. leftBy (tablesIn schema) (sym (answer-is x) i) (mirror-is i) (decode x)))
+
     history-follows : Follows schema run area calls shown ks
     history-follows = record {
-      mirror = m;
-      state = mirror-of-encode (mirrorAt schema run m) (mirror-whole (mirrorAt schema run m) g);
-      tells = progress-is (mirrorAt schema run m) g;
+      n = m .n;
       within = omega (arith, count, f .within);
-      rows = f .rows ∙ sym rows-made;
-      applies = λ h. answer-at schema run s same m g (getD recs (m .n) []) ∙ next-moves h .0;
+      bytes = ap (λ (y : Mirror). encodeMirror (mirrorAt schema run y)) mirror-is;
+      state = mirror-of-encode (mirrorAt schema run m) (mirror-whole (mirrorAt schema run m) g) ∙ ap (λ (y : Mirror). some (mirrorAt schema run y)) mirror-is;
+      tells = progress-is (mirrorAt schema run m) g ∙ ap (λ (y : Mirror). record { answer = Accepted; n = m .n; level = level y }) mirror-is;
+      tellsRow = λ t id. has-row-is (mirrorAt schema run m) g t id ∙ ap (λ (y : Mirror). record { answer = Accepted; there = has (keyOf t (value id)) (y .rows) }) mirror-is;
+      tellsColumn = λ t id c out l. column-is (mirrorAt schema run m) g t id c out l ∙ ap (λ (y : Mirror). record { answer = Accepted; out = columnAnswer y t (value id) c }) mirror-is;
+      answers = λ x. answer-is x ∙ step-first (tablesIn schema) run m (decode x) ∙ ap (λ (y : Mirror). given (recordConditions (tablesIn schema) run y (decode x)) (heardAs (m .n) (decode x))) mirror-is;
+      leaves = left-is;
+      moved = λ h. answer-at schema run s same m g (getD recs (m .n) []) ∙ next-moves h .0;
       moves = λ h.
           let x : List ℕ = getD recs (m .n) [] in
           ap (λ (a : List ℕ). mirrorProgress a .n) (area-at schema run s same m g x)
           ∙ ap (λ (p : Progress). p .n) (progress-is (mirrorAt schema run (step s run m x .next)) (good-at schema run s same m g x (next-wide h))) ∙ next-moves h .1;
       refusesNone = λ x b. ap isRefusal (answer-at schema run s same m g x) ∙ f .refusesNone x (rw (all-calls .sent) at b);
-      levels = f .levels ∙ ap (λ (b : Bool). something ks && eqb (m .n) (highest ks) && b) (sym (ap (λ (l : List (List ℕ)). endsCommit l (m .n)) records-are ∙ ends-same run R (m .n) (f .within)));
       store = λ v j st e q.
           let p : storeAt schema run (after j) ≡ st = same-some (storeAt schema run (after j)) st (storeOf (areaAfterAll area (take j calls))) (store-after j) e in
-          f .store v j (ap (λ (z : State). z .last) (after-is j) ∙ ap (λ (z : Store). z .number) p ∙ q) ∙ ap (λ (z : State). z .rows) (after-is j) ∙ ap (λ (z : Store). z .rows) p;
+          ap (λ (y : Mirror). y .rows) (sym mirror-is) ∙ f .store (sym level-told ∙ v) j (ap (λ (z : State). z .last) (after-is j) ∙ ap (λ (z : Store). z .number) p ∙ q) ∙ ap (λ (z : State). z .rows) (after-is j) ∙ ap (λ (z : Store). z .rows) p;
       commit = λ v.
-          let c = f .commit v in
+          let c = f .commit (sym level-told ∙ v) in
           (c .0, storeAt schema run (after (c .0)), omega (arith, c .1, length-map calls (callOf d)), store-after (c .0), sym (ap (λ (z : State). z .last) (after-is (c .0))) ∙ c .2);
     }
+      where
+        level-told : mirrorProgress shown .level ≡ level m
+        level-told = ap (λ (p : Progress). p .level) (progress-is (mirrorAt schema run m) g)
 
   -- ── the claim, of areas as they were started ──
   abbrev begun : List ℕ

@@ -13,7 +13,7 @@ use Rattle.model.specs.Schema.{Column, Schema, columnsOf}
 use Rattle.model.specs.Value.{Value, elements, canonicalFor, countInLimits, allInLimits, meets}
 use Rattle.model.specs.Rows.{Row, key, hasId}
 use Rattle.model.specs.Records.{known}
-use Rattle.model.specs.Order.{Above, Sorted, Distinct, Typed, Fine, AllFine, Good, Meets, AllMeet}
+use Rattle.model.proofs.Order.{Above, Sorted, Distinct, Typed, Fine, AllFine, Good, Meets, AllMeet}
 use Rattle.model.specs.Areas.{ascendsFrom, ascends, distinctIds, valuesPass, rowPasses, rowsTests, rowsPass}
 use Rattle.model.proofs.Tests.{clash, and-l, and-r, parts, whole}
 use Rattle.model.proofs.Lists.{all-head, all-tail, all-imply}

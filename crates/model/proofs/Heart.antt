@@ -11,7 +11,7 @@ use lib.Dec.{eqb}
 use Rattle.model.specs.Schema.{Schema, columnsOf}
 use Rattle.model.specs.Rows.{Row, keyOf, key, find, has}
 use Rattle.model.specs.Records.{Change, end, gones, walk, closed, diff, act, acts}
-use Rattle.model.specs.Order.{Above, Sorted, Fine, AllFine, Good}
+use Rattle.model.proofs.Order.{Above, Sorted, Fine, AllFine, Good}
 use Rattle.model.proofs.Tests.{split, clash, or-true}
 use Rattle.model.proofs.Seams.{above-trans}
 use Rattle.model.proofs.Chain.{Chain, chain-append, kept, gone-chain, typed-alike, Pend, done, same, new, walk-chain}

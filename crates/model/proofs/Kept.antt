@@ -12,7 +12,7 @@ use Rattle.model.specs.Schema.{Column, Schema, columnsOf}
 use Rattle.model.specs.Value.{Value, initial}
 use Rattle.model.specs.Rows.{Row, keyOf, key, has, hasId, add, change, initials}
 use Rattle.model.specs.Records.{Change, born, gone, column, end, act, fits, known, allows, sound}
-use Rattle.model.specs.Order.{Above, Sorted, Distinct, Typed, Fine, AllFine, Good}
+use Rattle.model.proofs.Order.{Above, Sorted, Distinct, Typed, Fine, AllFine, Good}
 use Rattle.model.proofs.Tests.{split, and-l, and-r, or-l, or-r, eqb-flip}
 use Rattle.model.proofs.Canonical.{initial-canonical}
 use Rattle.model.proofs.Seams.{above-trans}

@@ -14,7 +14,7 @@ use Rattle.model.specs.Schema.{Column, Schema, columnsOf}
 use Rattle.model.specs.Value.{Value, sameValue}
 use Rattle.model.specs.Rows.{Row, key, find, has, initials}
 use Rattle.model.specs.Records.{Change, born, gone, column, end, gones, writes, never, rowWrites, walk, closed, diff, numbered, numberFrom, encode, act, pieces}
-use Rattle.model.specs.Order.{Typed, AllFine, Good}
+use Rattle.model.proofs.Order.{Typed, AllFine, Good}
 use Rattle.model.proofs.Tests.{split, and-l, and-r}
 use Rattle.model.proofs.Accepted.{narrow}
 use Rattle.model.proofs.Bytes.{length-value, Fits, AllWide, pieces-of}

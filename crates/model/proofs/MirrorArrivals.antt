@@ -8,16 +8,19 @@ use Prim.Native.Nat.{ℕ, zero, suc, _^_, _<_}
 use borrow.Author.Tests.{eq-eqb}
 use lib.Dec.{eqb}
 use lib.ListN.{length, take}
+use Rattle.model.specs.Octets.{value}
 use Rattle.model.specs.Schema.{Schema}
+use Rattle.model.specs.Rows.{keyOf, has}
 use Rattle.model.specs.Records.{decode}
-use Rattle.model.specs.Mirror.{Mirror, level, step, through, numberOf, heardOf}
+use Rattle.model.specs.Mirror.{Mirror, level, step, numberCarried, columnBytes, columnAnswer}
+use Rattle.model.proofs.StateDemand.{through, heardOf}
 use Rattle.model.specs.Refusals.{isRefusal}
 use Rattle.model.specs.Areas.{MirrorState, mirrorBytes, encodeMirror, mirrorOf, tablesIn}
-use Rattle.model.specs.Calls.{mirrorHear, Progress, mirrorProgress}
+use Rattle.model.specs.Calls.{mirrorHear, asked, noProgress, progressOf, mirrorProgress, noPresence, presenceOf, mirrorHasRow, noContents, contentsOf, mirrorColumn}
 use Rattle.model.specs.Histories.{heardAll, Arrivals, heardNumbers}
-use Rattle.model.specs.Demand3.{Arrive}
+use Rattle.model.proofs.StateDemand.{Arrive}
+use Rattle.model.specs.declared.Answer.{Answer}
 use Rattle.model.specs.declared.Answer.the-variants.{Accepted, Disordered}
-use Rattle.model.proofs.Tests.{clash}
 use Rattle.model.proofs.TextUtf8.{by-test}
 use Rattle.model.proofs.Arrivals.{said, refused-same}
 use Rattle.model.proofs.Areas.{mirror-of-encode, mirror-of-length}
@@ -27,15 +30,25 @@ use Rattle.model.proofs.States.{MirrorFine, mirror-whole, step-fine, he
 abbrev pub mirrorAt : List ℕ → ℕ → Mirror → MirrorState
 mirrorAt schema run m = record { run = run; schema = schema; mirror = m }
 
--- what it tells of itself
-pub progress-is : (m : MirrorState) → MirrorFine m → mirrorProgress (encodeMirror m) ≡ record { answer = Accepted; n = m .mirror .n; level = level (m .mirror) }
-unfolding mirrorProgress
-progress-is m f =
+-- a question to it is answered by it
+pub asked-there : {A : Type 0} (m : MirrorState) → MirrorFine m → (refuse : Answer → A) (ask : Mirror → A) → asked (encodeMirror m) refuse ask ≡ ask (m .mirror)
+asked-there m f refuse ask =
     let there : mirrorOf (encodeMirror m) ≡ some m = mirror-of-encode m (mirror-whole m f) in
     let size : eqb (length (encodeMirror m)) mirrorBytes ≡ true = eq-eqb (length (encodeMirror m)) mirrorBytes (mirror-of-length (encodeMirror m) m there) in
-    by-test (λ (z : Progress). z ≡ record { answer = Accepted; n = m .mirror .n; level = level (m .mirror) }) (eqb (length (encodeMirror m)) mirrorBytes)
-    (λ e. ap (λ (o : Option MirrorState). elim o [ none ↦ record { answer = Disordered; n = 0; level = false } | some y ↦ record { answer = Accepted; n = y .mirror .n; level = level (y .mirror) } ]) there)
-    (λ e. absurd (clash (eqb (length (encodeMirror m)) mirrorBytes) size e))
+    rw (asked, size) (ap (λ (o : Option MirrorState). elim o [ none ↦ refuse Disordered | some y ↦ ask (y .mirror) ]) there)
+
+pub progress-is : (m : MirrorState) → MirrorFine m → mirrorProgress (encodeMirror m) ≡ record { answer = Accepted; n = m .mirror .n; level = level (m .mirror) }
+unfolding mirrorProgress
+progress-is m f = asked-there m f noProgress progressOf
+
+pub has-row-is : (m : MirrorState) → MirrorFine m → (t : ℕ) (id : List ℕ) → mirrorHasRow (encodeMirror m) t id ≡ record { answer = Accepted; there = has (keyOf t (value id)) (m .mirror .rows) }
+unfolding mirrorHasRow
+has-row-is m f t id = asked-there m f noPresence (presenceOf t id)
+
+pub column-is : (m : MirrorState) → MirrorFine m → (t : ℕ) (id : List ℕ) (c : ℕ) (out : List ℕ) → length out ≡ columnBytes
+    → mirrorColumn (encodeMirror m) t id c out ≡ record { answer = Accepted; out = columnAnswer (m .mirror) t (value id) c }
+unfolding mirrorColumn
+column-is m f t id c out l = rw (mirrorColumn, eq-eqb (length out) columnBytes l) (asked-there m f (noContents out) (contentsOf t id c))
 
 -- so far as they came, arrivals are arrivals
 pub arrivals-take : (sent : List (List ℕ)) (a : List ℕ) (xs : List (List ℕ)) (i : ℕ) → Arrivals sent a xs → Arrivals sent a (take i xs)
@@ -53,11 +66,11 @@ module _ (schema : List ℕ) (run : ℕ) (s : Schema) (same : tablesIn schema �
       → mirrorHear (encodeMirror (mirrorAt schema run m)) x .area ≡ encodeMirror (mirrorAt schema run (step s run m x .next))
   area-at m g x = hear-area (mirrorAt schema run m) g x ∙ ap (λ (t : Schema). encodeMirror (mirrorAt schema run (step t run m x .next))) same
 
-  pub good-at : (m : Mirror) → MirrorFine (mirrorAt schema run m) → (x : List ℕ) → numberOf (decode x) < 256 ^ 4 → MirrorFine (mirrorAt schema run (step s run m x .next))
+  pub good-at : (m : Mirror) → MirrorFine (mirrorAt schema run m) → (x : List ℕ) → numberCarried (decode x) < 256 ^ 4 → MirrorFine (mirrorAt schema run (step s run m x .next))
   good-at m g x h = subst (λ (t : Schema). MirrorFine (mirrorAt schema run (step t run m x .next))) same (step-fine (mirrorAt schema run m) g x h)
 
   -- all arrivals, of what was sent, whose numbers have their widths, and of what is refused
-  module _ (sent : List (List ℕ)) (wide : (x : List ℕ) → List·Memᴰ x sent → numberOf (decode x) < 256 ^ 4) where
+  module _ (sent : List (List ℕ)) (wide : (x : List ℕ) → List·Memᴰ x sent → numberCarried (decode x) < 256 ^ 4) where
     pub record Came (m : Mirror) (xs : List (List ℕ)) : Type 0 where
       pub good : MirrorFine (mirrorAt schema run (through s run m xs))
       pub area : heardAll (encodeMirror (mirrorAt schema run m)) xs ≡ encodeMirror (mirrorAt schema run (through s run m xs))
@@ -90,4 +103,4 @@ module _ (schema : List ℕ) (run : ℕ) (s : Schema) (same : tablesIn schema �
             let rest : heardNumbers (mirrorHear a x .area) xs ≡ heardOf s run (step s run m x .next) xs = ap (λ (y : List ℕ). heardNumbers y xs) (area-at m g x) ∙ e in
             by-test (λ (l : List ℕ). l ≡ heardOf s run m (x ∷ xs)) (isRefusal (mirrorHear a x .answer))
             (λ h. let q : isRefusal (step s run m x .answer) ≡ true = sym p ∙ h in rw q rest)
-            (λ h. let q : isRefusal (step s run m x .answer) ≡ false = sym p ∙ h in rw q (ap (λ (l : List ℕ). numberOf (decode x) ∷ l) rest))
+            (λ h. let q : isRefusal (step s run m x .answer) ≡ false = sym p ∙ h in rw q (ap (λ (l : List ℕ). numberCarried (decode x) ∷ l) rest))

@@ -3,20 +3,25 @@ use mathlib.Core.Path.{_≡_, refl, sym, ap, _∙_}
 use mathlib.Core.Bool.{Bool, true, false, _&&_, _||_}
 use mathlib.Core.List.{List, [], _∷_}
 use Prim.Native.Nat.{ℕ, zero, suc, _+_, _*_, _/_, _%_, _^_, _<_}
-use native.Mathlib.Nat.{pow-suc, mul-comm, mod-one, mod-eq-of-lt}
+use native.Mathlib.Nat.{pow-suc, mul-comm, mod-one, mod-eq-of-lt, lt-of-lt-of-le, pow-le-pow-right}
 use native.Mathlib.Omega.{arith}
 use lib.Arith.{mod-mul, digits-lt, digits-div, digits-mod}
 use lib.Dec.{lit<, eqb, ltb}
-use lib.ListN.{length}
+use lib.ListN.{length, drop, getD, length-take}
 use borrow.Author.Tests.{lt-ltb, le-ltb, eq-eqb, ltb-true, ltb-false, eqb-true, eqb-false}
-use Rattle.model.specs.Octets.{big, value, eqBytes, ltBytes}
+use Rattle.model.specs.Octets.{big, value, part, eqBytes, ltBytes}
 use Rattle.model.specs.Base.{all}
 use Rattle.model.proofs.Tests.{split, clash, and-l, and-r, or-l, or-r, or-true}
-use Rattle.model.proofs.Lists.{all-head, all-tail, all-cons}
+use Rattle.model.proofs.Lists.{all-head, all-tail, all-cons, all-take, all-drop}
 
 -- a byte
 abbrev pub octet : ℕ → Bool
 octet b = ltb b 256
+
+-- bytes, one by one
+pub octets : (l : List ℕ) → ((i : ℕ) → getD l i 0 < 256) → all octet l ≡ true
+octets [] f = refl
+octets (b ∷ l) f = all-cons octet b l (lt-ltb b 256 (f 0)) (octets l (λ i. f (suc i)))
 
 pub length-big : (w x : ℕ) → length (big w x) ≡ w
 length-big zero x = refl
@@ -48,6 +53,11 @@ value-lt (b ∷ l) h =
     let p = digits-lt {q = b} {m = 256} {r = value l} {c = 256 ^ length l} (ltb-true b 256 (all-head octet b l h)) (value-lt l (all-tail octet b l h)) in
     omega (arith, pow-suc 256 (length l))
 
+-- a part of at most w bytes is below 256 ^ w
+pub part-lt : (at w : ℕ) (l : List ℕ) → all octet l ≡ true → value (part at w l) < 256 ^ w
+part-lt at w l h =
+    lt-of-lt-of-le (value-lt (part at w l) (all-take octet w (drop at l) (all-drop octet at l h))) (pow-le-pow-right {n = 256} (lit< tt) {i = length (part at w l)} {j = w} (omega (arith, length-take w (drop at l))))
+
 -- the bytes of one length that stand for a number are one list
 pub value-inj : (a b : List ℕ) → length a ≡ length b → all octet a ≡ true → all octet b ≡ true → value a ≡ value b → a ≡ b
 value-inj [] [] n h g e = refl
@@ -61,6 +71,12 @@ value-inj (x ∷ a) (y ∷ b) n h g e =
     let u : x ≡ y = sym (digits-div x {m = 256 ^ length a} {r = value a} p) ∙ ap (λ (k : ℕ). k / 256 ^ length a) s ∙ digits-div y {m = 256 ^ length a} {r = value b} q in
     let v : value a ≡ value b = sym (digits-mod x {m = 256 ^ length a} {r = value a} p) ∙ ap (λ (k : ℕ). k % 256 ^ length a) s ∙ digits-mod y {m = 256 ^ length a} {r = value b} q in
     cc (value-inj a b m (all-tail octet x a h) (all-tail octet y b g) v)
+
+-- bytes that stand for a number are its bytes
+pub big-value : (w : ℕ) (l : List ℕ) → length l ≡ w → all octet l ≡ true → big w (value l) ≡ l
+big-value w l e h =
+    let k : value l < 256 ^ w = rw (← e) (value-lt l h) in
+    value-inj (big w (value l)) l (length-big w (value l) ∙ sym e) (big-octets w (value l)) h (value-big-fits w (value l) k)
 
 -- ── the order of byte strings ──
 pub ltBytes-irrefl : (a : List ℕ) → ltBytes a a ≡ false

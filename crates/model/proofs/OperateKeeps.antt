@@ -13,14 +13,15 @@ use Rattle.model.specs.Octets.{eqBytes}
 use Rattle.model.specs.Base.{all, placeOf, nth, ascii}
 use Rattle.model.specs.Limits.{mostRows}
 use Rattle.model.specs.Json.{Json, Named}
-use Rattle.model.specs.Trees.{textsGood}
-use Rattle.model.specs.Schema.{Column, Table, Schema, columnsOf, columnAt, tableNamed}
+use Rattle.model.proofs.Sane.{columnAt}
+use Rattle.model.proofs.GoodTexts.{textsGood}
+use Rattle.model.specs.Schema.{Column, Table, Schema, columnsOf, tableNamed}
 use Rattle.model.specs.SchemaText.{only}
 use Rattle.model.specs.Value.{Value, elements, blank, atomInLimits, allInLimits, meets, initial}
 use Rattle.model.specs.Rows.{Row, hasId}
-use Rattle.model.specs.Order.{Fine as FineRow, Good, Meets, AllMeet}
+use Rattle.model.proofs.Order.{Fine as FineRow, Good, Meets, AllMeet}
 use Rattle.model.specs.Faults.{isFine, worst, check, Judged}
-use Rattle.model.specs.Written.{Names, stringIn, arrayIn, objectIn, find}
+use Rattle.model.specs.Written.{Names, stringIn, arrayIn, objectIn, memberNamed}
 use Rattle.model.specs.Conditions.{Test, holds, matches}
 use Rattle.model.specs.Mutations.{Mutation, readMutations, steps}
 use Rattle.model.specs.Operations.{memberAs, tableIn, knownNames, valueWritten, columnWritten, columnsWritten, rowOf, readRow, defaultFault, immutableFault, noFault, assigned, readWhere, Done, failed, nameFault, runInsert, runSelect, updateRow, runUpdate, mutateRow, mutateRows, readMutationList, runMutate, runDelete, runAbort, onTable, perform, operate}
@@ -78,10 +79,10 @@ module _ (names : Names) (absent named : Column → Fault) where
   columns-meet [] ms (v ∷ vs) h d f = d
   columns-meet (c ∷ cs) ms [] h d f = d
   columns-meet (c ∷ cs) ms (v ∷ vs) h d f =
-      let p = earlier-fine (columnWritten names absent named c (find (c .name) ms) .fault) (columnsWritten names absent named cs ms .fault) f in
-      go (find (c .name) ms) refl (p .0) (columns-meet cs ms vs h (d .1) (p .1))
+      let p = earlier-fine (columnWritten names absent named c (memberNamed (c .name) ms) .fault) (columnsWritten names absent named cs ms .fault) f in
+      go (memberNamed (c .name) ms) refl (p .0) (columns-meet cs ms vs h (d .1) (p .1))
     where
-      go : (o : Option Json) → find (c .name) ms ≡ o → isFine (columnWritten names absent named c o .fault) ≡ true → Meets cs (assigned (columnsWritten names absent named cs ms .got) vs)
+      go : (o : Option Json) → memberNamed (c .name) ms ≡ o → isFine (columnWritten names absent named c o .fault) ≡ true → Meets cs (assigned (columnsWritten names absent named cs ms .got) vs)
           → Meets (c ∷ cs) (assigned (columnWritten names absent named c o .got ∷ columnsWritten names absent named cs ms .got) (v ∷ vs))
       go none e g rest = (d .0 g, rest)
       go (some j) e g rest = (value-meets names c j (find-good (c .name) ms j h e) (earlier-fine (valueWritten names c j .fault) (named c) g .0), rest)
@@ -130,7 +131,7 @@ module _ (s : Schema) (names : Names) (i : ℕ) (rows : List Row) (g : Good s ro
       (check (only (ascii "op" ∷ ascii "table" ∷ ascii "row" ∷ ascii "uuid-name" ∷ []) ms) Syntax Fine
       ∷ r .fault
       ∷ check (ltb (length rows) mostRows) Resources Fine
-      ∷ nameFault given (find (ascii "uuid-name") ms)
+      ∷ nameFault given (memberNamed (ascii "uuid-name") ms)
       ∷ [])
       f in
       let v : Meets cs (assigned (r .got) (map initial cs)) =

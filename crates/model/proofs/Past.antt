@@ -12,9 +12,9 @@ use Rattle.model.specs.Limits.{lastNumber}
 use Rattle.model.specs.Schema.{Schema}
 use Rattle.model.specs.Rows.{Row}
 use Rattle.model.specs.Records.{Change, end, act, acts, fits, sound, diff, Record, numbered, mark, encode, numberFrom}
-use Rattle.model.specs.Order.{Good}
-use Rattle.model.specs.History.{State, Call, transact, askMark, room, changesOf, rowsAfter, stateAfter, recordsOf, finally, changes, records, written}
-use Rattle.model.specs.Demand3.{Keeps}
+use Rattle.model.proofs.Order.{Good}
+use Rattle.model.proofs.StateHistory.{State, Call, transact, askMark, room, changesOf, rowsAfter, stateAfter, recordsOf, finally, changes, records, written}
+use Rattle.model.proofs.StateDemand.{Keeps}
 use Rattle.model.proofs.Tests.{split}
 use Rattle.model.proofs.Chain.{Chain, chain-append}
 use Rattle.model.proofs.Heart.{heart}

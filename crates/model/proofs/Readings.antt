@@ -1,14 +1,248 @@
--- Document 01's starred readings, proved by computing: one claim over one table, the mirror's with it, and what the listed mistakes would get wrong. Assumes nothing.
-use mathlib.Core.Path.{_≡_, refl}
-use mathlib.Core.Bool.{true, false}
-use mathlib.Core.List.{List, [], _∷_, map}
-use Prim.Native.Nat.{ℕ}
+-- Document 01's starred readings, one claim over one table of calls on areas; and what the listed mistakes would get wrong. What the calls make of areas is carried to
+-- states by law, and computed there. Assumes nothing.
+use mathlib.Core.Path.{_≡_, refl, sym, _∙_, ap, subst}
+use mathlib.Core.Bool.{Bool, true, false, _&&_}
+use mathlib.Core.List.{List, [], _∷_, _++_, map}
+use mathlib.Core.Option.{Option, none, some}
+use Prim.Native.Nat.{ℕ, zero, suc, _+_, _-_, _*_, _^_, _≤_, _<_}
+use native.Mathlib.Nat.{add-zero}
+use native.Mathlib.Omega.{arith}
+use borrow.Author.Tests.{eq-eqb, ltb-true}
+use lib.Dec.{eqb, ltb}
+use lib.ListN.{length, replicate, length-append, length-replicate}
+use Rattle.model.specs.Octets.{big, filled}
+use Rattle.model.specs.Limits.{freshBytes, leastRecords, leastAnswer, lastNumber}
+use Rattle.model.specs.Base.{all, isSome, flat}
+use Rattle.model.specs.Schema.{Schema, Database}
 use Rattle.model.specs.SchemaText.{readSchema}
-use Rattle.model.specs.Readings.{Gave, Reading, got, table, mistakes, bath, Shown, hearing}
+use Rattle.model.specs.Refusals.{numberOf, isRefusal}
+use Rattle.model.specs.Transact.{Transaction}
+use Rattle.model.specs.Replies.{Reply, reply}
+use Rattle.model.specs.Records.{Change, diff, numberFrom, encode, decode, pieces}
+use Rattle.model.specs.Mirror.{Mirror, fresh, level, step, numberCarried}
+use Rattle.model.specs.Areas.{Store, storeBytes, encodeStore, storeGood, storeOf, MirrorState, mirrorBytes, encodeMirror, mirrorOf, tablesIn, tablesOf}
+use Rattle.model.specs.Calls.{Started, startAs, storeStart, mirrorStart, heldDatabase, lengthsGood, replyOf, storeAfter, recordsAfter, transactReplied, Transacted, storeTransact, Progress, mirrorProgress, mirrorHear}
+use Rattle.model.specs.Histories.{heardAll}
+use Rattle.model.specs.Laid.{mirrorOr}
+use Rattle.model.specs.Readings.{Gave, Reading, idBytes, recordsRoom, textRoom, lastCall, callsOf, picks, mirrorOn, gave, got, padded, table, Readings, mistakes, Mistakes}
+use Rattle.model.specs.declared.Answer.{Answer}
+use Rattle.model.specs.declared.Answer.the-variants.{Accepted}
+use Rattle.model.proofs.Tests.{split, clash, and-l, and-r}
+use Rattle.model.proofs.Lists.{all-head, all-tail, all-append}
+use Rattle.model.proofs.Octets.{octet, big-octets, length-big}
+use Rattle.model.proofs.StateDemand.{through}
+use Rattle.model.proofs.Areas.{store-of-encode, store-of-length, mirror-of-encode}
+use Rattle.model.proofs.States.{StoreFine, store-parts, store-whole, start-fine, MirrorFine, mirror-whole, fresh-fine, step-fine, hear-area}
+use Rattle.model.proofs.StoreCalls.{no-bytes, none-there, transact-there, commit-filled}
+use Rattle.model.proofs.MirrorArrivals.{mirrorAt, progress-is}
+use Rattle.model.proofs.Replied.{reply-as, Replied, refusing, making}
+use Rattle.model.proofs.Demand1.{look, store-start-ends, mirror-start-ends}
+use Rattle.model.proofs.Accepting.{fine-at, in-order, narrow-at, order-after, changes-between, reply-room, after-good}
+use Rattle.model.proofs.Opened.{opened}
 
-pub readings : (map got table ≡ map (λ (r : Reading). r .last) table)
-    × (map (hearing (readSchema bath)) ((0 ∷ 2 ∷ 1 ∷ []) ∷ (0 ∷ 2 ∷ 1 ∷ 2 ∷ []) ∷ [])
-    ≡ record { n = 2; highest = 3; level = false } ∷ record { n = 3; highest = 3; level = true } ∷ [])
-    × (map got mistakes ≡ map (λ (r : Reading). r .last) mistakes)
-unfolding Rattle.model.specs.Json.items Rattle.model.specs.Json.members Rattle.model.specs.Json.scalarBy Rattle.model.specs.Json.keyAt Rattle.model.specs.Json.commaOr Rattle.model.specs.Json.afterItem Rattle.model.specs.Json.listAt Rattle.model.specs.Json.memberAt Rattle.model.specs.Json.opens Rattle.model.specs.Json.dispatch Rattle.model.specs.Json.valueAt Rattle.model.specs.Json.endAt Rattle.model.specs.Json.textAt Rattle.model.specs.Members.namedOf Rattle.model.specs.Members.membersIn Rattle.model.specs.Members.has Rattle.model.specs.Members.namedOr Rattle.model.specs.Members.valueOr Rattle.model.specs.Members.valueOf Rattle.model.specs.Members.counting Rattle.model.specs.Members.Means Rattle.model.specs.Nav.isEnd Rattle.model.specs.Nav.wellAt Rattle.model.specs.Nav.treeAt Rattle.model.specs.Nav.Says Rattle.model.specs.Nav.foundOf Rattle.model.specs.Nav.firstFrom Rattle.model.specs.Nav.firstOf Rattle.model.specs.Nav.nextItem Rattle.model.specs.Nav.nextMember Rattle.model.specs.Nav.itemsFrom Rattle.model.specs.Nav.itemsFine Rattle.model.specs.Nav.membersFrom Rattle.model.specs.Nav.membersFine Rattle.model.specs.Nav.left Rattle.model.specs.Nav.kindOf Rattle.model.specs.Nav.kindBy Rattle.model.specs.Nav.listOf Rattle.model.specs.Nav.itemsIn Rattle.model.specs.Nav.textIn Rattle.model.specs.Nav.pastAt Rattle.model.specs.Nav.isNumber Rattle.model.specs.Nav.isText Rattle.model.specs.Nav.isArray Rattle.model.specs.Nav.isObject Rattle.model.specs.Nav.isTruth Rattle.model.specs.Nav.isTrue Rattle.model.specs.Numbers.minusAt Rattle.model.specs.Numbers.signAt Rattle.model.specs.Numbers.someFrom Rattle.model.specs.Numbers.wholeAt Rattle.model.specs.Numbers.fracAt Rattle.model.specs.Numbers.isExp Rattle.model.specs.Numbers.expAt Rattle.model.specs.Rows.keyOf Rattle.model.specs.Sane.saneColumn Rattle.model.specs.Sane.saneIndex Rattle.model.specs.Sane.saneTable Rattle.model.specs.Sane.sane Rattle.model.specs.Scan.andThen Rattle.model.specs.Scan.run Rattle.model.specs.Scan.passing Rattle.model.specs.Scan.isSpace Rattle.model.specs.Scan.isDigit Rattle.model.specs.Scan.withinAt Rattle.model.specs.Scan.wordAt Rattle.model.specs.Scan.thenRead Rattle.model.specs.Schema.baseOf Rattle.model.specs.SchemaText.truthOr Rattle.model.specs.SchemaText.only Rattle.model.specs.SchemaText.isWithin Rattle.model.specs.SchemaText.sizeOr Rattle.model.specs.SchemaText.isLetter Rattle.model.specs.SchemaText.isIdByte Rattle.model.specs.SchemaText.isId Rattle.model.specs.SchemaText.versionFrom Rattle.model.specs.SchemaText.isVersion Rattle.model.specs.SchemaText.isBase Rattle.model.specs.SchemaText.baseOf Rattle.model.specs.SchemaText.membersOr Rattle.model.specs.SchemaText.limitOr Rattle.model.specs.SchemaText.lowOf Rattle.model.specs.SchemaText.highOf Rattle.model.specs.SchemaText.keyFits Rattle.model.specs.SchemaText.refersOf Rattle.model.specs.SchemaText.isMax Rattle.model.specs.SchemaText.typeFits Rattle.model.specs.SchemaText.columnFits Rattle.model.specs.SchemaText.columnOf Rattle.model.specs.SchemaText.columnsFit Rattle.model.specs.SchemaText.indexFits Rattle.model.specs.SchemaText.indexesFit Rattle.model.specs.SchemaText.tableFits Rattle.model.specs.SchemaText.tableOf Rattle.model.specs.SchemaText.tablesFit Rattle.model.specs.SchemaText.schemaFits Rattle.model.specs.SchemaText.databaseOf Rattle.model.specs.SchemaText.schemaOf Rattle.model.specs.SchemaText.readSchema Rattle.model.specs.SchemaText.baseNumber Rattle.model.specs.SchemaText.isLasting Rattle.model.specs.SchemaText.isIndexed Rattle.model.specs.Strings.shortOf Rattle.model.specs.Strings.hexOf Rattle.model.specs.Strings.hexAdd Rattle.model.specs.Strings.hexStep Rattle.model.specs.Strings.halfOf Rattle.model.specs.Strings.lowFrom Rattle.model.specs.Strings.pairBy Rattle.model.specs.Strings.unitBy Rattle.model.specs.Strings.escapeBy Rattle.model.specs.Strings.secondLow Rattle.model.specs.Strings.secondHigh Rattle.model.specs.Strings.wideBy Rattle.model.specs.Strings.going Rattle.model.specs.Strings.charBy Rattle.model.specs.Strings.utf8 Rattle.model.specs.Strings.unitBytes Rattle.model.specs.Strings.charBytes Rattle.model.specs.Strings.charAdds Rattle.model.specs.Strings.stringAt Rattle.model.specs.Strings.inside Rattle.model.specs.Strings.outside Rattle.model.specs.Text.isWord Rattle.model.specs.Text.begins Rattle.model.specs.Text.chars Rattle.model.specs.Transact.readRequest Rattle.model.specs.Value.isUtf8 Rattle.model.specs.Whole.sized Rattle.model.specs.Whole.plusOf Rattle.model.specs.Whole.minusOf Rattle.model.specs.Whole.wholeText Rattle.model.specs.Whole.wholeOf Rattle.model.specs.Whole.isWhole Rattle.model.specs.Whole.intOf
-readings = (refl, refl, refl)
+-- ── a call on a state ──
+-- what it says: its answer, its text, its records one by one, and the store after it
+record Said : Type 0 where
+  answer : Answer
+  text : List ℕ
+  lines : List (List ℕ)
+  store : Store
+
+abbrev sayCall : Database → Store → List ℕ → List ℕ → Said
+sayCall d st q ids =
+    let r = reply d (st .number) (st .rows) q ids 1000 in
+    record { answer = r .answer; text = r .text; lines = map encode (numberFrom (st .run) (st .number) (r .changes)); store = storeAfter st r }
+
+abbrev lastSaid : Database → ℕ → Said → List (List ℕ) → Said
+lastSaid d i x [] = x
+lastSaid d i x (q ∷ qs) = lastSaid d (i + 16) (sayCall d (x .store) q (idBytes 16 i)) qs
+
+-- what such a call leaves of areas and buffers
+abbrev onArea : Said → Transacted
+onArea x = record { answer = x .answer; area = encodeStore (x .store); records = padded leastRecords (flat (x .lines)); text = padded 1000 (x .text) }
+
+zeros-length : (n : ℕ) → length (replicate {A = ℕ} n 0) ≡ n
+zeros-length n = length-replicate {A = ℕ} n 0
+
+-- the fresh ids are 256 bytes
+ids-octets : (n i : ℕ) → all octet (idBytes n i) ≡ true
+ids-octets zero i = refl
+ids-octets (suc n) i = all-append octet (big 16 i) (idBytes n (suc i)) (big-octets 16 i) (ids-octets n (suc i))
+
+ids-length : (n i : ℕ) → length (idBytes n i) ≡ 16 * n
+ids-length zero i = refl
+ids-length (suc n) i = length-append (big 16 i) (idBytes n (suc i)) ∙ omega (arith, length-big 16 i, ids-length n (suc i))
+
+-- refused or not, a reply leaves the area of the store after it, and buffers that it filled
+abbrev repliedAs : List ℕ → List ℕ → Store → Reply → Transacted
+repliedAs records text st r = record { answer = r .answer; area = encodeStore (storeAfter st r); records = filled (length records) (recordsAfter st r); text = filled (length text) (r .text) }
+
+replied-is : (records text : List ℕ) (st : Store) {s : Schema} {t : Transaction} {r : Reply} → Replied s (st .rows) t r → transactReplied (encodeStore st) records text st r ≡ repliedAs records text st r
+replied-is records text st (refusing a h) =
+    rw (transactReplied, h) (λ i. record {
+      answer = a;
+      area = encodeStore (record { run = st .run; number = sym (add-zero (st .number)) i; schema = st .schema; rows = st .rows });
+      records = sym (no-bytes (length records)) i;
+      text = sym (no-bytes (length text)) i;
+    })
+replied-is records text st (making r h p q u) = rw (transactReplied, h)
+
+-- ── a call on the area of a state in good order ──
+record Sound (d : Database) (x : Said) : Type 0 where
+  good : storeGood (x .store) ≡ true
+  same : heldDatabase (x .store) ≡ d
+  cut : pieces (padded leastRecords (flat (x .lines))) ≡ x .lines
+
+module _ (st : Store) (g : storeGood st ≡ true) (q : List ℕ) (i : ℕ) where
+  abbrev here : storeOf (encodeStore st) ≡ some st
+  here = store-of-encode st g
+
+  abbrev sized : length (idBytes 16 i) ≡ freshBytes
+  sized = ids-length 16 i
+
+  lengths : lengthsGood (encodeStore st) (idBytes 16 i) recordsRoom textRoom ≡ true
+  lengths =
+      rw (eq-eqb (length (encodeStore st)) storeBytes (store-of-length (encodeStore st) st here), eq-eqb (length (idBytes 16 i)) freshBytes sized)
+
+  call-is : storeTransact (encodeStore st) q (idBytes 16 i) recordsRoom textRoom ≡ onArea (sayCall (heldDatabase st) st q (idBytes 16 i))
+  unfolding padded
+  call-is =
+      transact-there (encodeStore st) q (idBytes 16 i) recordsRoom textRoom st lengths here
+      ∙ replied-is recordsRoom textRoom st (reply-as (heldDatabase st) (st .number) (st .rows) q (idBytes 16 i) (length textRoom))
+      ∙ (λ j. let r = replyOf st q (idBytes 16 i) (zeros-length 1000 j) in
+      record { answer = r .answer; area = encodeStore (storeAfter st r); records = filled (zeros-length leastRecords j) (recordsAfter st r); text = filled (zeros-length 1000 j) (r .text) })
+
+  -- its records are found again in the buffer
+  cut-is : pieces (padded leastRecords (flat (sayCall (heldDatabase st) st q (idBytes 16 i) .lines))) ≡ sayCall (heldDatabase st) st q (idBytes 16 i) .lines
+  unfolding padded
+  cut-is =
+      let s = heldDatabase st .tables in
+      let r = replyOf st q (idBytes 16 i) 1000 in
+      let b = ids-octets 16 i in
+      let e : r .changes ≡ diff s (st .rows) (r .rows) = changes-between (encodeStore st) st here q (idBytes 16 i) 1000 sized b in
+      let room = reply-room (st .number) 1000 (omega (arith, fine-at (encodeStore st) st here .number)) (heldDatabase st) (st .rows) q (idBytes 16 i) .last in
+      subst (λ (es : List Change). pieces (filled leastRecords (flat (map encode (numberFrom (st .run) (st .number) es)))) ≡ map encode (numberFrom (st .run) (st .number) es)) (sym e)
+      (commit-filled s (st .run) leastRecords (st .rows) (r .rows) (st .number) (in-order (encodeStore st) st here .good) (order-after (encodeStore st) st here q (idBytes 16 i) 1000 sized b .good)
+      (narrow-at (encodeStore st) st here) (fine-at (encodeStore st) st here .run) (subst (λ (es : List Change). st .number + length es ≤ lastNumber) e room) (omega arith))
+
+  call-sound : Sound (heldDatabase st) (sayCall (heldDatabase st) st q (idBytes 16 i))
+  call-sound = record { good = after-good (encodeStore st) st here q (idBytes 16 i) 1000 sized (ids-octets 16 i); same = refl; cut = cut-is }
+
+module _ (d : Database) where
+  next-sound : (i : ℕ) (x : Said) → Sound d x → (q : List ℕ) → Sound d (sayCall d (x .store) q (idBytes 16 i))
+  next-sound i x v q = subst (λ (e : Database). Sound e (sayCall e (x .store) q (idBytes 16 i))) (v .same) (call-sound (x .store) (v .good) q i)
+
+  next-is : (i : ℕ) (x : Said) → Sound d x → (q : List ℕ) → storeTransact (encodeStore (x .store)) q (idBytes 16 i) recordsRoom textRoom ≡ onArea (sayCall d (x .store) q (idBytes 16 i))
+  next-is i x v q = subst (λ (e : Database). storeTransact (encodeStore (x .store)) q (idBytes 16 i) recordsRoom textRoom ≡ onArea (sayCall e (x .store) q (idBytes 16 i))) (v .same) (call-is (x .store) (v .good) q i)
+
+  calls-are : (i : ℕ) (x : Said) → Sound d x → (qs : List (List ℕ)) → (lastCall i (onArea x) qs ≡ onArea (lastSaid d i x qs)) × Sound d (lastSaid d i x qs)
+  calls-are i x v [] = (refl, v)
+  calls-are i x v (q ∷ qs) =
+      let rest = calls-are (i + 16) (sayCall d (x .store) q (idBytes 16 i)) (next-sound i x v q) qs in
+      (ap (λ (c : Transacted). lastCall (i + 16) c qs) (next-is i x v q) ∙ rest .0, rest .1)
+
+-- ── a mirror that hears what its area's state hears ──
+abbrev wide : List ℕ → Bool
+wide x = ltb (numberCarried (decode x)) 4294967296
+
+heard-through : (schema : List ℕ) (m : Mirror) → MirrorFine (mirrorAt schema 1 m) → (xs : List (List ℕ)) → all wide xs ≡ true
+    → (heardAll (encodeMirror (mirrorAt schema 1 m)) xs ≡ encodeMirror (mirrorAt schema 1 (through (tablesIn schema) 1 m xs))) × MirrorFine (mirrorAt schema 1 (through (tablesIn schema) 1 m xs))
+heard-through schema m f [] w = (refl, f)
+heard-through schema m f (x ∷ xs) w =
+    let n = step-fine (mirrorAt schema 1 m) f x (ltb-true (numberCarried (decode x)) 4294967296 (all-head wide x xs w)) in
+    let rest = heard-through schema (step (tablesIn schema) 1 m x .next) n xs (all-tail wide x xs w) in
+    (ap (λ (a : List ℕ). heardAll a xs) (hear-area (mirrorAt schema 1 m) f x) ∙ rest .0, rest .1)
+
+-- ── a reading on states ──
+abbrev begun : List ℕ → Said
+begun schema = record { answer = Accepted; text = []; lines = []; store = record { run = 1; number = 0; schema = schema; rows = [] } }
+
+abbrev saidOf : Database → Reading → Said
+saidOf d r = lastSaid d 1 (begun (r .schema)) (r .requests)
+
+abbrev tells : Said → Mirror → Gave
+tells x m = record { answer = numberOf (x .answer); text = padded 1000 (x .text); records = padded leastRecords (flat (x .lines)); n = m .n; highest = m .top; level = level m }
+
+abbrev heardBy : Database → Reading → List (List ℕ)
+heardBy d r = picks (r .hears) (saidOf d r .lines)
+
+abbrev onState : Reading → Option Database → Gave
+onState r none = tells (begun []) fresh
+onState r (some d) = tells (saidOf d r) (through (d .tables) 1 fresh (heardBy d r))
+
+abbrev fits : Reading → Option Database → Bool
+fits r none = false
+fits r (some d) = all wide (heardBy d r)
+
+module _ (r : Reading) (d : Database) (read : readSchema (r .schema) ≡ some d) (w : all wide (heardBy d r) ≡ true) where
+  abbrev accepted : isSome (readSchema (r .schema)) ≡ true
+  accepted = ap isSome read
+
+  store-starts : storeStart (replicate storeBytes 0) (r .schema) 1 ≡ record { answer = Accepted; area = encodeStore (begun (r .schema) .store) }
+  unfolding storeStart
+  store-starts = rw (startAs, accepted)
+
+  mirror-starts : mirrorStart (replicate mirrorBytes 0) (r .schema) 1 ≡ record { answer = Accepted; area = encodeMirror (mirrorAt (r .schema) 1 fresh) }
+  unfolding mirrorStart
+  mirror-starts = rw (startAs, eq-eqb (length (replicate {A = ℕ} mirrorBytes 0)) mirrorBytes (zeros-length mirrorBytes), accepted)
+
+  begun-sound : Sound d (begun (r .schema))
+  unfolding padded
+  begun-sound = record {
+    good = store-whole (begun (r .schema) .store) (start-fine 1 (r .schema) (omega arith) accepted);
+    same = ap (λ (o : Option Database). elim o [ none ↦ record { name = []; tables = [] } | some y ↦ y ]) read;
+    cut = ap pieces (no-bytes leastRecords) ∙ none-there leastRecords;
+  }
+
+  abbrev calls : (lastCall 1 (onArea (begun (r .schema))) (r .requests) ≡ onArea (saidOf d r)) × Sound d (saidOf d r)
+  calls = calls-are d 1 (begun (r .schema)) begun-sound (r .requests)
+
+  calls-of : callsOf r ≡ onArea (saidOf d r)
+  unfolding padded
+  calls-of =
+      (λ j. lastCall 1 (record { answer = store-starts j .answer; area = store-starts j .area; records = sym (no-bytes leastRecords) j; text = sym (no-bytes 1000) j }) (r .requests))
+      ∙ calls .0
+
+  abbrev m : Mirror
+  m = through (tablesIn (r .schema)) 1 fresh (heardBy d r)
+
+  abbrev hearing : (heardAll (encodeMirror (mirrorAt (r .schema) 1 fresh)) (heardBy d r) ≡ encodeMirror (mirrorAt (r .schema) 1 m)) × MirrorFine (mirrorAt (r .schema) 1 m)
+  hearing = heard-through (r .schema) fresh (fresh-fine 1 (r .schema) (omega arith) accepted) (heardBy d r) w
+
+  mirror-on : mirrorOn r (callsOf r .records) ≡ encodeMirror (mirrorAt (r .schema) 1 m)
+  mirror-on =
+      (λ j. heardAll (mirror-starts j .area) (picks (r .hears) ((ap (λ (c : Transacted). pieces (c .records)) calls-of ∙ calls .1 .cut) j)))
+      ∙ hearing .0
+
+  got-is : got r ≡ onState r (some d)
+  got-is =
+      let there : mirrorOf (encodeMirror (mirrorAt (r .schema) 1 m)) ≡ some (mirrorAt (r .schema) 1 m) = mirror-of-encode (mirrorAt (r .schema) 1 m) (mirror-whole (mirrorAt (r .schema) 1 m) (hearing .1)) in
+      (λ j. gave (calls-of j) (mirror-on j))
+      ∙ (λ j. record {
+        answer = numberOf (saidOf d r .answer);
+        text = padded 1000 (saidOf d r .text);
+        records = padded leastRecords (flat (saidOf d r .lines));
+        n = progress-is (mirrorAt (r .schema) 1 m) (hearing .1) j .n;
+        highest = mirrorOr (there j) .mirror .top;
+        level = progress-is (mirrorAt (r .schema) 1 m) (hearing .1) j .level;
+      })
+      ∙ ap (λ (s : Schema). tells (saidOf d r) (through s 1 fresh (heardBy d r))) (ap tablesOf read)
+
+got-all : (l : List Reading) → all (λ (r : Reading). fits r (readSchema (r .schema))) l ≡ true → map got l ≡ map (λ (r : Reading). onState r (readSchema (r .schema))) l
+got-all [] h = refl
+got-all (r ∷ l) h = λ j. one (readSchema (r .schema)) refl (all-head test r l h) j ∷ got-all l (all-tail test r l h) j
+  where
+    test : Reading → Bool
+    test y = fits y (readSchema (y .schema))
+
+    one : (o : Option Database) → readSchema (r .schema) ≡ o → fits r o ≡ true → got r ≡ onState r o
+    one none e f = absurd (clash false f refl)
+    one (some d) e f = got-is r d e f
+
+pub readings : Readings
+unfolding opened
+readings = got-all table refl ∙ refl
+
+pub mistaken : Mistakes
+unfolding opened
+mistaken = got-all mistakes refl ∙ refl

@@ -12,10 +12,10 @@ use Rattle.model.specs.Limits.{freshBytes, lastNumber}
 use Rattle.model.specs.Base.{if_then_else_, all}
 use Rattle.model.specs.Schema.{Schema, Database}
 use Rattle.model.specs.Rows.{Row}
-use Rattle.model.specs.Sane.{sane}
-use Rattle.model.specs.Transact.{Request, readRequest, freshIds, idsGood, Transacted, transactRows}
+use Rattle.model.proofs.Sane.{sane}
+use Rattle.model.specs.Transact.{Request, readRequest, freshIds, idsGood, Transaction, transactRows}
 use Rattle.model.specs.Records.{Change, diff}
-use Rattle.model.specs.Order.{Sorted}
+use Rattle.model.proofs.Order.{Sorted}
 use Rattle.model.specs.Refusals.{isRefusal}
 use Rattle.model.specs.Replies.{Reply, refused, changesOf, numbered, told, freshly, replyTo, reply}
 use Rattle.model.specs.declared.Answer.{Answer}
@@ -26,7 +26,7 @@ use Rattle.model.proofs.Octets.{octet}
 use Rattle.model.proofs.Same.{diff-self}
 use Rattle.model.proofs.RunKeeps.{fresh-short, fresh-length, request-good}
 use Rattle.model.proofs.TransactKeeps.{InOrder, sane-modest, transact-keeps}
-use Rattle.model.proofs.Demand2.{transact-stays}
+use Rattle.model.proofs.Replied.{transact-stays}
 
 -- two choices by one test
 by-tests : {A B : Type 0} (R : A → B → Type 0) (b : Bool) {x y : A} {u v : B} → (b ≡ true → R x u) → (b ≡ false → R y v) → R (elim b [ true ↦ x | false ↦ y ]) (elim b [ true ↦ u | false ↦ v ])
@@ -34,7 +34,7 @@ by-tests R true f g = f refl
 by-tests R false f g = g refl
 
 -- ── what a transact would make of rows, if record numbers never ran out: the rows themselves, where it is refused or fails ──
-abbrev toldRows : List Row → ℕ → Transacted → List Row
+abbrev toldRows : List Row → ℕ → Transaction → List Row
 toldRows rows room t = elim (leb (length (t .text)) room) [ true ↦ t .rows | false ↦ rows ]
 
 abbrev freshRows : Schema → List Row → List ℕ → ℕ → Request → List Row
@@ -69,7 +69,7 @@ module _ (s : Schema) (number : ℕ) (rows : List Row) where
       refuses = λ h. (refl, refl);
     }
 
-    numbered-call : (t : Transacted) (es : List Change) → es ≡ diff s rows (t .rows) → AsCall (numbered number rows t es) (t .rows)
+    numbered-call : (t : Transaction) (es : List Change) → es ≡ diff s rows (t .rows) → AsCall (numbered number rows t es) (t .rows)
     numbered-call t es e =
         let q : leb (number + length es) lastNumber ≡ fits (t .rows) = ap (λ (l : List Change). leb (number + length l) lastNumber) e in
         by-test (λ (r : Reply). AsCall r (t .rows)) (leb (number + length es) lastNumber)
@@ -80,7 +80,7 @@ module _ (s : Schema) (number : ℕ) (rows : List Row) where
         let p : fits (t .rows) ≡ false = sym q ∙ h in
         record { after = rw p; written = rw p; refuses = λ x. (refl, refl) })
 
-    told-call : (room : ℕ) (t : Transacted) → (t .commits ≡ false → t .rows ≡ rows) → AsCall (told s number rows room t) (toldRows rows room t)
+    told-call : (room : ℕ) (t : Transaction) → (t .commits ≡ false → t .rows ≡ rows) → AsCall (told s number rows room t) (toldRows rows room t)
     told-call room t h = by-tests AsCall (leb (length (t .text)) room) (λ e. numbered-call t (changesOf s rows t) changed) (λ e. refused-call AnswerTooLong)
       where
         changed : changesOf s rows t ≡ diff s rows (t .rows)
@@ -107,7 +107,7 @@ rows-keep d request fresh room rows h l b o = go (readRequest request) refl
     go : (m : Option Request) → readRequest request ≡ m → InOrder (d .tables) (replyBy d fresh room rows m)
     go none e = o
     go (some q) e =
-        let t : Transacted = transactRows (d .tables) (freshIds fresh) rows (q .operations) in
+        let t : Transaction = transactRows (d .tables) (freshIds fresh) rows (q .operations) in
         let k = request-good request q e in
         by-test (InOrder (d .tables)) (eqBytes (q .name) (d .name))
         (λ n. by-test (InOrder (d .tables)) (idsGood (freshIds fresh) rows)

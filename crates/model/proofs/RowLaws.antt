@@ -11,7 +11,7 @@ use Rattle.model.specs.Base.{keep}
 use Rattle.model.specs.Schema.{Column, Schema, columnsOf}
 use Rattle.model.specs.Value.{Value}
 use Rattle.model.specs.Rows.{Row, key, has, hasId, add}
-use Rattle.model.specs.Order.{Above, Sorted, Distinct, Typed, Fine, AllFine, Good, Meets, AllMeet}
+use Rattle.model.proofs.Order.{Above, Sorted, Distinct, Typed, Fine, AllFine, Good, Meets, AllMeet}
 use Rattle.model.proofs.Tests.{split, or-l, or-r, eqb-flip}
 use Rattle.model.proofs.Lists.{length-keep}
 use Rattle.model.proofs.Seams.{above-trans}

@@ -12,11 +12,11 @@ use Rattle.model.specs.Octets.{value}
 use Rattle.model.specs.Base.{if_then_else_, any, all}
 use Rattle.model.specs.Limits.{mostRequestBytes, mostOperations, freshBytes}
 use Rattle.model.specs.Json.{Json, Named, textAt}
-use Rattle.model.specs.Nav.{isEnd}
-use Rattle.model.specs.Trees.{textsGood}
+use Rattle.model.specs.Nav.{isRead}
+use Rattle.model.proofs.GoodTexts.{textsGood}
 use Rattle.model.specs.Schema.{Schema}
 use Rattle.model.specs.Rows.{Row, hasId}
-use Rattle.model.specs.Order.{Good, AllMeet}
+use Rattle.model.proofs.Order.{Good, AllMeet}
 use Rattle.model.specs.Faults.{isFine}
 use Rattle.model.specs.Written.{Names, stringIn, arrayIn, objectIn}
 use Rattle.model.specs.Operations.{Done, operate}
@@ -153,7 +153,7 @@ pub request-good : (t : List ℕ) (r : Request) → readRequest t ≡ some r →
 unfolding readRequest
 request-good t r e =
     let p = when-some (leb (length t) mostRequestBytes) (requestTree (textAt t)) r e in
-    let q = when-some (isEnd (textAt t .read)) (elim (arrayIn (textAt t .tree)) [ none ↦ none | some l ↦ requestItems l ]) r (p .1) in
+    let q = when-some (isRead (textAt t .read)) (elim (arrayIn (textAt t .tree)) [ none ↦ none | some l ↦ requestItems l ]) r (p .1) in
     let u = then-some (arrayIn (textAt t .tree)) requestItems r (q .1) in
     items-good (u .0) r (array-good (textAt t .tree) (u .0) (text-good t) (u .1)) (u .2)
 

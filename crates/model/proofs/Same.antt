@@ -9,7 +9,7 @@ use Rattle.model.specs.Schema.{Schema}
 use Rattle.model.specs.Value.{Value, sameValue}
 use Rattle.model.specs.Rows.{Row, key, find}
 use Rattle.model.specs.Records.{gones, writes, walk, diff}
-use Rattle.model.specs.Order.{Sorted, Good}
+use Rattle.model.proofs.Order.{Sorted, Good}
 use lib.Seq.{append-snoc}
 use Rattle.model.proofs.Tests.{value-self}
 use Rattle.model.proofs.Seams.{Below, has-at, below-at}

@@ -14,13 +14,13 @@ use Rattle.model.specs.Base.{any, all, every, member, placeOf, nth, asci
 use Rattle.model.specs.Octets.{eqBytes}
 use Rattle.model.specs.Limits.{mostElements, mostIndexColumns, mostIndexes, mostColumns, mostTables, mostSchemaBytes}
 use Rattle.model.specs.Json.{Json, null, bool, num, str, arr, obj, Named, textAt}
-use Rattle.model.specs.Nav.{isEnd, kindOf, isArray, itemsIn, textIn}
-use Rattle.model.specs.Members.{membersIn, has, namedOr, valueOr, valueOf, counting}
+use Rattle.model.specs.Nav.{isRead, kindOf, isArray, itemsIn, textIn}
+use Rattle.model.specs.Members.{membersIn, hasMember, namedOr, valueOr, memberValue, counting}
 use Rattle.model.specs.Whole.{wholeOf}
 use Rattle.model.specs.Text.{isWord}
-use Rattle.model.specs.Schema.{Base, uuid, Refers, plain, strong, weak, Column, Table, Schema, Database, columnsOf, columnAt}
-use Rattle.model.specs.SchemaText.{must, may, isStringOf, isOneOf, isString, sameBase, isWithin, sizeOr, names, numberOf, isId, isMax, keyTests, keyMembers, keyBase, keyFits, refersOf, minOf, maxOf, typeTests, typeMembers, typeFits, columnTests, columnFits, columnOf, tableColumns, partsTests, columnsFit, isIndexed, indexTests, indexFits, indexesTests, indexesFit, tableTests, tableFits, indexOf, tableOf, tablesFit, schemaTests, schemaFits, schemaTables, databaseOf, schemaOf, readSchema}
-use Rattle.model.specs.Sane.{refersBelow, saneColumn, indexSane, saneIndex, columnSane, tableSane, saneTable, databaseSane, sane}
+use Rattle.model.specs.Schema.{Base, uuid, Refers, plain, strong, weak, Column, Table, Schema, Database, columnsOf}
+use Rattle.model.specs.SchemaText.{must, may, isStringOf, isOneOf, isString, sameBase, isWithin, sizeOr, names, placeOr, isId, isMax, keyTests, keyMembers, keyBase, keyFits, refersOf, minOf, maxOf, typeTests, typeMembers, typeFits, columnTests, columnFits, columnOf, tableColumns, partsTests, columnsFit, isIndexed, indexTests, indexFits, indexesTests, indexesFit, tableTests, tableFits, indexOf, tableOf, tablesFit, schemaTests, schemaFits, schemaTables, databaseOf, schemaOf, readSchema}
+use Rattle.model.proofs.Sane.{columnAt, refersBelow, saneColumn, indexSane, saneIndex, columnSane, tableSane, saneTable, databaseSane, sane}
 use Rattle.model.proofs.Tests.{split, clash, bytes-same, bytes-self, and-l, and-r, parts, whole}
 
 -- ── lists ──
@@ -44,11 +44,11 @@ place-below w (x ∷ ws) h =
     (λ e. (0, rw (placeOf, e), omega arith))
     (λ e. let r : (k : ℕ) × (placeOf w ws ≡ some k) × (k < length ws) = place-below w ws (rw e at h) in (suc (r .0), rw (placeOf, e, r .1), omega arith))
 
-pub number-below : (w : List ℕ) (ws : List (List ℕ)) → member w ws ≡ true → ltb (numberOf w ws) (length ws) ≡ true
-number-below w ws h = let r : (k : ℕ) × (placeOf w ws ≡ some k) × (k < length ws) = place-below w ws h in rw (numberOf, r .1, lt-ltb _ _ (r .2))
+pub number-below : (w : List ℕ) (ws : List (List ℕ)) → member w ws ≡ true → ltb (placeOr w ws) (length ws) ≡ true
+number-below w ws h = let r : (k : ℕ) × (placeOf w ws ≡ some k) × (k < length ws) = place-below w ws h in rw (placeOr, r .1, lt-ltb _ _ (r .2))
 
 -- the members that count have all the names, and no others
-pub has-same : (v w : List ℕ) (ms : List Named) → eqBytes v w ≡ true → has v ms ≡ has w ms
+pub has-same : (v w : List ℕ) (ms : List Named) → eqBytes v w ≡ true → hasMember v ms ≡ hasMember w ms
 has-same v w ms h = let e : v ≡ w = bytes-same v w h in rw e
 
 bytes-flip : (v w : List ℕ) → eqBytes v w ≡ eqBytes w v
@@ -59,18 +59,18 @@ bytes-flip v w =
     (λ e. split (eqBytes w v) (λ f. let q : w ≡ v = bytes-same w v f in rw q) (λ f. e ∙ sym f))
 
 -- a member's name, or a later one
-pub has-or : (w : List ℕ) (m : Named) (ms : List Named) → has w (m ∷ ms) ≡ (eqBytes (m .name) w || has w ms)
-unfolding has
-has-or w m ms = split (eqBytes (m .name) w) (λ e. rw (has, e)) (λ e. rw (has, e))
+pub has-or : (w : List ℕ) (m : Named) (ms : List Named) → hasMember w (m ∷ ms) ≡ (eqBytes (m .name) w || hasMember w ms)
+unfolding hasMember
+has-or w m ms = split (eqBytes (m .name) w) (λ e. rw (hasMember, e)) (λ e. rw (hasMember, e))
 
-pub counting-has : (w : List ℕ) (ms : List Named) → member w (names (counting ms)) ≡ has w ms
-unfolding counting has
+pub counting-has : (w : List ℕ) (ms : List Named) → member w (names (counting ms)) ≡ hasMember w ms
+unfolding counting hasMember
 counting-has w [] = refl
 counting-has w (m ∷ ms) =
     rw
     (has-or w m ms)
     (split
-    (has (m .name) ms)
+    (hasMember (m .name) ms)
     (λ h.
     rw (counting, h)
     (split
@@ -84,7 +84,7 @@ unfolding counting
 counting-all p [] h = refl
 counting-all p (m ∷ ms) h =
     let r : all p (names (counting ms)) ≡ true = counting-all p ms (and-r (p (m .name)) _ h) in
-    split (has (m .name) ms) (λ e. rw (counting, e) r) (λ e. rw (counting, e, and-l (p (m .name)) _ h) r)
+    split (hasMember (m .name) ms) (λ e. rw (counting, e) r) (λ e. rw (counting, e, and-l (p (m .name)) _ h) r)
 
 -- ── tests of members ──
 pub may-true : (h b : Bool) → (not h || b) ≡ true → h ≡ true → b ≡ true
@@ -92,14 +92,14 @@ may-true true b t e = t
 may-true false b t e = cc
 
 -- where there is no member of a name, its value is null
-pub value-missing : (w : List ℕ) (d : Json) (ms : List Named) → has w ms ≡ false → valueOr w d ms ≡ d
-unfolding has valueOr namedOr
+pub value-missing : (w : List ℕ) (d : Json) (ms : List Named) → hasMember w ms ≡ false → valueOr w d ms ≡ d
+unfolding hasMember valueOr namedOr
 value-missing w d [] h = refl
 value-missing w d (m ∷ ms) h =
     split
     (eqBytes (m .name) w)
-    (λ e. absurd (clash true refl (rw (has, e) at h)))
-    (λ e. rw (namedOr, e) (value-missing w d ms (rw (has, e) at h)))
+    (λ e. absurd (clash true refl (rw (hasMember, e) at h)))
+    (λ e. rw (namedOr, e) (value-missing w d ms (rw (hasMember, e) at h)))
 
 -- an integer within bounds
 pub within-size : (low high d : ℕ) (w : Whole) → isWithin low high w ≡ true → (low ≤ sizeOr d w) × (sizeOr d w ≤ high)
@@ -112,8 +112,8 @@ within-size low high d Other h = absurd (clash false h refl)
 min-sane : (ts : List Named) → may (ascii "min") (λ (j : Json). isWithin 0 1 (wholeOf j)) ts ≡ true → minOf ts ≤ 1
 min-sane ts h =
     split
-    (has (ascii "min") ts)
-    (λ e. rw (minOf, e) (within-size 0 1 1 (wholeOf (valueOf (ascii "min") ts)) (may-true _ _ h e) .1))
+    (hasMember (ascii "min") ts)
+    (λ e. rw (minOf, e) (within-size 0 1 1 (wholeOf (memberValue (ascii "min") ts)) (may-true _ _ h e) .1))
     (λ e. rw (minOf, e) (omega arith))
 
 -- a string has no size of its own
@@ -137,8 +137,8 @@ max-size j h =
 max-sane : (ts : List Named) → may (ascii "max") isMax ts ≡ true → (1 ≤ maxOf ts) × (maxOf ts ≤ mostElements)
 max-sane ts h =
     split
-    (has (ascii "max") ts)
-    (λ e. rw (maxOf, e) (max-size (valueOf (ascii "max") ts) (may-true _ _ h e)))
+    (hasMember (ascii "max") ts)
+    (λ e. rw (maxOf, e) (max-size (memberValue (ascii "max") ts) (may-true _ _ h e)))
     (λ e. rw (maxOf, e) (omega arith, omega arith))
 
 -- a key's reference goes to a table
@@ -151,21 +151,21 @@ refers-sane : (tables : List (List ℕ)) (base : Base) (ks : List Named) → may
 unfolding refersOf
 refers-sane tables base ks h =
     refers-by
-    (has (ascii "refTable") ks)
-    (isWord (ascii "weak") (valueOf (ascii "refType") ks))
-    (numberOf (textIn (valueOf (ascii "refTable") ks)) tables)
+    (hasMember (ascii "refTable") ks)
+    (isWord (ascii "weak") (memberValue (ascii "refType") ks))
+    (placeOr (textIn (memberValue (ascii "refTable") ks)) tables)
     (length tables)
-    (λ e. number-below _ tables (and-r (isString (valueOf (ascii "refTable") ks)) _ (and-r (sameBase base uuid) _ (may-true _ _ h e))))
+    (λ e. number-below _ tables (and-r (isString (memberValue (ascii "refTable") ks)) _ (and-r (sameBase base uuid) _ (may-true _ _ h e))))
 
 column-sane : (tables : List (List ℕ)) (m : Named) → isId (m .name) ≡ true → columnFits tables (m .value) ≡ true → saneColumn (length tables) (columnOf tables m) ≡ true
 unfolding columnFits typeFits keyFits columnOf saneColumn
 column-sane tables m i h =
     let ms : List Named = membersIn (m .value) in
-    let ts : List Named = typeMembers (valueOf (ascii "type") ms) in
-    let ks : List Named = keyMembers (valueOf (ascii "key") ts) in
+    let ts : List Named = typeMembers (memberValue (ascii "type") ms) in
+    let ks : List Named = keyMembers (memberValue (ascii "key") ts) in
     let c = parts (columnTests tables ms) h in
-    let t = parts (typeTests tables ts) (and-r (has (ascii "type") ms) _ (c .1 .0)) in
-    let k = parts (keyTests tables (keyBase ks) ks) (and-r (has (ascii "key") ts) _ (t .1 .0)) in
+    let t = parts (typeTests tables ts) (and-r (hasMember (ascii "type") ms) _ (c .1 .0)) in
+    let k = parts (keyTests tables (keyBase ks) ks) (and-r (hasMember (ascii "key") ts) _ (t .1 .0)) in
     whole
     (columnSane (length tables) (columnOf tables m)) (
       i,
@@ -188,7 +188,7 @@ index-sane columns j h =
     let xs : List Json = itemsIn j in
     let cs : List Named = counting columns in
     let n : length (names cs) ≡ length cs = length-map cs (λ (m : Named). m .name) in
-    let l : length (indexOf (names cs) j) ≡ length xs = length-map xs (λ (x : Json). numberOf (textIn x) (names cs)) in
+    let l : length (indexOf (names cs) j) ≡ length xs = length-map xs (λ (x : Json). placeOr (textIn x) (names cs)) in
     let t = parts (indexTests columns j) h in
     whole
     (indexSane (length cs) (indexOf (names cs) j)) (
@@ -199,8 +199,8 @@ index-sane columns j h =
           all-map
               (λ (k : ℕ). ltb k (length cs))
               (isIndexed columns)
-              (λ (x : Json). numberOf (textIn x) (names cs))
-              (λ x e. rw n at (number-below (textIn x) (names cs) (counting-has (textIn x) columns ∙ and-l (has (textIn x) columns) _ (and-r (isString x) _ e))))
+              (λ (x : Json). placeOr (textIn x) (names cs))
+              (λ x e. rw n at (number-below (textIn x) (names cs) (counting-has (textIn x) columns ∙ and-l (hasMember (textIn x) columns) _ (and-r (isString x) _ e))))
               xs
               (t .1 .1 .1 .0),
           tt,
@@ -209,20 +209,20 @@ index-sane columns j h =
     )
 
 -- the indexes of a table with these columns, none where it names none
-indexes-sane : (columns ms : List Named) → may (ascii "indexes") (indexesFit columns) ms ≡ true → (leb (length (itemsIn (valueOf (ascii "indexes") ms))) mostIndexes ≡ true) × (all (saneIndex (length (counting columns))) (map (indexOf (names (counting columns))) (itemsIn (valueOf (ascii "indexes") ms))) ≡ true)
-unfolding indexesFit valueOf itemsIn
+indexes-sane : (columns ms : List Named) → may (ascii "indexes") (indexesFit columns) ms ≡ true → (leb (length (itemsIn (memberValue (ascii "indexes") ms))) mostIndexes ≡ true) × (all (saneIndex (length (counting columns))) (map (indexOf (names (counting columns))) (itemsIn (memberValue (ascii "indexes") ms))) ≡ true)
+unfolding indexesFit memberValue itemsIn
 indexes-sane columns ms h =
     split
-    (has (ascii "indexes") ms)
+    (hasMember (ascii "indexes") ms)
     (λ e.
-    let t = parts (indexesTests columns (valueOf (ascii "indexes") ms)) (may-true _ _ h e) in (
+    let t = parts (indexesTests columns (memberValue (ascii "indexes") ms)) (may-true _ _ h e) in (
       t .1 .0,
       all-map
           (saneIndex (length (counting columns)))
           (indexFits columns)
           (indexOf (names (counting columns)))
           (index-sane columns)
-          (itemsIn (valueOf (ascii "indexes") ms))
+          (itemsIn (memberValue (ascii "indexes") ms))
           (t .1 .1 .0),
     ))
     (λ e. rw (value-missing (ascii "indexes") null ms e) (refl, refl))
@@ -237,14 +237,14 @@ table-sane : (tables : List (List ℕ)) (m : Named) → isId (m .name) ≡ true 
 unfolding tableFits columnsFit tableOf saneTable
 table-sane tables m i h =
     let ms : List Named = membersIn (m .value) in
-    let columns : List Named = membersIn (valueOf (ascii "columns") ms) in
+    let columns : List Named = membersIn (memberValue (ascii "columns") ms) in
     let cs : List Named = tableColumns ms in
-    let is : List Json = itemsIn (valueOf (ascii "indexes") ms) in
+    let is : List Json = itemsIn (memberValue (ascii "indexes") ms) in
     let t = parts (tableTests tables ms) h in
     let c =
     parts
-    (partsTests mostColumns (λ (ws : List (List ℕ)). columnFits tables) (valueOf (ascii "columns") ms))
-    (and-r (has (ascii "columns") ms) _ (t .1 .0)) in
+    (partsTests mostColumns (λ (ws : List (List ℕ)). columnFits tables) (memberValue (ascii "columns") ms))
+    (and-r (hasMember (ascii "columns") ms) _ (t .1 .0)) in
     let x = indexes-sane columns ms (t .1 .1 .1 .1 .0) in
     whole
     (tableSane (length tables) (tableOf tables m)) (
@@ -262,15 +262,15 @@ database-sane : (j : Json) → schemaFits j ≡ true → sane (databaseOf j) ≡
 unfolding schemaFits tablesFit databaseOf sane
 database-sane j h =
     let ms : List Named = membersIn j in
-    let tables : List Named = membersIn (valueOf (ascii "tables") ms) in
+    let tables : List Named = membersIn (memberValue (ascii "tables") ms) in
     let ts : List Named = schemaTables j in
     let s = parts (schemaTests ms) h in
-    let t = parts (partsTests mostTables tableFits (valueOf (ascii "tables") ms)) (and-r (has (ascii "tables") ms) _ (s .1 .1 .1 .1 .0)) in
+    let t = parts (partsTests mostTables tableFits (memberValue (ascii "tables") ms)) (and-r (hasMember (ascii "tables") ms) _ (s .1 .1 .1 .1 .0)) in
     let n : length (map (tableOf (names ts)) ts) ≡ length ts = length-map ts (tableOf (names ts)) in
     let k : length (names ts) ≡ length ts = length-map ts (λ (m : Named). m .name) in
     whole
     (databaseSane (databaseOf j)) (
-      and-r (isString (valueOf (ascii "name") ms)) _ (and-r (has (ascii "name") ms) _ (s .1 .0)),
+      and-r (isString (memberValue (ascii "name") ms)) _ (and-r (hasMember (ascii "name") ms) _ (s .1 .0)),
       (
         rw n (t .1 .1 .0),
         (
@@ -296,7 +296,7 @@ schema-sane j d h =
 
 pub read-sane : (s : List ℕ) (d : Database) → readSchema s ≡ some d → sane d ≡ true
 unfolding readSchema
-read-sane s d h = schema-sane (textAt s .tree) d (when-true (isEnd (textAt s .read)) _ d (when-true (leb (length s) mostSchemaBytes) _ d h .1) .1)
+read-sane s d h = schema-sane (textAt s .tree) d (when-true (isRead (textAt s .read)) _ d (when-true (leb (length s) mostSchemaBytes) _ d h .1) .1)
 
 -- and so is each of its columns
 columns-sane : (n : ℕ) (s : Schema) (t : ℕ) → all (saneTable n) s ≡ true → all (saneColumn n) (columnsOf s t) ≡ true

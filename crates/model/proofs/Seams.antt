@@ -8,7 +8,7 @@ use borrow.Author.Tests.{eq-eqb, ne-eqb, lt-ltb, le-ltb}
 use lib.Dec.{eqb}
 use Rattle.model.specs.Value.{Value}
 use Rattle.model.specs.Rows.{Row, key, has, add, remove, change, setColumn}
-use Rattle.model.specs.Order.{Above, Sorted}
+use Rattle.model.proofs.Order.{Above, Sorted}
 use Rattle.model.proofs.Tests.{or-true}
 
 -- every key is below k

@@ -10,7 +10,7 @@ use Rattle.model.specs.Base.{any, all}
 use Rattle.model.specs.Schema.{Schema}
 use Rattle.model.specs.Rows.{Row, has, hasId}
 use Rattle.model.specs.Faults.{isFine, check}
-use Rattle.model.specs.Order.{Good, AllMeet}
+use Rattle.model.proofs.Order.{Good, AllMeet}
 use Rattle.model.specs.Commit.{weakOf, allFound, loose, collect, weaken, allEnough, tablesGood, settled, commit, lawful}
 use Rattle.model.specs.declared.Fault.{Fault}
 use Rattle.model.specs.declared.Fault.the-variants.{Fine, Constraint, Integrity}

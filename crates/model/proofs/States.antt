@@ -4,11 +4,10 @@ use mathlib.Core.Bool.{true, false, not, _&&_, _||_}
 use mathlib.Core.List.{List, [], _∷_}
 use mathlib.Core.Option.{Option, none, some}
 use Prim.Native.Nat.{ℕ, zero, suc, _^_, _≤_, _<_}
-use native.Mathlib.Nat.{lt-of-lt-of-le, pow-le-pow-right}
 use native.Mathlib.Omega.{arith}
 use borrow.Author.Tests.{lt-ltb, ltb-true, le-leb, leb-true, eq-eqb, not-false}
-use lib.Dec.{lit<, eqb, eqb·suc-zero}
-use lib.ListN.{length, drop, length-take}
+use lib.Dec.{eqb, eqb·suc-zero}
+use lib.ListN.{length}
 use Rattle.model.specs.Octets.{value, part}
 use Rattle.model.specs.Base.{all, every, isSome, nth}
 use Rattle.model.specs.Schema.{Column, Schema, columnsOf}
@@ -16,15 +15,15 @@ use Rattle.model.specs.Value.{Value, canonicalFor, meets, canonicalTests
 use Rattle.model.specs.Rows.{Row, keyOf, key, find}
 use Rattle.model.specs.Commit.{unique, notOver, tablesGood, lawful}
 use Rattle.model.specs.Records.{Change, sound, fits, isEnd, Record, recordBytes, bodyOf, decode}
-use Rattle.model.specs.Order.{Typed, AllFine, Good, AllMeet}
-use Rattle.model.specs.Mirror.{Mirror, fresh, Step, hears, applies, bad, step, numberOf, columnBytes, valueAnswer, rowAnswer, columnAnswer}
+use Rattle.model.proofs.Order.{Typed, AllFine, Good, AllMeet}
+use Rattle.model.specs.Mirror.{Mirror, fresh, Step, hears, applies, bad, step, numberCarried, columnBytes, valueAnswer, rowAnswer, columnAnswer}
 use Rattle.model.specs.SchemaText.{readSchema}
 use Rattle.model.specs.Areas.{Store, tablesIn, mirrorBytes, encodeMirror, MirrorState, storePart, rowsPass, headTests, storeGood, mirrorTests, mirrorGood}
 use Rattle.model.specs.Calls.{Arrived, mirrorAfter, hearStep, mirrorHear}
 use Rattle.model.specs.Refusals.{isRefusal}
 use Rattle.model.proofs.Tests.{split, and-l, and-r, or-l, or-r, or-true, parts, whole}
-use Rattle.model.proofs.Lists.{all-tail, all-take, all-drop}
-use Rattle.model.proofs.Octets.{octet, value-lt}
+use Rattle.model.proofs.Lists.{all-tail}
+use Rattle.model.proofs.Octets.{octet, part-lt}
 use Rattle.model.proofs.Bytes.{length-value}
 use Rattle.model.proofs.GoodOrder.{good-of, of-good, meets-pass, meet-of, of-meet}
 use Rattle.model.proofs.Arrivals.{Said, unread, strangeMark, marked, unfit, strange, again, next, early, said, refused-same}
@@ -77,11 +76,7 @@ fresh-fine run schema u a =
     record { accepted = a; run = u; n = omega arith; rows = good-none (tablesIn schema); top = omega arith; reach = omega arith; quiet = refl; start = refl }
 
 -- ── an arrival ──
-part-lt : (at n : ℕ) (b : List ℕ) → all octet b ≡ true → value (part at n b) < 256 ^ n
-part-lt at n b h =
-    lt-of-lt-of-le (value-lt (part at n b) (all-take octet n (drop at b) (all-drop octet at b h))) (pow-le-pow-right {n = 256} (lit< tt) {i = length (part at n b)} {j = n} (omega (arith, length-take n (drop at b))))
-
-body-lt : (k : ℕ) (b : List ℕ) → all octet b ≡ true → numberOf (bodyOf k b) < 256 ^ 4
+body-lt : (k : ℕ) (b : List ℕ) → all octet b ≡ true → numberCarried (bodyOf k b) < 256 ^ 4
 body-lt k b h =
     let l : value (part 4 4 b) < 256 ^ 4 = part-lt 4 4 b h in
     split (eqb k 1) (λ p. rw p l)
@@ -91,7 +86,7 @@ body-lt k b h =
     (λ s. split (eqb k 5) (λ t. rw (p, q, r, s, t) l) (λ t. rw (p, q, r, s, t) (omega arith))))))
 
 -- the number that bytes carry has its width
-pub number-lt : (x : List ℕ) → all octet x ≡ true → numberOf (decode x) < 256 ^ 4
+pub number-lt : (x : List ℕ) → all octet x ≡ true → numberCarried (decode x) < 256 ^ 4
 number-lt [] h = omega arith
 number-lt (k ∷ b) h = split (eqb (suc (length b)) (recordBytes k)) (λ p. rw p (body-lt k b (all-tail octet k b h))) (λ p. rw p (omega arith))
 
@@ -118,7 +113,7 @@ module _ (m : MirrorState) (f : MirrorFine m) where
         start = rw (eqb·suc-zero (m .mirror .n)) (or-true (isEnd e));
       }
 
-  said-fine : {o : Option Record} {x : Step} → Said (tablesIn (m .schema)) (m .run) (m .mirror) o x → numberOf o < 256 ^ 4 → MirrorFine (mirrorAfter m (x .next))
+  said-fine : {o : Option Record} {x : Step} → Said (tablesIn (m .schema)) (m .run) (m .mirror) o x → numberCarried o < 256 ^ 4 → MirrorFine (mirrorAfter m (x .next))
   said-fine unread l = f
   said-fine (strangeMark u k p) l = f
   said-fine (marked u k r) l = hears-fine k l
@@ -129,7 +124,7 @@ module _ (m : MirrorState) (f : MirrorFine m) where
   said-fine (early u k e r p) l = hears-fine k l
 
   -- a mirror in good order is so after every arrival whose number has its width (`number-lt`: all that are bytes)
-  pub step-fine : (x : List ℕ) → numberOf (decode x) < 256 ^ 4 → MirrorFine (mirrorAfter m (step (tablesIn (m .schema)) (m .run) (m .mirror) x .next))
+  pub step-fine : (x : List ℕ) → numberCarried (decode x) < 256 ^ 4 → MirrorFine (mirrorAfter m (step (tablesIn (m .schema)) (m .run) (m .mirror) x .next))
   step-fine x l = said-fine (said (tablesIn (m .schema)) (m .run) (m .mirror) (decode x)) l
 
   -- what hearing on its area is

@@ -11,15 +11,15 @@ use lib.IntN.{ℤ}
 use lib.ListN.{length, getD, set}
 use Rattle.model.specs.Base.{all, nth, member, distinct}
 use Rattle.model.specs.Json.{Json}
-use Rattle.model.specs.Trees.{textsGood}
+use Rattle.model.proofs.GoodTexts.{textsGood}
 use Rattle.model.specs.Schema.{Base, integer, boolean, text, uuid, Column, columnNamed}
 use Rattle.model.specs.Value.{Value, elements, intAtom, ascending, sorted, valueOf, union, without, atomInLimits, allInLimits, meets}
 use Rattle.model.specs.Rows.{Row, columnValue}
 use Rattle.model.specs.Faults.{isFine, check, Judged}
 use Rattle.model.specs.Written.{Names, stringIn, arrayIn, written}
-use Rattle.model.specs.Conditions.{Triple, tripleOf, tripleItems, tripleIn, isInteger, firstInt}
-use Rattle.model.specs.Mutations.{Mutation, suits, mutationFault, noMutation, mutationBy, mutationAt, mutationOf, mutatorNamed, readMutation, readMutations, divides, isZero, isEmpty, in64, results, arithmetic, inserted, deleted, mutated, step, steps}
-use Rattle.model.specs.Order.{Meets}
+use Rattle.model.specs.Conditions.{Triple, tripleOf, tripleItems, tripleIn, isIntegerBase, firstInt}
+use Rattle.model.specs.Mutations.{Mutation, suits, mutationFault, noMutation, mutationBy, mutationAt, mutationOf, mutatorNamed, readMutation, readMutations, divides, isZero, isEmpty, in64, results, arithmetic, inserted, deleted, mutated, mutateOnce, steps}
+use Rattle.model.proofs.Order.{Meets}
 use Rattle.model.specs.declared.Fault.the-variants.{Fine, Resources, Constraint, Domain, Range}
 use Rattle.model.specs.declared.Mutator.{Mutator}
 use Rattle.model.specs.declared.Mutator.the-variants.{Add, Subtract, Multiply, Divide, Remainder, Insert, Delete}
@@ -62,13 +62,13 @@ ints-atoms : (zs : List ℤ) → AtomsOf integer (map intAtom zs)
 ints-atoms [] = atoms-none integer
 ints-atoms (z ∷ zs) = atoms-cons integer (intAtom z) (map intAtom zs) (intAtom-atom z) (intAtom-well z) (ints-atoms zs)
 
-base-is : (b : Base) → isInteger b ≡ true → b ≡ integer
+base-is : (b : Base) → isIntegerBase b ≡ true → b ≡ integer
 base-is integer h = refl
 base-is boolean h = cc
 base-is text h = cc
 base-is uuid h = cc
 
-arithmetic-held : (c : Column) (m : Mutator) (b : ℤ) (xs : List (List ℕ)) → isInteger (c .base) ≡ true → Held c xs → isFine (arithmetic c m b xs .fault) ≡ true → Held c (arithmetic c m b xs .got)
+arithmetic-held : (c : Column) (m : Mutator) (b : ℤ) (xs : List (List ℕ)) → isIntegerBase (c .base) ≡ true → Held c xs → isFine (arithmetic c m b xs .fault) ≡ true → Held c (arithmetic c m b xs .got)
 arithmetic-held c m b xs i k f =
     let l : List (List ℕ) = map intAtom (results m b xs) in
     let e : c .base ≡ integer = base-is (c .base) i in
@@ -159,7 +159,7 @@ set-meets (x ∷ cs) (y ∷ vs) zero c v h e m = let q : x ≡ c = cc in (rw q m
 set-meets (x ∷ cs) (y ∷ vs) (suc k) c v h e m = (h .0, set-meets cs vs k c v (h .1) e m)
 
 -- ── a step, and steps ──
-pub step-meets : (cs : List Column) (m : Mutation) (r : Row) → ReadWell cs m → Meets cs (r .columns) → isFine (step m r .fault) ≡ true → Meets cs (step m r .got .columns)
+pub step-meets : (cs : List Column) (m : Mutation) (r : Row) → ReadWell cs m → Meets cs (r .columns) → isFine (mutateOnce m r .fault) ≡ true → Meets cs (mutateOnce m r .got .columns)
 step-meets cs m r w h f =
     let c : Column = m .column in
     let old : meets c (columnValue r (m .place)) ≡ true = column-meets cs (r .columns) (m .place) c (valueOf []) h (w .at) in
@@ -175,12 +175,12 @@ pub record Stays (cs : List Column) (r q : Row) : Type 0 where
 
 pub steps-stay : (cs : List Column) (ms : List Mutation) (r : Row) → AllReadWell cs ms → Meets cs (r .columns) → isFine (steps ms r .fault) ≡ true → Stays cs r (steps ms r .got)
 steps-stay cs [] r w h f = record { table = refl; id = refl; meets = h }
-steps-stay cs (m ∷ ms) r w h f = go (λ k. steps-stay cs ms (step m r .got) (w .1) k) (isFine (step m r .fault)) refl f
+steps-stay cs (m ∷ ms) r w h f = go (λ k. steps-stay cs ms (mutateOnce m r .got) (w .1) k) (isFine (mutateOnce m r .fault)) refl f
   where
-    go : (Meets cs (step m r .got .columns) → isFine (steps ms (step m r .got) .fault) ≡ true → Stays cs (step m r .got) (steps ms (step m r .got) .got))
-        → (b : Bool) → isFine (step m r .fault) ≡ b → let q : Judged Row = elim b [ true ↦ steps ms (step m r .got) | false ↦ step m r ] in isFine (q .fault) ≡ true → Stays cs r (q .got)
+    go : (Meets cs (mutateOnce m r .got .columns) → isFine (steps ms (mutateOnce m r .got) .fault) ≡ true → Stays cs (mutateOnce m r .got) (steps ms (mutateOnce m r .got) .got))
+        → (b : Bool) → isFine (mutateOnce m r .fault) ≡ b → let q : Judged Row = elim b [ true ↦ steps ms (mutateOnce m r .got) | false ↦ mutateOnce m r ] in isFine (q .fault) ≡ true → Stays cs r (q .got)
     go rest true e g = let k = rest (step-meets cs m r (w .0) h e) g in record { table = k .table; id = k .id; meets = k .meets }
-    go rest false e g = absurd (clash (isFine (step m r .fault)) g e)
+    go rest false e g = absurd (clash (isFine (mutateOnce m r .fault)) g e)
 
 -- ── what is read of a request ──
 triple-good : (l : List Json) (t : Triple) → all textsGood l ≡ true → tripleItems l ≡ some t → textsGood (t .value) ≡ true

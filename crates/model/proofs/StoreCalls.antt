@@ -18,17 +18,17 @@ use Rattle.model.specs.SchemaText.{readSchema}
 use Rattle.model.specs.Value.{meets}
 use Rattle.model.specs.Rows.{Row}
 use Rattle.model.specs.Commit.{lawful}
-use Rattle.model.specs.Order.{Sorted, Good}
-use Rattle.model.specs.Sane.{sane}
+use Rattle.model.proofs.Order.{Sorted, Good}
+use Rattle.model.proofs.Sane.{sane}
 use Rattle.model.specs.Records.{Change, diff, mark, numberFrom, encode, pieces}
 use Rattle.model.specs.Refusals.{isRefusal}
 use Rattle.model.specs.Replies.{Reply}
 use Rattle.model.specs.Areas.{Store, storeBytes, encodeStore, storeOf, tablesIn, rowsPass, storeGood}
-use Rattle.model.specs.Calls.{zeroed, lengthsGood, Transacted, transactRefused, transactReplied, databaseOf, replyOf, transactOn, storeTransact, Marked, markOn, storeMark}
+use Rattle.model.specs.Calls.{zeroed, lengthsGood, Transacted, transactRefused, transactReplied, heldDatabase, replyOf, transactOn, storeTransact, Marked, markOn, storeMark}
 use Rattle.model.specs.Histories.{StoreCall, transact, askMark, areBytes, ofBytes, areaAfter, recordsIn, sentIn}
-use Rattle.model.specs.History as History
-use Rattle.model.specs.Demand3.{Keeps}
-use Rattle.model.specs.History.{State, Call, room, changesOf, rowsAfter, stateAfter, recordsOf}
+use Rattle.model.proofs.StateHistory as History
+use Rattle.model.proofs.StateDemand.{Keeps}
+use Rattle.model.proofs.StateHistory.{State, Call, room, changesOf, rowsAfter, stateAfter, recordsOf}
 use Rattle.model.specs.declared.Answer.the-variants.{WrongLength}
 use Rattle.model.proofs.Tests.{split, clash, and-l, and-r, parts}
 use Rattle.model.proofs.Lists.{all-head, all-tail}
@@ -112,11 +112,15 @@ filled-is n b h =
     take-zeros (suc k) zero l = absurd (omega arith)
     take-zeros (suc k) (suc m) l = ap (λ (x : List ℕ). 0 ∷ x) (take-zeros k m (omega arith))
 
-none-there : (n : ℕ) → pieces (replicate n 0) ≡ []
+-- nothing written leaves zeros
+pub no-bytes : (n : ℕ) → filled n [] ≡ replicate n 0
+no-bytes n = filled-is n [] (omega arith) ∙ ap (λ (k : ℕ). replicate k 0) (let e : n - 0 ≡ n = omega arith in e)
+
+pub none-there : (n : ℕ) → pieces (replicate n 0) ≡ []
 none-there n = pieces-of [] n tt
 
 module _ (s : Schema) (run : ℕ) (n : ℕ) (before after : List Row) (k : ℕ) (g : Good s before) (h : Good s after) where
-  commit-filled : narrow s ≡ true → run < 256 ^ 4 → k + length (diff s before after) ≤ lastNumber → leastRecords ≤ n
+  pub commit-filled : narrow s ≡ true → run < 256 ^ 4 → k + length (diff s before after) ≤ lastNumber → leastRecords ≤ n
       → pieces (filled n (flat (map encode (numberFrom run k (diff s before after))))) ≡ map encode (numberFrom run k (diff s before after))
   commit-filled w u l e =
       let b : List ℕ = flat (map encode (numberFrom run k (diff s before after))) in
@@ -129,7 +133,7 @@ module _ (area q f r t : List ℕ) where
   transact-short h =
       by-test (λ (z : Transacted). z ≡ transactRefused WrongLength area r t) (lengthsGood area f r t) (λ e. absurd (clash (lengthsGood area f r t) e h)) (λ e. refl)
 
-  transact-there : (st : Store) → lengthsGood area f r t ≡ true → storeOf area ≡ some st → storeTransact area q f r t ≡ transactReplied area r t st (replyOf st q f (length t))
+  pub transact-there : (st : Store) → lengthsGood area f r t ≡ true → storeOf area ≡ some st → storeTransact area q f r t ≡ transactReplied area r t st (replyOf st q f (length t))
   unfolding storeTransact
   transact-there st h e =
       by-test (λ (z : Transacted). z ≡ transactReplied area r t st (replyOf st q f (length t))) (lengthsGood area f r t) (λ x. ap (transactOn area q f r t) e) (λ x. absurd (clash (lengthsGood area f r t) h x))
@@ -226,7 +230,7 @@ module _ (schema : List ℕ) (run : ℕ) (d : Database) where
 
       replied : AsCall s (σ .last) (σ .rows) said (replyRows d q f (length t) (σ .rows))
       replied =
-          let p : databaseOf (storeAt schema run σ) ≡ d = ap (λ (o : Option Database). elim o [ none ↦ record { name = []; tables = [] } | some x ↦ x ]) read in
+          let p : heldDatabase (storeAt schema run σ) ≡ d = ap (λ (o : Option Database). elim o [ none ↦ record { name = []; tables = [] } | some x ↦ x ]) read in
           rw p (reply-call d (σ .last) (σ .rows) q f (length t) (stored .good .sorted))
 
       module _ (h : fitLengths f r t ≡ true) where
@@ -248,7 +252,7 @@ module _ (schema : List ℕ) (run : ℕ) (d : Database) where
               split (room s run σ (makes d q f r t))
               (λ e. rw e (commit-filled s run (length r) (σ .rows) (makes d q f r t (σ .rows)) (σ .last) (stored .good) w (rw tables-are at (text-kept schema .narrow)) (fine .run)
               (leb-true (σ .last + length (diff s (σ .rows) (makes d q f r t (σ .rows)))) lastNumber e) (leb-true leastRecords (length r) (p .1 .0))))
-              (λ e. rw e (ap pieces (filled-is (length r) [] (omega arith)) ∙ none-there (length r - 0)))
+              (λ e. rw e (ap pieces (no-bytes (length r)) ∙ none-there (length r)))
 
           gives : Gives call (transactReplied before r t (storeAt schema run σ) said)
           gives =

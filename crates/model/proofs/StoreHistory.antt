@@ -13,9 +13,9 @@ use Rattle.model.specs.SchemaText.{readSchema}
 use Rattle.model.specs.Records.{Change, born, gone, column, end, isEnd, numbered, numberFrom, encode, endKind}
 use Rattle.model.specs.Areas.{encodeStore, storeGood}
 use Rattle.model.specs.Histories.{StoreCall, ofBytes, areaAfterAll, recordsOf, sentOf, changeOf, changeIn, endsCommit}
-use Rattle.model.specs.History as History
-use Rattle.model.specs.History.{State, stateAfter, finally, changes, records, written}
-use Rattle.model.specs.Demand3.{endsAt}
+use Rattle.model.proofs.StateHistory as History
+use Rattle.model.proofs.StateHistory.{State, stateAfter, finally, changes, records, written}
+use Rattle.model.proofs.StateDemand.{endsAt}
 use Rattle.model.proofs.Lists.{all-head, all-tail}
 use Rattle.model.proofs.Bytes.{AllWide, decode-encode}
 use Rattle.model.proofs.StoreCalls.{storeAt, callOf, called}

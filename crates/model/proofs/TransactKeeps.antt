@@ -13,13 +13,13 @@ use Rattle.model.specs.Base.{all}
 use Rattle.model.specs.Limits.{freshBytes, lastNumber}
 use Rattle.model.specs.Json.{Named}
 use Rattle.model.specs.Schema.{Schema, Database}
-use Rattle.model.specs.Sane.{columnSane, saneColumn, sane}
+use Rattle.model.proofs.Sane.{columnSane, saneColumn, sane}
 use Rattle.model.specs.Rows.{Row}
-use Rattle.model.specs.Order.{Good, AllMeet}
+use Rattle.model.proofs.Order.{Good, AllMeet}
 use Rattle.model.specs.Faults.{isFine}
 use Rattle.model.specs.Commit.{commit, lawful}
 use Rattle.model.specs.Answers.{bracketed, errorText}
-use Rattle.model.specs.Transact.{Request, readRequest, freshIds, idsGood, namesOf, Ran, runAll, Transacted, atCommit, transactRows}
+use Rattle.model.specs.Transact.{Request, readRequest, freshIds, idsGood, namesOf, Ran, runAll, Transaction, atCommit, transactRows}
 use Rattle.model.specs.Replies.{Reply, refused, changesOf, told, freshly, named, reply, replyTo}
 use Rattle.model.specs.declared.Answer.the-variants.{BadRequest, BadFreshIds}
 use Rattle.model.proofs.Tests.{parts}
@@ -49,7 +49,7 @@ committed : (s : Schema) (rows : List Row) (r : Ran) → InOrder s rows → Soun
 committed s rows r o k = go (isFine (commit s (r .rows) .fault)) refl
   where
     go : (b : Bool) → isFine (commit s (r .rows) .fault) ≡ b
-        → let t : Transacted =
+        → let t : Transaction =
         elim b [
           | true ↦ record { commits = true; rows = commit s (r .rows) .got; text = bracketed (r .results) }
           | false ↦ record { commits = false; rows = rows; text = bracketed (r .results ++ errorText (commit s (r .rows) .fault) ∷ []) }
@@ -63,12 +63,12 @@ pub transact-keeps : (s : Schema) (ids : List ℕ) (rows : List Row) (os : List 
 transact-keeps s ids rows os modest h n short fresh o = go (runAll s (namesOf ids os) [] ids rows os) (run-keeps s (namesOf ids os) [] ids rows os modest h n short fresh (o .good) (o .meet))
   where
     go : (r : Ran) → (isFine (r .fault) ≡ true → Sound s (r .rows))
-        → let t : Transacted = elim (isFine (r .fault)) [ true ↦ atCommit s rows r | false ↦ record { commits = false; rows = rows; text = bracketed (r .results) } ] in
+        → let t : Transaction = elim (isFine (r .fault)) [ true ↦ atCommit s rows r | false ↦ record { commits = false; rows = rows; text = bracketed (r .results) } ] in
         InOrder s (t .rows)
     go r k = by (isFine (r .fault)) k
       where
         by : (b : Bool) → (b ≡ true → Sound s (r .rows))
-            → let t : Transacted = elim b [ true ↦ atCommit s rows r | false ↦ record { commits = false; rows = rows; text = bracketed (r .results) } ] in
+            → let t : Transaction = elim b [ true ↦ atCommit s rows r | false ↦ record { commits = false; rows = rows; text = bracketed (r .results) } ] in
             InOrder s (t .rows)
         by true k′ = committed s rows r o (k′ refl)
         by false k′ = o
@@ -84,7 +84,7 @@ module _ (d : Database) (number : ℕ) (rows : List Row) (b : List ℕ) (room : 
     where
       kept : idsGood (freshIds b) rows ≡ true → After (told (d .tables) number rows room (transactRows (d .tables) (freshIds b) rows (q .operations)))
       kept f =
-          let t0 : Transacted = transactRows (d .tables) (freshIds b) rows (q .operations) in
+          let t0 : Transaction = transactRows (d .tables) (freshIds b) rows (q .operations) in
           let k = request-good t q e in
           either After (leb (length (t0 .text)) room)
           (either After (leb (number + length (changesOf (d .tables) rows t0)) lastNumber)

@@ -12,9 +12,9 @@ use Rattle.model.specs.declared.Open.the-variants.{Array, Object, Scalar
 use Rattle.model.specs.Base.{all}
 use Rattle.model.specs.Scan.{byte, Parsed, andThen, withinAt, spacesAt}
 use Rattle.model.specs.Strings.{stringAt}
-use Rattle.model.specs.Json.{Json, null, str, Items, item, Members, member, items, members, Named, scalarBy, keyAt, itemTurn, listAt, arrayAt, memberAt, objectAt, opens, dispatch, valueAt, failed, endAt, textAt}
+use Rattle.model.specs.Json.{Json, null, str, Items, item, Members, member, items, members, Named, scalarBy, keyAt, itemTurn, listAt, arrayAt, memberAt, objectAt, opens, dispatch, valueAt, noValue, endAt, textAt}
 use Rattle.model.specs.Value.{isUtf8}
-use Rattle.model.specs.Trees.{textsGood, itemsGood, membersGood}
+use Rattle.model.proofs.GoodTexts.{textsGood, itemsGood, membersGood}
 use Rattle.model.proofs.Tests.{and-l, and-r}
 use Rattle.model.proofs.Lists.{all-head, all-tail, all-cons, all-append}
 use Rattle.model.proofs.Octets.{octet}
@@ -103,7 +103,7 @@ dispatch-good s array object at f g = go (opens (byte s at)) refl
 -- at every level
 pub value-good : (l : ℕ) (s : List ℕ) (at : ℕ) → textsGood (valueAt l s at .tree) ≡ true
 unfolding valueAt
-value-good zero s at = dispatch-good s (λ i. failed (Deep i)) (λ i. failed (Deep i)) (spacesAt s at) (λ i. refl) (λ i. refl)
+value-good zero s at = dispatch-good s (λ i. noValue (Deep i)) (λ i. noValue (Deep i)) (spacesAt s at) (λ i. refl) (λ i. refl)
 value-good (suc l) s at =
     dispatch-good s (λ i. arrayAt (valueAt l s) s (i + 1)) (λ i. objectAt (valueAt l s) s (i + 1)) (spacesAt s at)
     (λ i. items-good (listAt (valueAt l s) s 93 (spacesAt s (i + 1)) .tree) (list-good textsGood (valueAt l s) s 93 (spacesAt s (i + 1)) (value-good l s)))

@@ -12,7 +12,7 @@ use Rattle.model.specs.Base.{any, all, keep}
 use Rattle.model.specs.Schema.{Refers, plain, strong, weak, Column, Schema, columnsOf, isRoot}
 use Rattle.model.specs.Value.{Value, elements, valueOf, uuidOf, canonicalFor, atomInLimits, meets}
 use Rattle.model.specs.Rows.{Row, keyOf, key, has, hasId}
-use Rattle.model.specs.Order.{Above, Sorted, Distinct, Typed, AllFine, Good, Meets, AllMeet}
+use Rattle.model.proofs.Order.{Above, Sorted, Distinct, Typed, AllFine, Good, Meets, AllMeet}
 use Rattle.model.specs.Commit.{keysOf, targets, strongly, weakly, strongOf, weakOf, allFound, loose, present, weakenValue, weakenColumns, weakenRow, enough, allEnough}
 use Rattle.model.proofs.Tests.{split, and-l, and-r}
 use Rattle.model.proofs.Lists.{all-head, all-tail, all-cons, all-append, all-keep, length-keep}

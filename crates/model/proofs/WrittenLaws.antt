@@ -12,14 +12,14 @@ use Rattle.model.specs.Base.{all, any, distinct, ascii}
 use Rattle.model.specs.Octets.{eqBytes}
 use Rattle.model.specs.Json.{Json, null, bool, num, str, arr, obj, Items, none as nothing, item, Members, empty, member, Named}
 use Rattle.model.specs.Nav.{listOf}
-use Rattle.model.specs.Members.{namedOf, has, namedOr, valueOr, valueOf as lastOf}
-use Rattle.model.specs.Whole.{wholeOf, isWhole, intOf}
+use Rattle.model.specs.Members.{namedOf, hasMember, namedOr, valueOr, memberValue as lastOf}
+use Rattle.model.specs.Whole.{wholeOf, isWhole, wholeInt}
 use Rattle.model.specs.Text.{isWord}
-use Rattle.model.specs.Trees.{textsGood, itemsGood, membersGood}
+use Rattle.model.proofs.GoodTexts.{textsGood, itemsGood, membersGood}
 use Rattle.model.specs.Schema.{Base, integer, boolean, text, uuid, Column}
 use Rattle.model.specs.Value.{isUtf8, wellAtom, byteAtom, intAtom, boolAtom, textAtom, uuidAtom, sorted, valueOf, atomInLimits, allInLimits, countInLimits, meets}
 use Rattle.model.specs.Faults.{isFine, check, Judged}
-use Rattle.model.specs.Written.{Names, stringIn, arrayIn, objectIn, find, elementsOf, elementsIn, boolIn, uuidIn, atomIn, atomsIn, longAtom, fitting, rowFault, insertFault, written}
+use Rattle.model.specs.Written.{Names, stringIn, arrayIn, objectIn, memberNamed, elementsOf, elementsIn, boolIn, uuidIn, atomIn, atomsIn, longAtom, fitting, rowFault, insertFault, written}
 use Rattle.model.specs.Operations.{memberAs, valueWritten}
 use Rattle.model.specs.declared.Fault.{Fault}
 use Rattle.model.specs.declared.Fault.the-variants.{Fine, Syntax, Resources, Constraint}
@@ -93,10 +93,10 @@ last-good w d [] g h = g
 last-good w d (m ∷ ms) g h =
     last-good w (namedOr w d m) ms (split (eqBytes (m .name) w) (λ e. rw (namedOr, e) (all-head namedGood m ms h)) (λ e. rw (namedOr, e) g)) (all-tail namedGood m ms h)
 
-pub find-good : (w : List ℕ) (ms : List Named) (j : Json) → all namedGood ms ≡ true → find w ms ≡ some j → textsGood j ≡ true
+pub find-good : (w : List ℕ) (ms : List Named) (j : Json) → all namedGood ms ≡ true → memberNamed w ms ≡ some j → textsGood j ≡ true
 unfolding lastOf
 find-good w ms j h e =
-    let p = when-some (has w ms) (some (lastOf w ms)) j e in
+    let p = when-some (hasMember w ms) (some (lastOf w ms)) j e in
     let q : lastOf w ms ≡ j = cc (p .1) in
     rw (← q) (last-good w null ms refl h)
 
@@ -104,7 +104,7 @@ find-good w ms j h e =
 pub member-good : {A : Type 0} (read : Json → Option A) (w : List ℕ) (ms : List Named) (a : A) → all namedGood ms ≡ true → memberAs read w ms ≡ some a
     → (j : Json) × (textsGood j ≡ true) × (read j ≡ some a)
 member-good read w ms a h e =
-    let p = then-some (find w ms) read a e in
+    let p = then-some (memberNamed w ms) read a e in
     (p .0, find-good w ms (p .0) h (p .1), p .2)
 
 -- ── elements and their atoms ──
@@ -131,9 +131,9 @@ elements-good j h = go (arrayIn j) refl
 -- an atom as written that is not too long is well formed
 pub atom-well : (names : Names) (k : Base) (j : Json) (a : List ℕ) → textsGood j ≡ true → atomIn names k j ≡ some a → longAtom k a ≡ false → (byteAtom a ≡ true) × (wellAtom k a ≡ true)
 atom-well names integer j a h e n =
-    let p = when-some (isWhole (wholeOf j)) (some (intAtom (intOf (wholeOf j)))) a e in
-    let q : intAtom (intOf (wholeOf j)) ≡ a = cc (p .1) in
-    rw (← q) (intAtom-atom (intOf (wholeOf j)), intAtom-well (intOf (wholeOf j)))
+    let p = when-some (isWhole (wholeOf j)) (some (intAtom (wholeInt (wholeOf j)))) a e in
+    let q : intAtom (wholeInt (wholeOf j)) ≡ a = cc (p .1) in
+    rw (← q) (intAtom-atom (wholeInt (wholeOf j)), intAtom-well (wholeInt (wholeOf j)))
 atom-well names boolean j a h e n =
     let p = then-some (boolIn j) (λ (b : Bool). some (boolAtom b)) a e in
     let q : boolAtom (p .0) ≡ a = cc (p .2) in

@@ -79,11 +79,11 @@ transactReplied area records text st r =
     ]
 
 -- a store in good order holds an accepted schema
-abbrev pub databaseOf : Store → Database
-databaseOf st = elim (readSchema (st .schema)) [ none ↦ record { name = []; tables = [] } | some d ↦ d ]
+abbrev pub heldDatabase : Store → Database
+heldDatabase st = elim (readSchema (st .schema)) [ none ↦ record { name = []; tables = [] } | some d ↦ d ]
 
 abbrev pub replyOf : Store → List ℕ → List ℕ → ℕ → Reply
-replyOf st request fresh room = reply (databaseOf st) (st .number) (st .rows) request fresh room
+replyOf st request fresh room = reply (heldDatabase st) (st .number) (st .rows) request fresh room
 
 abbrev pub transactOn : List ℕ → List ℕ → List ℕ → List ℕ → List ℕ → Option Store → Transacted
 transactOn area request fresh records text none = transactRefused Disordered area records text

@@ -84,11 +84,11 @@ functionNamed w =
     else none
 
 -- "integers take all eight functions; other scalars and sets ==, !=, includes, excludes"
-abbrev pub isInteger : Base → Bool
-isInteger integer = true
-isInteger boolean = false
-isInteger text = false
-isInteger uuid = false
+abbrev pub isIntegerBase : Base → Bool
+isIntegerBase integer = true
+isIntegerBase boolean = false
+isIntegerBase text = false
+isIntegerBase uuid = false
 
 abbrev pub orders : Function → Bool
 orders Less = true
@@ -101,7 +101,7 @@ orders Includes = false
 orders Excludes = false
 
 abbrev pub allowed : Column → Function → Bool
-allowed c f = not (orders f) || (isInteger (c .base) && scalar c)
+allowed c f = not (orders f) || (isIntegerBase (c .base) && scalar c)
 
 -- a condition as read
 pub record Test : Type 0 where

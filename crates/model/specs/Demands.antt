@@ -1,168 +1,174 @@
--- The three demands, as statements about the calls. Assumes nothing: these are definitions.
-use Prim.Native.Nat.{ℕ, zero, suc, _+_, _^_, _≤_, _<_}
+-- The three demands, as statements about the calls, from the bytes of a call to the bytes it leaves. Assumes nothing: these are definitions.
+use Prim.Native.Nat.{ℕ, zero, suc, _+_, _-_, _^_, _≤_, _<_}
 use mathlib.Core.Path.{_≡_}
 use mathlib.Core.Logic.{_↔_}
-use mathlib.Core.Bool.{Bool, true, false, not, _&&_}
-use mathlib.Core.List.{List, [], _∷_, map, List·Memᴰ}
+use mathlib.Core.Bool.{Bool, true, false, not, _&&_, _||_}
+use mathlib.Core.List.{List, [], _∷_, _++_, map, List·Memᴰ}
 use mathlib.Core.Option.{Option, none, some}
-use lib.Dec.{eqb, leb, ltb}
-use lib.ListN.{length, getD, take}
-use Rattle.model.specs.Octets.{eqBytes}
-use Rattle.model.specs.Limits.{lastNumber, leastMark}
-use Rattle.model.specs.Base.{if_then_else_, all, every, isSome}
-use Rattle.model.specs.Schema.{Schema, Database}
-use Rattle.model.specs.SchemaText.{readSchema}
-use Rattle.model.specs.Rows.{Row}
-use Rattle.model.specs.Faults.{isFine}
-use Rattle.model.specs.Transact.{Request, readRequest, freshIds, idsGood, namesOf, Ran, runAll, Transacted, transactRows}
-use Rattle.model.specs.Commit.{allFound, settled, allEnough, tablesGood}
-use Rattle.model.specs.Refusals.{isRefusal}
-use Rattle.model.specs.Replies.{Reply, changesOf}
-use Rattle.model.specs.Records.{Record, numbered, mark, numberFrom, encode, decode}
-use Rattle.model.specs.Mirror.{Mirror, fresh, level, bad, highest, something}
-use Rattle.model.specs.Areas.{Store, storeBytes, storeOf, MirrorState, mirrorBytes, mirrorOf, tablesIn}
-use Rattle.model.specs.Calls.{Started, storeStart, mirrorStart, lengthsGood, databaseOf, replyOf, storeTransact, storeMark, mirrorHear, Progress, mirrorProgress}
-use Rattle.model.specs.Histories.{StoreCall, ofBytes, areaAfterAll, recordsOf, sentOf, changeIn, made, endsCommit, heardAll, Arrivals, heardNumbers}
+use lib.Dec.{eqb}
+use lib.ListN.{length, getD, take, replicate}
+use Rattle.model.specs.Octets.{value}
+use Rattle.model.specs.Base.{all}
+use Rattle.model.specs.Schema.{Schema}
+use Rattle.model.specs.Rows.{Row, keyOf, has}
+use Rattle.model.specs.Refusals.{numberOf, isRefusal}
+use Rattle.model.specs.Records.{Record, mark, numberFrom, encode, decode}
+use Rattle.model.specs.Mirror.{Mirror, fresh, hears, applies, highest, something, numberCarried, columnBytes, columnAnswer}
+use Rattle.model.specs.Areas.{Store, encodeStore, storeOf, MirrorState, encodeMirror, mirrorOf, tablesIn}
+use Rattle.model.specs.Calls.{Started, zeroed, storeStart, mirrorStart, Transacted, storeTransact, storeMark, Arrived, mirrorHear, Progress, mirrorProgress, Presence, mirrorHasRow, Contents, mirrorColumn}
+use Rattle.model.specs.Laid.{storeOr, mirrorOr, succeeds, recordsLaid, textLaid, storeLaid}
+use Rattle.model.specs.FirstRefusal.{storeStartNumber, mirrorStartNumber, transactNumber, markNumber, recordConditions, heardAs, given, hearNumber, askNumber, columnNumber}
+use Rattle.model.specs.Histories.{StoreCall, areBytes, ofBytes, areaAfterAll, recordsOf, sentOf, changeOf, changeIn, made, endsCommit, heardAll, Arrivals, heardNumbers}
 use Rattle.model.specs.declared.Answer.{Answer}
-use Rattle.model.specs.declared.Answer.the-variants.{Accepted, Disordered, WrongLength, BadSchema, BadRequest, OtherDatabase, BadFreshIds, AnswerTooLong, BadRecord, OtherRun, NumbersSpent, Repeat, Behind, Heard, Applied}
+use Rattle.model.specs.declared.Answer.the-variants.{Accepted, Applied}
 
--- ── demand 1: "a call ends with its answer or with the first of document 01's refusals that applies, exactly when it applies" ──
--- a refusal and when it is given
-pub record Condition : Type 0 where
-  pub answer : Answer
-  pub applies : Bool
+-- ── demand 1: "Whatever bytes come as schema, request, record or stored area, a call ends with its answer or with the first of document 01's refusals that applies, exactly when it applies" ──
+-- a buffer that a call writes to: as it was lent, what is to be written to it, and as it was left
+pub record Buffer : Type 0 where
+  pub lent : List ℕ
+  pub written : List ℕ
+  pub left : List ℕ
 
--- the first that applies
-abbrev pub first : Answer → List Condition → Answer
-first d [] = d
-first d (c ∷ cs) = elim (c .applies) [ true ↦ c .answer | false ↦ first d cs ]
+-- "every output buffer zero"
+abbrev pub AllZero : List Buffer → Type 0
+AllZero [] = Unit
+AllZero (b ∷ bs) = (b .left ≡ zeroed (b .lent)) × AllZero bs
 
-abbrev pub storeOr : Option Store → Store
-storeOr none = record { run = 0; number = 0; schema = []; rows = [] }
-storeOr (some st) = st
+-- "In an accepted call, bytes beyond what was written are zero"
+abbrev pub ZeroBeyond : List Buffer → Type 0
+ZeroBeyond [] = Unit
+ZeroBeyond (b ∷ bs) = (length (b .written) ≤ length (b .lent)) × (b .left ≡ b .written ++ replicate (length (b .lent) - length (b .written)) 0) × ZeroBeyond bs
 
-abbrev pub requestOr : Option Request → Request
-requestOr none = record { name = []; operations = [] }
-requestOr (some q) = q
+-- of a call that is to get a number: its answer, the area before and after it, and every other buffer it writes to
+pub record Ends (number : ℕ) (answer : Answer) (area after : List ℕ) (buffers : List Buffer) : Type 0 where
+  pub first : numberOf answer ≡ number
+  -- "A refused call leaves store and mirror untouched and every output buffer zero"
+  pub refused : isRefusal answer ≡ true → (after ≡ area) × AllZero buffers
+  pub accepted : isRefusal answer ≡ false → ZeroBeyond buffers
 
-abbrev pub mirrorOr : Option MirrorState → MirrorState
-mirrorOr none = record { run = 0; schema = []; mirror = fresh }
-mirrorOr (some m) = m
+-- the eight calls
+abbrev pub StoreStartEnds : List ℕ → List ℕ → ℕ → Type 0
+StoreStartEnds area schema run =
+    let c = storeStart area schema run in
+    Ends (storeStartNumber area schema) (c .answer) area (c .area) []
+    -- "makes no rows and number 0"
+    × (isRefusal (c .answer) ≡ false → c .area ≡ encodeStore (record { run = run; number = 0; schema = schema; rows = [] }))
 
--- when each refusal of a transact is given, in the paper's order; refusal 3 never is, since an area in good order holds an accepted schema
-abbrev pub transactConditions : List ℕ → List ℕ → List ℕ → List ℕ → List ℕ → List Condition
-transactConditions area request fresh records text =
+abbrev pub MirrorStartEnds : List ℕ → List ℕ → ℕ → Type 0
+MirrorStartEnds area schema run =
+    let c = mirrorStart area schema run in
+    Ends (mirrorStartNumber area schema) (c .answer) area (c .area) []
+    × (isRefusal (c .answer) ≡ false → c .area ≡ encodeMirror (record { run = run; schema = schema; mirror = fresh }))
+
+abbrev pub TransactEnds : List ℕ → List ℕ → List ℕ → List ℕ → List ℕ → Type 0
+TransactEnds area request fresh records text =
+    let c = storeTransact area request fresh records text in
+    Ends (transactNumber area request fresh records text) (c .answer) area (c .area)
+    (record { lent = records; written = recordsLaid area request fresh; left = c .records } ∷ record { lent = text; written = textLaid area request fresh; left = c .text } ∷ [])
+
+-- the area of a mark or a question is lent to be read only
+abbrev pub MarkEnds : List ℕ → List ℕ → Type 0
+MarkEnds area out =
+    let c = storeMark area out in
     let st = storeOr (storeOf area) in
-    let d = databaseOf st in
-    let q = requestOr (readRequest request) in
-    let t = transactRows (d .tables) (freshIds fresh) (st .rows) (q .operations) in
-    record { answer = WrongLength; applies = not (lengthsGood area fresh records text) }
-    ∷ record { answer = Disordered; applies = not (isSome (storeOf area)) }
-    ∷ record { answer = BadSchema; applies = not (isSome (readSchema (st .schema))) }
-    ∷ record { answer = BadRequest; applies = not (isSome (readRequest request)) }
-    ∷ record { answer = OtherDatabase; applies = not (eqBytes (q .name) (d .name)) }
-    ∷ record { answer = BadFreshIds; applies = not (idsGood (freshIds fresh) (st .rows)) }
-    ∷ record { answer = AnswerTooLong; applies = not (leb (length (t .text)) (length text)) }
-    ∷ record { answer = NumbersSpent; applies = not (leb (st .number + length (changesOf (d .tables) (st .rows) t)) lastNumber) }
-    ∷ []
+    Ends (markNumber area out) (c .answer) area area (record { lent = out; written = encode (mark (st .run) (st .number)); left = c .mark } ∷ [])
 
-abbrev pub startConditions : ℕ → List ℕ → List ℕ → List Condition
-startConditions bytes area schema =
-    record { answer = WrongLength; applies = not (eqb (length area) bytes) }
-    ∷ record { answer = BadSchema; applies = not (isSome (readSchema schema)) }
-    ∷ []
+abbrev pub HearEnds : List ℕ → List ℕ → Type 0
+HearEnds area x = let c = mirrorHear area x in Ends (hearNumber area x) (c .answer) area (c .area) []
 
-abbrev pub markConditions : List ℕ → List ℕ → List Condition
-markConditions area out =
-    record { answer = WrongLength; applies = not (every (eqb (length area) storeBytes ∷ leb leastMark (length out) ∷ [])) }
-    ∷ record { answer = Disordered; applies = not (isSome (storeOf area)) }
-    ∷ []
+-- a refused question tells nothing
+abbrev pub ProgressEnds : List ℕ → Type 0
+ProgressEnds area =
+    let c = mirrorProgress area in
+    Ends (askNumber area) (c .answer) area area [] × (isRefusal (c .answer) ≡ true → (c .n ≡ 0) × (c .level ≡ false))
 
--- refusal 8 of a mirror, but for what the record's form says; refusal 9
-abbrev pub badRecord : Schema → Mirror → Option Record → Bool
-badRecord s m none = true
-badRecord s m (some (numbered u k e)) = bad s m k e
-badRecord s m (some (mark u k)) = false
+abbrev pub HasRowEnds : List ℕ → ℕ → List ℕ → Type 0
+HasRowEnds area t id =
+    let c = mirrorHasRow area t id in
+    Ends (askNumber area) (c .answer) area area [] × (isRefusal (c .answer) ≡ true → c .there ≡ false)
 
-abbrev pub runIn : Option Record → ℕ
-runIn none = 0
-runIn (some (numbered u k e)) = u
-runIn (some (mark u k)) = u
+abbrev pub ColumnEnds : List ℕ → ℕ → List ℕ → ℕ → List ℕ → Type 0
+ColumnEnds area t id column out =
+    let c = mirrorColumn area t id column out in
+    Ends (columnNumber area out) (c .answer) area area (record { lent = out; written = columnAnswer (mirrorOr (mirrorOf area) .mirror) t (value id) column; left = c .out } ∷ [])
 
-abbrev pub hearConditions : List ℕ → List ℕ → List Condition
-hearConditions area x =
-    let m = mirrorOr (mirrorOf area) in
-    record { answer = WrongLength; applies = not (eqb (length area) mirrorBytes) }
-    ∷ record { answer = Disordered; applies = not (isSome (mirrorOf area)) }
-    ∷ record { answer = BadRecord; applies = badRecord (tablesIn (m .schema)) (m .mirror) (decode x) }
-    ∷ record { answer = OtherRun; applies = not (eqb (runIn (decode x)) (m .run)) }
-    ∷ []
+-- for all bytes; that they are below 256 is asked only where something rests on it
+pub record Demand1 : Type 0 where
+  pub storeStarts : (area schema : List ℕ) (run : ℕ) → StoreStartEnds area schema run
+  pub transacts : (area request fresh records text : List ℕ) → areBytes fresh ≡ true → TransactEnds area request fresh records text
+  pub marks : (area out : List ℕ) → MarkEnds area out
+  pub mirrorStarts : (area schema : List ℕ) (run : ℕ) → MirrorStartEnds area schema run
+  pub arrivals : (area x : List ℕ) → HearEnds area x
+  pub tellsProgress : (area : List ℕ) → ProgressEnds area
+  pub tellsRow : (area : List ℕ) (t : ℕ) (id : List ℕ) → HasRowEnds area t id
+  pub tellsColumn : (area : List ℕ) (t : ℕ) (id : List ℕ) (column : ℕ) (out : List ℕ) → ColumnEnds area t id column out
 
--- "It answers repeat to a record numbered n or less, behind to one above n+1, heard to a mark, and applied to record n+1"
-abbrev pub heardAs : ℕ → Option Record → Answer
-heardAs n none = BadRecord
-heardAs n (some (mark u k)) = Heard
-heardAs n (some (numbered u k e)) = if leb k n then Repeat else if eqb k (suc n) then Applied else Behind
+-- ── demand 2, of a transact on any bytes; good order is not assumed ──
+module _ (area request fresh records text : List ℕ) where
+  abbrev pub call : Transacted
+  call = storeTransact area request fresh records text
 
--- a question's refusals; `fits` is whether the output has its length
-abbrev pub askConditions : Bool → List ℕ → List Condition
-askConditions fits area =
-    record { answer = WrongLength; applies = not (eqb (length area) mirrorBytes && fits) }
-    ∷ record { answer = Disordered; applies = not (isSome (mirrorOf area)) }
-    ∷ []
+  -- "One commits exactly when every operation succeeds and at the end strong references, weak columns that may not be empty, indexes and row limits hold, and it isn't refused"
+  abbrev pub commits : Bool
+  commits = not (isRefusal (call .answer)) && succeeds area request fresh
 
--- ── demand 2 ──
--- "every operation succeeds and at the end strong references, weak columns that may not be empty, indexes and row limits hold"
-abbrev pub succeeds : Schema → List ℕ → List Row → Request → Bool
-succeeds s ids rows q =
-    let r = runAll s (namesOf ids (q .operations)) [] ids rows (q .operations) in
-    isFine (r .fault) && allFound s (r .rows) && allEnough s (settled s (r .rows)) && tablesGood 0 s (settled s (r .rows))
-
--- of a transact on a store: what the request does to its rows, and what the call gives
-module _ (st : Store) (request fresh : List ℕ) (room : ℕ) where
-  abbrev pub asks : Request
-  asks = requestOr (readRequest request)
-
-  abbrev pub does : Transacted
-  does = transactRows (databaseOf st .tables) (freshIds fresh) (st .rows) (asks .operations)
-
-  abbrev pub gives : Reply
-  gives = replyOf st request fresh room
-
-  pub record Demand2 : Type 0 where
-    -- "One commits exactly when every operation succeeds and at the end .. hold"
-    pub exactly : does .commits ≡ succeeds (databaseOf st .tables) (freshIds fresh) (st .rows) asks
-    -- "Answer, rows and records are then the ones laid down": what is not refused is what the rules make
-    pub laid : isRefusal (gives .answer) ≡ false → (gives .rows ≡ does .rows) × (gives .changes ≡ changesOf (databaseOf st .tables) (st .rows) does) × (gives .text ≡ does .text)
+  pub record Transacts : Type 0 where
+    -- "Answer, rows and records are then the ones laid down, byte for byte": the area is the encoding of the settled rows and of the number moved by the records
+    pub committed : commits ≡ true
+        → (call .area ≡ encodeStore (storeLaid area request fresh))
+        × (call .records ≡ recordsLaid area request fresh ++ replicate (length records - length (recordsLaid area request fresh)) 0)
     -- "Otherwise rows and number stay and no record is written"
-    pub stays : does .commits ≡ false → (gives .rows ≡ st .rows) × (gives .changes ≡ [])
-    pub refused : isRefusal (gives .answer) ≡ true → (gives .rows ≡ st .rows) × (gives .changes ≡ [])
+    pub stays : commits ≡ false → (call .area ≡ area) × (call .records ≡ zeroed records)
+    -- the answer, of a commit or of what failed
+    pub answered : isRefusal (call .answer) ≡ false → call .text ≡ textLaid area request fresh ++ replicate (length text - length (textLaid area request fresh)) 0
     -- rows change exactly when records are written
-    pub both : (gives .changes ≡ []) ↔ (gives .rows ≡ st .rows)
+    pub both : (storeOr (storeOf (call .area)) .rows ≡ storeOr (storeOf area) .rows) ↔ (call .records ≡ zeroed records)
+
+abbrev pub Demand2 : Type 0
+Demand2 = (area request fresh records text : List ℕ) → areBytes fresh ≡ true → Transacts area request fresh records text
 
 -- ── demand 3: one claim about a whole history and a whole list of arrivals ──
--- `area` and `shown` are the areas of a store and a mirror that were started with one schema and run
+-- what an arrival leaves, by its answer's number: "applied to record n+1, which acts on the rows and moves n by one" (103), "behind to one above n+1 (only the highest heard
+-- changes), heard to a mark (rows and n stay)" (101, 102), "repeat to a record numbered n or less (nothing changes)" (100), and nothing changes either where it is refused
+abbrev pub leftBy : Schema → ℕ → Mirror → Option Record → Mirror
+leftBy s answer m x = elim (eqb answer 103) [ true ↦ applies s m (changeOf x) | false ↦ elim (eqb answer 101 || eqb answer 102) [ true ↦ hears m (numberCarried x) | false ↦ m ] ]
+
+-- `area` is the area of a store that was started with this schema and run
 module _ (schema : List ℕ) (run : ℕ) (area : List ℕ) (calls : List StoreCall) where
+  -- "its rows are what records 1 to n make"
+  abbrev pub rowsAt : ℕ → List Row
+  rowsAt n = made (tablesIn schema) (take n (recordsOf area calls))
+
+  -- a mirror at number n that heard these numbers: "the highest heard is the largest number carried by these, 0 if none"
+  abbrev pub mirrorAt : ℕ → List ℕ → Mirror
+  mirrorAt n heard = record { rows = rowsAt n; n = n; top = highest heard; heard = something heard; whole = endsCommit (recordsOf area calls) n }
+
+  abbrev pub areaOf : Mirror → List ℕ
+  areaOf m = encodeMirror (record { run = run; schema = schema; mirror = m })
+
   -- of a mirror's area after arrivals by which it heard these numbers
   pub record Follows (shown : List ℕ) (heard : List ℕ) : Type 0 where
-    pub mirror : Mirror
-    -- it is in good order, and names n and level
-    pub state : mirrorOf shown ≡ some (record { run = run; schema = schema; mirror = mirror })
-    pub tells : mirrorProgress shown ≡ record { answer = Accepted; n = mirror .n; level = level mirror }
-    -- its rows are what records 1 to n make
-    pub within : mirror .n ≤ length (recordsOf area calls)
-    pub rows : mirror .rows ≡ made (tablesIn schema) (take (mirror .n) (recordsOf area calls))
+    pub n : ℕ
+    pub within : n ≤ length (recordsOf area calls)
+    -- its bytes are these, in good order: its rows are what records 1 to n make
+    pub bytes : shown ≡ areaOf (mirrorAt n heard)
+    pub state : mirrorOf shown ≡ some (record { run = run; schema = schema; mirror = mirrorAt n heard })
+    -- it names n, and says "level" exactly when it has heard something, n is the highest number heard, and n is 0 or ends a commit
+    pub tells : mirrorProgress shown ≡ record { answer = Accepted; n = n; level = something heard && eqb n (highest heard) && endsCommit (recordsOf area calls) n }
+    -- what it tells of rows and columns is told of those rows
+    pub tellsRow : (t : ℕ) (id : List ℕ) → mirrorHasRow shown t id ≡ record { answer = Accepted; there = has (keyOf t (value id)) (rowsAt n) }
+    pub tellsColumn : (t : ℕ) (id : List ℕ) (c : ℕ) (out : List ℕ) → length out ≡ columnBytes → mirrorColumn shown t id c out ≡ record { answer = Accepted; out = columnAnswer (mirrorAt n heard) t (value id) c }
+    -- whatever comes next: its answer by its conditions, and what that leaves
+    pub answers : (x : List ℕ) → numberOf (mirrorHear shown x .answer) ≡ given (recordConditions (tablesIn schema) run (mirrorAt n heard) (decode x)) (heardAs n (decode x))
+    pub leaves : (x : List ℕ) → mirrorHear shown x .area ≡ areaOf (leftBy (tablesIn schema) (numberOf (mirrorHear shown x .answer)) (mirrorAt n heard) (decode x))
     -- record n+1, when it comes, moves n by one
-    pub applies : mirror .n < length (recordsOf area calls) → mirrorHear shown (getD (recordsOf area calls) (mirror .n) []) .answer ≡ Applied
-    pub moves : mirror .n < length (recordsOf area calls)
-        → mirrorProgress (mirrorHear shown (getD (recordsOf area calls) (mirror .n) []) .area) .n ≡ suc (mirror .n)
+    pub moved : n < length (recordsOf area calls) → mirrorHear shown (getD (recordsOf area calls) n []) .answer ≡ Applied
+    pub moves : n < length (recordsOf area calls) → mirrorProgress (mirrorHear shown (getD (recordsOf area calls) n []) .area) .n ≡ suc n
     -- "the mirror refuses none of them"
     pub refusesNone : (x : List ℕ) → List·Memᴰ x (sentOf area calls) → isRefusal (mirrorHear shown x .answer) ≡ false
-    -- level exactly when something was heard, n is the highest number heard, and n is 0 or ends a commit
-    pub levels : level mirror ≡ (something heard && eqb (mirror .n) (highest heard) && endsCommit (recordsOf area calls) (mirror .n))
-    -- and then its rows are the store's after that commit: after each call that left the store at number n, and there is one
-    pub store : level mirror ≡ true → (j : ℕ) (st : Store) → storeOf (areaAfterAll area (take j calls)) ≡ some st → st .number ≡ mirror .n → mirror .rows ≡ st .rows
-    pub commit : level mirror ≡ true → (j : ℕ) × (st : Store) × (j ≤ length calls) × (storeOf (areaAfterAll area (take j calls)) ≡ some st) × (st .number ≡ mirror .n)
+    -- and where it is level its rows are the store's after that commit: after each call that left the store at number n, and there is one
+    pub store : mirrorProgress shown .level ≡ true → (j : ℕ) (st : Store) → storeOf (areaAfterAll area (take j calls)) ≡ some st → st .number ≡ n → rowsAt n ≡ st .rows
+    pub commit : mirrorProgress shown .level ≡ true → (j : ℕ) × (st : Store) × (j ≤ length calls) × (storeOf (areaAfterAll area (take j calls)) ≡ some st) × (st .number ≡ n)
 
   -- of the history itself: a started store is never out of good order; "Numbers run on from 1": record k carries the number k and the run, and is one laid down
   pub record Keeps : Type 0 where

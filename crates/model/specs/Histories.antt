@@ -12,7 +12,7 @@ use Rattle.model.specs.Schema.{Schema}
 use Rattle.model.specs.Rows.{Row}
 use Rattle.model.specs.Refusals.{isRefusal}
 use Rattle.model.specs.Records.{Change, end, acts, Record, numbered, mark, decode, pieces, endKind}
-use Rattle.model.specs.Mirror.{numberOf}
+use Rattle.model.specs.Mirror.{numberCarried}
 use Rattle.model.specs.Calls.{storeTransact, storeMark, mirrorHear}
 
 -- a call on a store: a transact with any bytes and buffers, or the asking for a mark
@@ -87,4 +87,4 @@ abbrev pub heardNumbers : List ℕ → List (List ℕ) → List ℕ
 heardNumbers m [] = []
 heardNumbers m (x ∷ xs) =
     let rest = heardNumbers (mirrorHear m x .area) xs in
-    elim (isRefusal (mirrorHear m x .answer)) [ true ↦ rest | false ↦ numberOf (decode x) ∷ rest ]
+    elim (isRefusal (mirrorHear m x .answer)) [ true ↦ rest | false ↦ numberCarried (decode x) ∷ rest ]

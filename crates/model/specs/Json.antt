@@ -45,8 +45,8 @@ unfoldable pub members : List Named → Members
 members [] = empty
 members (x ∷ xs) = member (x .name) (x .value) (members xs)
 
-abbrev pub failed : Read → Parsed Json
-failed r = record { read = r; tree = null }
+abbrev pub noValue : Read → Parsed Json
+noValue r = record { read = r; tree = null }
 
 -- a value that opens no level, by its first byte b. A number's tree is its text
 unfoldable pub scalarBy : List ℕ → ℕ → ℕ → Parsed Json
@@ -119,7 +119,7 @@ dispatch s array object at = elim (opens (byte s at)) [ Array ↦ array at | Obj
 
 -- a value after white space, in which so many more levels of arrays and objects may be opened
 unfoldable pub valueAt : ℕ → List ℕ → ℕ → Parsed Json
-valueAt zero s at = dispatch s (λ i. failed (Deep i)) (λ i. failed (Deep i)) (spacesAt s at)
+valueAt zero s at = dispatch s (λ i. noValue (Deep i)) (λ i. noValue (Deep i)) (spacesAt s at)
 valueAt (suc l) s at = dispatch s (λ i. arrayAt (valueAt l s) s (i + 1)) (λ i. objectAt (valueAt l s) s (i + 1)) (spacesAt s at)
 
 -- that nothing follows but white space up to j

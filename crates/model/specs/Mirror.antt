@@ -67,22 +67,11 @@ onRead s run m (some l) = onRecord s run m l
 abbrev pub step : Schema → ℕ → Mirror → List ℕ → Step
 step s run m x = onRead s run m (decode x)
 
--- a list of arrivals, each finding the mirror as the last one left it
-abbrev pub through : Schema → ℕ → Mirror → List (List ℕ) → Mirror
-through s run m [] = m
-through s run m (x ∷ xs) = through s run (step s run m x .next) xs
-
 -- "What a mirror doesn't refuse it has heard": the numbers carried by those
-abbrev pub numberOf : Option Record → ℕ
-numberOf none = 0
-numberOf (some (numbered u k e)) = k
-numberOf (some (mark u k)) = k
-
-abbrev pub heardOf : Schema → ℕ → Mirror → List (List ℕ) → List ℕ
-heardOf s run m [] = []
-heardOf s run m (x ∷ xs) =
-    if isRefusal (step s run m x .answer) then heardOf s run (step s run m x .next) xs
-    else numberOf (decode x) ∷ heardOf s run (step s run m x .next) xs
+abbrev pub numberCarried : Option Record → ℕ
+numberCarried none = 0
+numberCarried (some (numbered u k e)) = k
+numberCarried (some (mark u k)) = k
 
 -- "the highest heard is the largest number carried by these, 0 if none"
 abbrev pub highest : List ℕ → ℕ

@@ -16,7 +16,7 @@ use Rattle.model.specs.Value.{Value, elements, intOf, intAtom, sorted, v
 use Rattle.model.specs.Rows.{Row, columnValue, setColumn}
 use Rattle.model.specs.Faults.{Judged, isFine, earlier, check}
 use Rattle.model.specs.Written.{Names, insertFault, deleteFault, operandFault, written}
-use Rattle.model.specs.Conditions.{Triple, tripleIn, isInteger, firstInt, idColumn}
+use Rattle.model.specs.Conditions.{Triple, tripleIn, isIntegerBase, firstInt, idColumn}
 use Rattle.model.specs.declared.Fault.{Fault}
 use Rattle.model.specs.declared.Fault.the-variants.{Fine, Syntax, Resources, Constraint, Domain, Range}
 use Rattle.model.specs.declared.Mutator.{Mutator}
@@ -36,11 +36,11 @@ mutatorNamed w =
 
 -- "insert and delete on a scalar, and arithmetic on anything but integers, are a syntax error" (reading 32)
 abbrev pub suits : Column → Mutator → Bool
-suits c Add = isInteger (c .base)
-suits c Subtract = isInteger (c .base)
-suits c Multiply = isInteger (c .base)
-suits c Divide = isInteger (c .base)
-suits c Remainder = isInteger (c .base)
+suits c Add = isIntegerBase (c .base)
+suits c Subtract = isIntegerBase (c .base)
+suits c Multiply = isIntegerBase (c .base)
+suits c Divide = isIntegerBase (c .base)
+suits c Remainder = isIntegerBase (c .base)
 suits c Insert = not (scalar c)
 suits c Delete = not (scalar c)
 
@@ -160,8 +160,8 @@ mutated c Remainder l xs = arithmetic c Remainder (firstInt l) xs
 mutated c Insert l xs = inserted c l xs
 mutated c Delete l xs = deleted c l xs
 
-abbrev pub step : Mutation → Row → Judged Row
-step m r =
+abbrev pub mutateOnce : Mutation → Row → Judged Row
+mutateOnce m r =
     let w = mutated (m .column) (m .mutator) (m .atoms) (elements (columnValue r (m .place))) in
     record { fault = w .fault; got = setColumn (m .place) (valueOf (w .got)) r }
 
@@ -169,5 +169,5 @@ step m r =
 abbrev pub steps : List Mutation → Row → Judged Row
 steps [] r = record { fault = Fine; got = r }
 steps (m ∷ ms) r =
-    let q = step m r in
+    let q = mutateOnce m r in
     elim (isFine (q .fault)) [ true ↦ steps ms (q .got) | false ↦ q ]

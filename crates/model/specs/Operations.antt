@@ -15,7 +15,7 @@ use Rattle.model.specs.SchemaText.{isId, only}
 use Rattle.model.specs.Value.{Value, sameValue, elements, allInLimits, sorted, valueOf, initial}
 use Rattle.model.specs.Rows.{Row, add, initials, columnValue}
 use Rattle.model.specs.Faults.{isFine, earlier, worst, check, Judged}
-use Rattle.model.specs.Written.{Names, stringIn, arrayIn, objectIn, find, rowFault, written}
+use Rattle.model.specs.Written.{Names, stringIn, arrayIn, objectIn, memberNamed, rowFault, written}
 use Rattle.model.specs.Conditions.{Test, readTests, matches}
 use Rattle.model.specs.Mutations.{Mutation, readMutations, steps}
 use Rattle.model.specs.Answers.{memberText, uuidText, valueText, braced, countText, insertText, rowsText}
@@ -25,7 +25,7 @@ use Rattle.model.specs.declared.Fault.the-variants.{Fine, Syntax, Resour
 -- ── members of an operation ──
 -- "missing, extra or mistyped member": a member read as what it must be, none where it is missing or mistyped
 abbrev pub memberAs : {A : Type 0} → (Json → Option A) → List ℕ → List Named → Option A
-memberAs read w ms = elim (find w ms) [ none ↦ none | some j ↦ read j ]
+memberAs read w ms = elim (memberNamed w ms) [ none ↦ none | some j ↦ read j ]
 
 abbrev pub tableIn : Schema → List Named → Option ℕ
 tableIn s ms = elim (memberAs stringIn (ascii "table") ms) [ none ↦ none | some w ↦ tableNamed s w ]
@@ -49,7 +49,7 @@ columnWritten names absent named c (some j) =
 abbrev pub columnsWritten : Names → (Column → Fault) → (Column → Fault) → List Column → List Named → Judged (List (Option Value))
 columnsWritten names absent named [] ms = record { fault = Fine; got = [] }
 columnsWritten names absent named (c ∷ cs) ms =
-    let v = columnWritten names absent named c (find (c .name) ms) in
+    let v = columnWritten names absent named c (memberNamed (c .name) ms) in
     let vs = columnsWritten names absent named cs ms in
     record { fault = earlier (v .fault) (vs .fault); got = v .got ∷ vs .got }
 
@@ -105,7 +105,7 @@ runInsert names earlierNames i rows ms t cs =
           (check (only (ascii "op" ∷ ascii "table" ∷ ascii "row" ∷ ascii "uuid-name" ∷ []) ms) Syntax Fine
           ∷ r .fault
           ∷ check (ltb (length rows) mostRows) Resources Fine
-          ∷ nameFault earlierNames (find (ascii "uuid-name") ms)
+          ∷ nameFault earlierNames (memberNamed (ascii "uuid-name") ms)
           ∷ []);
       rows = add (record { table = t; id = i; columns = assigned (r .got) (map initial cs) }) rows;
       answer = insertText i;
@@ -162,13 +162,13 @@ firsts same before (r ∷ rs) = elim (any (same r) before) [ true ↦ firsts sam
 abbrev pub runSelect : Names → List Row → List Named → ℕ → List Column → Done
 runSelect names rows ms t cs =
     let w = readWhere names cs ms in
-    let show = shows (find (ascii "columns") ms) in
+    let show = shows (memberNamed (ascii "columns") ms) in
     record {
       fault =
           worst
           (check (only (ascii "op" ∷ ascii "table" ∷ ascii "where" ∷ ascii "columns" ∷ []) ms) Syntax Fine
           ∷ w .fault
-          ∷ columnsFault cs (find (ascii "columns") ms)
+          ∷ columnsFault cs (memberNamed (ascii "columns") ms)
           ∷ []);
       rows = rows;
       answer = rowsText (map (rowText show cs) (firsts (sameShown show cs) [] (keep (matches t (w .got)) rows)));

@@ -9,7 +9,7 @@ use Rattle.model.specs.Octets.{eqBytes}
 use Rattle.model.specs.Limits.{lastNumber}
 use Rattle.model.specs.Schema.{Schema, Database}
 use Rattle.model.specs.Rows.{Row}
-use Rattle.model.specs.Transact.{Request, readRequest, freshIds, idsGood, Transacted, transactRows}
+use Rattle.model.specs.Transact.{Request, readRequest, freshIds, idsGood, Transaction, transactRows}
 use Rattle.model.specs.Records.{Change, diff}
 use Rattle.model.specs.declared.Answer.{Answer}
 use Rattle.model.specs.declared.Answer.the-variants.{Accepted, BadRequest, OtherDatabase, BadFreshIds, AnswerTooLong, NumbersSpent}
@@ -25,11 +25,11 @@ abbrev pub refused : Answer → List Row → Reply
 refused a rows = record { answer = a; rows = rows; changes = []; text = [] }
 
 -- "Otherwise rows and number stay and no record is written"
-abbrev pub changesOf : Schema → List Row → Transacted → List Change
+abbrev pub changesOf : Schema → List Row → Transaction → List Change
 changesOf s rows t = elim (t .commits) [ true ↦ diff s rows (t .rows) | false ↦ [] ]
 
 -- refusal 10: "the commit's records would pass the last record number"
-abbrev pub numbered : ℕ → List Row → Transacted → List Change → Reply
+abbrev pub numbered : ℕ → List Row → Transaction → List Change → Reply
 numbered number rows t es =
     elim (leb (number + length es) lastNumber) [
       | true ↦ record { answer = Accepted; rows = t .rows; changes = es; text = t .text }
@@ -37,7 +37,7 @@ numbered number rows t es =
     ]
 
 -- refusal 7: "the full result text is longer than the answer buffer"
-abbrev pub told : Schema → ℕ → List Row → ℕ → Transacted → Reply
+abbrev pub told : Schema → ℕ → List Row → ℕ → Transaction → Reply
 told s number rows room t =
     elim (leb (length (t .text)) room) [ true ↦ numbered number rows t (changesOf s rows t) | false ↦ refused AnswerTooLong rows ]
 

@@ -11,10 +11,6 @@ use Rattle.model.specs.Base.{any, placeOf, nth}
 pub data Base : Type 0 where
   integer boolean text uuid : Base
 
--- the base types by the numbers that the code has for them
-unfoldable pub baseOf : ℕ → Base
-baseOf k = elim (eqb k 0) [ true ↦ integer | false ↦ elim (eqb k 1) [ true ↦ boolean | false ↦ elim (eqb k 2) [ true ↦ text | false ↦ uuid ] ] ]
-
 -- "refTable, refType (strong unless said)": the table that a uuid refers to
 pub data Refers : Type 0 where
   plain : Refers
@@ -51,9 +47,6 @@ abbrev pub columnsOf : Schema → ℕ → List Column
 columnsOf [] t = []
 columnsOf (x ∷ s) zero = x .columns
 columnsOf (x ∷ s) (suc t) = columnsOf s t
-
-abbrev pub columnAt : Schema → ℕ → ℕ → Option Column
-columnAt s t c = nth (columnsOf s t) c
 
 -- "min 1 max 1 is a scalar however spelled; min 0 max 1 is a set" (reading 12)
 abbrev pub scalar : Column → Bool

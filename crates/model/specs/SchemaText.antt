@@ -14,9 +14,9 @@ use Rattle.model.specs.Base.{all, every, member, placeOf, ascii}
 use Rattle.model.specs.Limits.{mostSchemaBytes, mostTables, mostColumns, mostElements, mostTextBytes, mostIndexes, mostIndexColumns}
 use Rattle.model.specs.Scan.{isDigit}
 use Rattle.model.specs.Json.{Json, null, bool, num, str, arr, obj, Named, textAt}
-use Rattle.model.specs.Nav.{kindOf, isText, isArray, isObject, isTruth, isEnd, itemsIn, textIn}
-use Rattle.model.specs.Members.{membersIn, has, valueOf, counting}
-use Rattle.model.specs.Whole.{wholeOf, isWhole, intOf}
+use Rattle.model.specs.Nav.{kindOf, isText, isArray, isObject, isTruth, isRead, itemsIn, textIn}
+use Rattle.model.specs.Members.{membersIn, hasMember, memberValue, counting}
+use Rattle.model.specs.Whole.{wholeOf, isWhole, wholeInt}
 use Rattle.model.specs.Text.{isWord}
 use Rattle.model.specs.Schema.{Base, integer, boolean, text, uuid, Refers, plain, strong, weak, Column, Table, Schema, Database}
 
@@ -36,10 +36,10 @@ only ws ms = all (λ (m : Named). member (m .name) ws) ms
 
 -- a member that has to be there, and one that may be; "mistyped" is what fails its test
 abbrev pub must : List ℕ → (Json → Bool) → List Named → Bool
-must w p ms = has w ms && p (valueOf w ms)
+must w p ms = hasMember w ms && p (memberValue w ms)
 
 abbrev pub may : List ℕ → (Json → Bool) → List Named → Bool
-may w p ms = not (has w ms) || p (valueOf w ms)
+may w p ms = not (hasMember w ms) || p (memberValue w ms)
 
 abbrev pub isBool : Json → Bool
 isBool j = isTruth (kindOf j)
@@ -73,8 +73,8 @@ abbrev pub names : List Named → List (List ℕ)
 names ms = map (λ (m : Named). m .name) ms
 
 -- the number of a name among others, from 0
-abbrev pub numberOf : List ℕ → List (List ℕ) → ℕ
-numberOf w ws = elim (placeOf w ws) [ none ↦ 0 | some k ↦ k ]
+abbrev pub placeOr : List ℕ → List (List ℕ) → ℕ
+placeOr w ws = elim (placeOf w ws) [ none ↦ 0 | some k ↦ k ]
 
 -- ── ids and versions ──
 unfoldable pub isLetter : ℕ → Bool
@@ -127,7 +127,7 @@ sameBase a b = eqb (baseNumber a) (baseNumber b)
 
 -- a limit that is a member, and the least or the greatest integer where it is none
 unfoldable pub limitOr : List ℕ → ℤ → List Named → ℤ
-limitOr w d ms = elim (has w ms) [ true ↦ intOf (wholeOf (valueOf w ms)) | false ↦ d ]
+limitOr w d ms = elim (hasMember w ms) [ true ↦ wholeInt (wholeOf (memberValue w ms)) | false ↦ d ]
 
 abbrev pub least : ℤ
 least = negsuc 9223372036854775807
@@ -163,23 +163,23 @@ keyTests tables base ms =
     ∷ leZ (lowOf base ms) (highOf base ms)
     ∷ may (ascii "refTable") (λ (j : Json). sameBase base uuid && isOneOf tables j) ms
     ∷ may (ascii "refType") (λ (j : Json). isWord (ascii "strong") j || isWord (ascii "weak") j) ms
-    ∷ (has (ascii "refTable") ms || not (has (ascii "refType") ms))
+    ∷ (hasMember (ascii "refTable") ms || not (hasMember (ascii "refType") ms))
     ∷ []
 
 abbrev pub keyMembers : Json → List Named
 keyMembers k = membersOr (ascii "type") k
 
 abbrev pub keyBase : List Named → Base
-keyBase ms = baseOf (valueOf (ascii "type") ms)
+keyBase ms = baseOf (memberValue (ascii "type") ms)
 
 unfoldable pub keyFits : List (List ℕ) → Json → Bool
 keyFits tables k = let ms = keyMembers k in every (keyTests tables (keyBase ms) ms)
 
 unfoldable pub refersOf : List (List ℕ) → List Named → Refers
 refersOf tables ms =
-    let t = numberOf (textIn (valueOf (ascii "refTable") ms)) tables in
-    elim (has (ascii "refTable") ms) [
-      | true ↦ elim (isWord (ascii "weak") (valueOf (ascii "refType") ms)) [ true ↦ weak t | false ↦ strong t ]
+    let t = placeOr (textIn (memberValue (ascii "refTable") ms)) tables in
+    elim (hasMember (ascii "refTable") ms) [
+      | true ↦ elim (isWord (ascii "weak") (memberValue (ascii "refType") ms)) [ true ↦ weak t | false ↦ strong t ]
       | false ↦ plain
     ]
 
@@ -188,10 +188,10 @@ unfoldable pub isMax : Json → Bool
 isMax j = isWithin 1 mostElements (wholeOf j) || isWord (ascii "unlimited") j
 
 abbrev pub minOf : List Named → ℕ
-minOf ms = elim (has (ascii "min") ms) [ true ↦ sizeOr 1 (wholeOf (valueOf (ascii "min") ms)) | false ↦ 1 ]
+minOf ms = elim (hasMember (ascii "min") ms) [ true ↦ sizeOr 1 (wholeOf (memberValue (ascii "min") ms)) | false ↦ 1 ]
 
 abbrev pub maxOf : List Named → ℕ
-maxOf ms = elim (has (ascii "max") ms) [ true ↦ sizeOr mostElements (wholeOf (valueOf (ascii "max") ms)) | false ↦ 1 ]
+maxOf ms = elim (hasMember (ascii "max") ms) [ true ↦ sizeOr mostElements (wholeOf (memberValue (ascii "max") ms)) | false ↦ 1 ]
 
 abbrev pub typeTests : List (List ℕ) → List Named → List Bool
 typeTests tables ms =
@@ -231,19 +231,19 @@ columnWith tables w ms ts ks =
       max = maxOf ts;
       low = lowOf (keyBase ks) ks;
       high = highOf (keyBase ks) ks;
-      mutable = truthOr true (valueOf (ascii "mutable") ms);
+      mutable = truthOr true (memberValue (ascii "mutable") ms);
     }
 
 unfoldable pub columnOf : List (List ℕ) → Named → Column
 columnOf tables m =
     let ms = membersIn (m .value) in
-    let ts = typeMembers (valueOf (ascii "type") ms) in
-    columnWith tables (m .name) ms ts (keyMembers (valueOf (ascii "key") ts))
+    let ts = typeMembers (memberValue (ascii "type") ms) in
+    columnWith tables (m .name) ms ts (keyMembers (memberValue (ascii "key") ts))
 
 -- ── tables: "A table has columns, maxRows (1 or more), isRoot, indexes" ──
 -- "numbered from 0 in text order, a repeated name at its last place"
 abbrev pub tableColumns : List Named → List Named
-tableColumns ms = counting (membersIn (valueOf (ascii "columns") ms))
+tableColumns ms = counting (membersIn (memberValue (ascii "columns") ms))
 
 -- what is inside an object of named parts: each name an id, at most so many, and each part that counts passes a test
 abbrev pub partsTests : ℕ → (List (List ℕ) → Json → Bool) → Json → List Bool
@@ -256,11 +256,11 @@ columnsFit tables j = every (partsTests mostColumns (λ (columns : List (List �
 
 -- "ephemeral (ignored, but such a column may not be in an index)"
 unfoldable pub isLasting : Json → Bool
-isLasting j = not (truthOr false (valueOf (ascii "ephemeral") (membersIn j)))
+isLasting j = not (truthOr false (memberValue (ascii "ephemeral") (membersIn j)))
 
 -- "an index column its table doesn't list" refuses; an index has 1 to 3 columns, a table at most 2 indexes
 unfoldable pub isIndexed : List Named → Json → Bool
-isIndexed columns j = isStringOf (λ (t : List ℕ). has t columns && isLasting (valueOf t columns)) j
+isIndexed columns j = isStringOf (λ (t : List ℕ). hasMember t columns && isLasting (memberValue t columns)) j
 
 abbrev pub indexTests : List Named → Json → List Bool
 indexTests columns j = let xs = itemsIn j in isArray (kindOf j) ∷ leb 1 (length xs) ∷ leb (length xs) mostIndexColumns ∷ all (isIndexed columns) xs ∷ []
@@ -280,7 +280,7 @@ tableTests tables ms =
     ∷ must (ascii "columns") (columnsFit tables) ms
     ∷ may (ascii "maxRows") (λ (j : Json). isWithin 1 9223372036854775807 (wholeOf j)) ms
     ∷ may (ascii "isRoot") isBool ms
-    ∷ may (ascii "indexes") (indexesFit (membersIn (valueOf (ascii "columns") ms))) ms
+    ∷ may (ascii "indexes") (indexesFit (membersIn (memberValue (ascii "columns") ms))) ms
     ∷ []
 
 unfoldable pub tableFits : List (List ℕ) → Json → Bool
@@ -288,10 +288,10 @@ tableFits tables j = every (tableTests tables (membersIn j))
 
 -- an index as the numbers of its columns
 abbrev pub indexOf : List (List ℕ) → Json → List ℕ
-indexOf columns j = map (λ (x : Json). numberOf (textIn x) columns) (itemsIn j)
+indexOf columns j = map (λ (x : Json). placeOr (textIn x) columns) (itemsIn j)
 
 abbrev pub maxRowsOf : List Named → Option ℕ
-maxRowsOf ms = elim (has (ascii "maxRows") ms) [ true ↦ some (sizeOr 0 (wholeOf (valueOf (ascii "maxRows") ms))) | false ↦ none ]
+maxRowsOf ms = elim (hasMember (ascii "maxRows") ms) [ true ↦ some (sizeOr 0 (wholeOf (memberValue (ascii "maxRows") ms))) | false ↦ none ]
 
 unfoldable pub tableOf : List (List ℕ) → Named → Table
 tableOf tables m =
@@ -299,9 +299,9 @@ tableOf tables m =
     record {
       name = m .name;
       columns = map (columnOf tables) (tableColumns ms);
-      root = truthOr false (valueOf (ascii "isRoot") ms);
+      root = truthOr false (memberValue (ascii "isRoot") ms);
       maxRows = maxRowsOf ms;
-      indexes = map (indexOf (names (tableColumns ms))) (itemsIn (valueOf (ascii "indexes") ms));
+      indexes = map (indexOf (names (tableColumns ms))) (itemsIn (memberValue (ascii "indexes") ms));
     }
 
 -- ── the schema: "needs name, version (digits, dot, digits, dot, digits) and tables; "cksum" is ignored" ──
@@ -321,12 +321,12 @@ unfoldable pub schemaFits : Json → Bool
 schemaFits j = every (schemaTests (membersIn j))
 
 abbrev pub schemaTables : Json → List Named
-schemaTables j = counting (membersIn (valueOf (ascii "tables") (membersIn j)))
+schemaTables j = counting (membersIn (memberValue (ascii "tables") (membersIn j)))
 
 unfoldable pub databaseOf : Json → Database
 databaseOf j =
     record {
-      name = textIn (valueOf (ascii "name") (membersIn j));
+      name = textIn (memberValue (ascii "name") (membersIn j));
       tables = map (tableOf (names (schemaTables j))) (schemaTables j);
     }
 
@@ -337,6 +337,6 @@ schemaOf j = elim (schemaFits j) [ true ↦ some (databaseOf j) | false ↦ none
 unfoldable pub readSchema : List ℕ → Option Database
 readSchema s =
     elim (leb (length s) mostSchemaBytes) [
-      | true ↦ elim (isEnd (textAt s .read)) [ true ↦ schemaOf (textAt s .tree) | false ↦ none ]
+      | true ↦ elim (isRead (textAt s .read)) [ true ↦ schemaOf (textAt s .tree) | false ↦ none ]
       | false ↦ none
     ]

@@ -10,12 +10,12 @@ use Rattle.model.specs.Base.{if_then_else_, any, all, isSome, ascii}
 use Rattle.model.specs.Limits.{mostRequestBytes, mostOperations}
 use Rattle.model.specs.Scan.{Parsed}
 use Rattle.model.specs.Json.{Json, Named, textAt}
-use Rattle.model.specs.Nav.{isEnd}
+use Rattle.model.specs.Nav.{isRead}
 use Rattle.model.specs.Text.{isWord}
 use Rattle.model.specs.Schema.{Schema}
 use Rattle.model.specs.Rows.{Row, hasId}
 use Rattle.model.specs.Faults.{isFine}
-use Rattle.model.specs.Written.{Names, stringIn, arrayIn, objectIn, find}
+use Rattle.model.specs.Written.{Names, stringIn, arrayIn, objectIn, memberNamed}
 use Rattle.model.specs.Operations.{memberAs, Done, operate}
 use Rattle.model.specs.Commit.{commit}
 use Rattle.model.specs.Answers.{bracketed, errorText}
@@ -42,7 +42,7 @@ requestItems (j ∷ js) = requestBy (stringIn j) (objectsIn js)
 
 -- refusal 4: "too long, too deep, not JSON, not an array that starts with a string, has over 16 operations, or one that isn't an object": none
 abbrev pub requestTree : Parsed Json → Option Request
-requestTree q = elim (isEnd (q .read)) [ true ↦ elim (arrayIn (q .tree)) [ none ↦ none | some l ↦ requestItems l ] | false ↦ none ]
+requestTree q = elim (isRead (q .read)) [ true ↦ elim (arrayIn (q .tree)) [ none ↦ none | some l ↦ requestItems l ] | false ↦ none ]
 
 unfoldable pub readRequest : List ℕ → Option Request
 readRequest t = elim (leb (length t) mostRequestBytes) [ true ↦ requestTree (textAt t) | false ↦ none ]
@@ -98,13 +98,13 @@ runAll s names given ids rows (o ∷ os) =
     ]
 
 -- ── the whole: whether it commits, the rows after it, and the answer's text ──
-pub record Transacted : Type 0 where
+pub record Transaction : Type 0 where
   pub commits : Bool
   pub rows : List Row
   pub text : List ℕ
 
 -- "A failed commit adds one such error object after the operations' results"
-abbrev pub atCommit : Schema → List Row → Ran → Transacted
+abbrev pub atCommit : Schema → List Row → Ran → Transaction
 atCommit s before r =
     let c = commit s (r .rows) in
     elim (isFine (c .fault)) [
@@ -112,7 +112,7 @@ atCommit s before r =
       | false ↦ record { commits = false; rows = before; text = bracketed (r .results ++ errorText (c .fault) ∷ []) }
     ]
 
-abbrev pub transactRows : Schema → List ℕ → List Row → List (List Named) → Transacted
+abbrev pub transactRows : Schema → List ℕ → List Row → List (List Named) → Transaction
 transactRows s ids rows os =
     let r = runAll s (namesOf ids os) [] ids rows os in
     elim (isFine (r .fault)) [

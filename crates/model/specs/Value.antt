@@ -2,6 +2,7 @@
 use Prim.Native.Nat.{ℕ, zero, suc, _+_, _-_, _*_, _^_, _<_}
 use mathlib.Core.Bool.{Bool, true, false, not, _&&_, _||_}
 use mathlib.Core.List.{List, [], _∷_, _++_, map}
+use mathlib.Core.Option.{none, some}
 use lib.Dec.{eqb, ltb, leb}
 use lib.IntN.{ℤ, pos, negsuc}
 use lib.Signed.{ltZ, leZ}
@@ -9,7 +10,7 @@ use lib.ListN.{length, getD, take, drop, replicate}
 use Rattle.model.specs.Octets.{big, value, twos, ltBytes}
 use Rattle.model.specs.Base.{if_then_else_, eqLists, all, keep, member, every}
 use Rattle.model.specs.Limits.{mostElements, mostTextBytes, atomBytes}
-use Rattle.model.specs.Strings.{secondLow, secondHigh}
+use Rattle.model.specs.Strings.{Range, inRange, forms, restOf}
 use Rattle.model.specs.Text.{chars}
 use Rattle.model.specs.Schema.{Base, integer, boolean, text, uuid, Column, scalar}
 
@@ -62,31 +63,15 @@ abbrev pub textAtom : List ℕ → List ℕ
 textAtom t = pad (length t ∷ t)
 
 -- ── text ──
--- UTF-8 without 00 (RFC 3629, and document 01, "strings UTF-8 without 00"): k more bytes of a character are due, the next of them from low to high
-abbrev pub utf8From : ℕ → ℕ → ℕ → List ℕ → Bool
-utf8From zero low high [] = true
-utf8From (suc k) low high [] = false
-utf8From zero low high (b ∷ bs) =
-    elim (eqb b 0) [
-      | true ↦ false
-      | false ↦ elim (ltb b 128) [
-        | true ↦ utf8From 0 0 0 bs
-        | false ↦ elim (ltb b 194) [
-          | true ↦ false
-          | false ↦ elim (ltb b 224) [
-            | true ↦ utf8From 1 (secondLow b) (secondHigh b) bs
-            | false ↦ elim (ltb b 240) [
-              | true ↦ utf8From 2 (secondLow b) (secondHigh b) bs
-              | false ↦ elim (ltb b 245) [ true ↦ utf8From 3 (secondLow b) (secondHigh b) bs | false ↦ false ]
-            ]
-          ]
-        ]
-      ]
-    ]
-utf8From (suc k) low high (b ∷ bs) = leb low b && leb b high && utf8From k 128 191 bs
+-- UTF-8 without 00 (RFC 3629 §4, and document 01, "strings UTF-8 without 00"): bytes in the ranges that are due, and then characters
+abbrev pub utf8From : List Range → List ℕ → Bool
+utf8From [] [] = true
+utf8From (x ∷ xs) [] = false
+utf8From [] (b ∷ bs) = elim (eqb b 0) [ true ↦ false | false ↦ elim (restOf b forms) [ none ↦ false | some xs ↦ utf8From xs bs ] ]
+utf8From (x ∷ xs) (b ∷ bs) = inRange x b && utf8From xs bs
 
 unfoldable pub isUtf8 : List ℕ → Bool
-isUtf8 t = utf8From 0 0 0 t
+isUtf8 t = utf8From [] t
 
 -- ── order: "numbers, false before true, ids and texts by bytes, a prefix first" ──
 abbrev pub lessAtom : Base → List ℕ → List ℕ → Bool

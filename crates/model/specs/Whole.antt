@@ -45,7 +45,7 @@ isWhole (Minus m) = true
 isWhole Other = false
 
 -- its number
-unfoldable pub intOf : Whole → ℤ
-intOf (Plus m) = pos m
-intOf (Minus m) = negℤ (pos m)
-intOf Other = pos 0
+unfoldable pub wholeInt : Whole → ℤ
+wholeInt (Plus m) = pos m
+wholeInt (Minus m) = negℤ (pos m)
+wholeInt Other = pos 0

@@ -10,9 +10,9 @@ use Rattle.model.specs.Limits.{mostElements, mostTextBytes}
 use Rattle.model.specs.Strings.{hexOf}
 use Rattle.model.specs.Json.{Json, null, bool, num, str, arr, obj, Named}
 use Rattle.model.specs.Nav.{listOf}
-use Rattle.model.specs.Members.{namedOf, has, valueOf}
+use Rattle.model.specs.Members.{namedOf, hasMember, memberValue}
 use Rattle.model.specs.Text.{isWord}
-use Rattle.model.specs.Whole.{wholeOf, isWhole, intOf}
+use Rattle.model.specs.Whole.{wholeOf, isWhole, wholeInt}
 use Rattle.model.specs.Schema.{Base, integer, boolean, text, uuid, Column, scalar}
 use Rattle.model.specs.Value.{intAtom, boolAtom, textAtom, uuidAtom, allInLimits, countInLimits}
 use Rattle.model.specs.Faults.{check, Judged}
@@ -47,8 +47,8 @@ objectIn (arr xs) = none
 objectIn (obj ms) = some (namedOf ms)
 
 -- the member of a name, the last one where it is given twice
-abbrev pub find : List ℕ → List Named → Option Json
-find w ms = elim (has w ms) [ true ↦ some (valueOf w ms) | false ↦ none ]
+abbrev pub memberNamed : List ℕ → List Named → Option Json
+memberNamed w ms = elim (hasMember w ms) [ true ↦ some (memberValue w ms) | false ↦ none ]
 
 -- ── elements: "one element is written bare (read either way, scalars too), others as ["set",[..]]" ──
 abbrev pub elementsOf : Json → List Json → List Json
@@ -101,7 +101,7 @@ boolIn (arr xs) = none
 boolIn (obj ms) = none
 
 abbrev pub atomIn : Names → Base → Json → Option (List ℕ)
-atomIn names integer j = elim (isWhole (wholeOf j)) [ true ↦ some (intAtom (intOf (wholeOf j))) | false ↦ none ]
+atomIn names integer j = elim (isWhole (wholeOf j)) [ true ↦ some (intAtom (wholeInt (wholeOf j))) | false ↦ none ]
 atomIn names boolean j = elim (boolIn j) [ none ↦ none | some b ↦ some (boolAtom b) ]
 atomIn names text j = elim (stringIn j) [ none ↦ none | some t ↦ some (textAtom t) ]
 atomIn names uuid j = elim (uuidIn names j) [ none ↦ none | some i ↦ some (uuidAtom i) ]

@@ -20,19 +20,6 @@ pub enum Open {
     Scalar,
 }
 
-// Hexadecimal digits read so far: the next position and their number; or the position of a byte that is none.
-pub enum Hex {
-    Unit16(usize, u32),
-    Bad(usize),
-}
-
-// What a 16-bit unit is: a character, the first half of a pair, or one that is refused.
-pub enum Half {
-    Whole,
-    High,
-    Refused,
-}
-
 // A position, or none.
 pub enum Found {
     At(usize),

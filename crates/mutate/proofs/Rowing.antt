@@ -13,15 +13,15 @@ use Rattle.model.specs.Rows.{Row, columnValue, setColumn}
 use Rattle.model.specs.Faults.{isFine, Judged}
 use Rattle.model.specs.Written.{Names}
 use Rattle.model.specs.Areas.{rowFrom}
-use Rattle.model.specs.Working.{tableIn, valueIn, TidyRow}
-use Rattle.model.specs.Mutations.{Mutation, noMutation, suits, step, steps}
-use Rattle.model.specs.Packed.{columnFrom}
+use Rattle.inner.specs.Working.{tableIn, valueIn, TidyRow}
+use Rattle.model.specs.Mutations.{Mutation, noMutation, suits, mutateOnce, steps}
+use Rattle.inner.specs.Packed.{columnFrom}
 use Rattle.model.specs.declared.Fault.{Fault}
 use Rattle.model.specs.declared.Fault.the-variants.{Fine}
 use Rattle.model.specs.declared.Mutator.{Mutator}
 use Rattle.model.proofs.Tests.{clash}
-use Rattle.model.proofs.Working.{row-table}
-use Rattle.model.proofs.Columns.{column-value}
+use Rattle.inner.proofs.Working.{row-table}
+use Rattle.inner.proofs.Columns.{column-value}
 use Rattle.lookup.specs.Lookup.{columnIn}
 use Rattle.mutation_step.specs.Steps.{elementsOf, operandOf, mutatedOn, Stepped}
 use Rattle.mutations.specs.Mutating.{mutationAs}
@@ -78,12 +78,12 @@ module _ (names : Names) (cells : List (List ℕ)) (a v : Json) (o : Option Muta
 -- ── one after another ──
 module _ (m : Mutation) (ms : List Mutation) (r : Row) where
   abbrev after : Bool → Judged Row
-  after b = elim b [ true ↦ steps ms (step m r .got) | false ↦ step m r ]
+  after b = elim b [ true ↦ steps ms (mutateOnce m r .got) | false ↦ mutateOnce m r ]
 
-  steps-on : isFine (step m r .fault) ≡ true → steps (m ∷ ms) r ≡ steps ms (step m r .got)
+  steps-on : isFine (mutateOnce m r .fault) ≡ true → steps (m ∷ ms) r ≡ steps ms (mutateOnce m r .got)
   steps-on e = ap after e
 
-  steps-stop : isFine (step m r .fault) ≡ false → steps (m ∷ ms) r ≡ step m r
+  steps-stop : isFine (mutateOnce m r .fault) ≡ false → steps (m ∷ ms) r ≡ mutateOnce m r
   steps-stop e = ap after e
 
 module _ (cs : List Column) (entry : List (List ℕ)) where

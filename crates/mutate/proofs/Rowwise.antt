@@ -14,15 +14,15 @@ use Rattle.model.specs.Schema.{Column, Schema, columnsOf}
 use Rattle.model.specs.Rows.{Row}
 use Rattle.model.specs.Faults.{isFine, Judged}
 use Rattle.model.specs.Areas.{rowFrom}
-use Rattle.model.specs.Working.{working, tableIn, Tidy}
+use Rattle.inner.specs.Working.{working, tableIn, Tidy}
 use Rattle.model.specs.Conditions.{Test, holds, matches}
 use Rattle.model.specs.Mutations.{Mutation, steps}
 use Rattle.model.specs.Operations.{mutateRow, mutateRows}
 use Rattle.model.specs.declared.Fault.{Fault}
 use Rattle.model.specs.declared.Fault.the-variants.{Fine}
 use Rattle.model.proofs.Tests.{clash, and-l}
-use Rattle.model.proofs.Working.{row-table, working-length, working-at, working-end}
-use Rattle.model.proofs.Places.{working-set, tidy-set, tidy-at}
+use Rattle.inner.proofs.Working.{row-table, working-length, working-at, working-end}
+use Rattle.inner.proofs.Places.{working-set, tidy-set, tidy-at}
 use Rattle.mutate.specs.Rows.{RowMutated, Mutated}
 
 none-row : Row

@@ -7,16 +7,16 @@ use lib.ListN.{take}
 use Rattle.model.specs.Schema.{Column, Schema, columnsOf}
 use Rattle.model.specs.Faults.{isFine}
 use Rattle.model.specs.Areas.{rowFrom}
-use Rattle.model.specs.Working.{working, tableIn, TidyRow, Tidy}
+use Rattle.inner.specs.Working.{working, tableIn, TidyRow, Tidy}
 use Rattle.model.specs.Conditions.{Test, matches}
-use Rattle.model.specs.Mutations.{Mutation, step, steps}
+use Rattle.model.specs.Mutations.{Mutation, mutateOnce, steps}
 use Rattle.model.specs.Operations.{mutateRows}
 use Rattle.model.specs.declared.Fault.{Fault}
 
 -- a row of a table with the columns cs after one mutation, and after some
 pub record RowStepped (cs : List Column) (m : Mutation) (r : Fault) (entry exit : List (List ℕ)) : Type 0 where
-  pub fault : (s : Schema) → columnsOf s (tableIn entry) ≡ cs → r ≡ step m (rowFrom s entry) .fault
-  pub row : (s : Schema) → columnsOf s (tableIn entry) ≡ cs → isFine r ≡ true → rowFrom s exit ≡ step m (rowFrom s entry) .got
+  pub fault : (s : Schema) → columnsOf s (tableIn entry) ≡ cs → r ≡ mutateOnce m (rowFrom s entry) .fault
+  pub row : (s : Schema) → columnsOf s (tableIn entry) ≡ cs → isFine r ≡ true → rowFrom s exit ≡ mutateOnce m (rowFrom s entry) .got
   pub tidy : (s : Schema) → columnsOf s (tableIn entry) ≡ cs → TidyRow s entry → TidyRow s exit
 
 pub record RowMutated (cs : List Column) (ms : List Mutation) (r : Fault) (entry exit : List (List ℕ)) : Type 0 where

@@ -9,7 +9,8 @@ use lib.IntN.{ℤ, pos, negsuc}
 use lib.ListN.{length, getD, take, drop, set, length-map, length-append, length-drop, drop-of-length-le}
 use lib.Seq.{take-suc, drop-cons, set-at, take-at, take-all, length-take-le}
 use Rattle.model.specs.Base.{all, distinct}
-use Rattle.model.specs.Schema.{Column, integer, baseOf}
+use Rattle.model.specs.Schema.{Column, integer}
+use Rattle.inner.specs.Packed.{baseNumbered}
 use Rattle.model.specs.Value.{intOf, intAtom, sorted, valueOf, allInLimits}
 use Rattle.model.specs.Faults.{isFine, check}
 use Rattle.model.specs.Mutations.{exact, divides, isZero, in64, isEmpty, results}
@@ -215,9 +216,9 @@ module _ (c : Column) (m : Mutator) (b : ℤ) (xs : List (List ℕ)) where
       reckon-no e = record { fault = ap (λ (t : Bool). check t Constraint Fine) (sym e) ∙ judged; atoms = λ z. absurd (clash false z refl) }
 
   -- ── the value that is left ──
-  pub arithmetic-value : (n : ℕ) (out a : List (List ℕ)) → n ≡ length xs → take n out ≡ resultAtoms m b xs → a ≡ valueOf (sorted (baseOf 0) (take n out)) .atoms
+  pub arithmetic-value : (n : ℕ) (out a : List (List ℕ)) → n ≡ length xs → take n out ≡ resultAtoms m b xs → a ≡ valueOf (sorted (baseNumbered 0) (take n out)) .atoms
       → record { count = n; atoms = a } ≡ valueOf (arithmeticOn c m b xs .got)
-  unfolding arithmeticOn resultAtoms baseOf
+  unfolding arithmeticOn resultAtoms baseNumbered
   arithmetic-value n out a e f g =
       let p : n ≡ length (sorted integer (resultAtoms m b xs)) = e ∙ sym (sorted-length integer (resultAtoms m b xs) ∙ results-length m b xs) in
       let q : a ≡ valueOf (sorted integer (resultAtoms m b xs)) .atoms = g ∙ ap (λ (l : List (List ℕ)). valueOf (sorted integer l) .atoms) f in

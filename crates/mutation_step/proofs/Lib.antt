@@ -1,3 +1,4 @@
 pub mod Calculating
 pub mod Uniting
+pub mod Deleting
 pub mod Stepping

@@ -1,13 +1,13 @@
 -- A column of a row after a mutation, and what each kind of mutation takes as written. Assumes nothing.
 use mathlib.Core.Path.{_≡_, refl, sym, ap, subst, _∙_}
 use mathlib.Core.Bool.{true, false}
-use mathlib.Core.List.{List, [], _∷_, _++_}
+use mathlib.Core.List.{List, [], _∷_}
 use mathlib.Core.Logic.{_⊎_, ⊎-elim}
-use Prim.Native.Nat.{ℕ, zero, suc, _-_, _≤_, _<_}
+use Prim.Native.Nat.{ℕ, _-_, _≤_, _<_}
 use native.Mathlib.Omega.{arith}
 use denote.Enum.Declared.{tagOf, declared}
 use borrow.Author.Tests.{lt-leb, le-leb}
-use lib.ListN.{length, take, drop, replicate}
+use lib.ListN.{length, take, replicate}
 use lib.Seq.{take-append-seam}
 use Rattle.model.proofs.Mutator.{enum}
 use Rattle.model.specs.Json.{Json}
@@ -17,7 +17,7 @@ use Rattle.model.specs.Rows.{setColumn}
 use Rattle.model.specs.Areas.{rowFrom}
 use Rattle.model.specs.Faults.{isFine, Judged}
 use Rattle.model.specs.Written.{Names, elementsIn, insertFault, deleteFault, operandFault, written}
-use Rattle.model.specs.Conditions.{isInteger, firstInt}
+use Rattle.model.specs.Conditions.{isIntegerBase, firstInt}
 use Rattle.model.specs.Mutations.{suits}
 use Rattle.model.specs.declared.Fault.{Fault}
 use Rattle.model.specs.declared.Fault.the-variants.{Fine, Resources, Constraint}
@@ -33,15 +33,6 @@ use Rattle.mutation_step.specs.Steps.{arithmeticOn, insertedOn, deletedO
 -- ── a value made ──
 pub value-is : (l a : List (List ℕ)) (n : ℕ) → n ≡ length l → a ≡ valueOf l .atoms → record { count = n; atoms = a } ≡ valueOf l
 value-is l a n p q = λ i. record { count = p i; atoms = q i }
-
-drop-same : {A : Type 0} (k n : ℕ) (a : A) → drop k (replicate n a) ≡ replicate (n - k) a
-drop-same zero n a = let e : n - 0 ≡ n = omega arith in rw e
-drop-same (suc k) zero a = let e : 0 - suc k ≡ 0 = omega arith in rw e
-drop-same (suc k) (suc n) a = let e : suc n - suc k ≡ n - k = omega arith in rw e (drop-same k n a)
-
--- what is put in front of four blanks
-pub front-value : (l a : List (List ℕ)) (n : ℕ) → n ≡ length l → a ≡ l ++ drop n (replicate 4 blank) → record { count = n; atoms = a } ≡ valueOf l
-front-value l a n p q = value-is l a n p (q ∙ ap (λ (r : List (List ℕ)). l ++ r) (drop-same n 4 blank ∙ ap (λ (m : ℕ). replicate (4 - m) blank) p))
 
 -- ── the row after it ──
 module _ (j : Judged (List (List ℕ))) (c : ℕ) (r : Fault) (entry exit : List (List ℕ)) (e : r ≡ j .fault) where
@@ -81,9 +72,9 @@ module _ (c : Column) (l xs : List (List ℕ)) (n : ℕ) (e : n ≡ length (with
   unfolding deletedOn
   delete-good h = rw (le-leb (c .min) (length (without l xs)) (omega arith))
 
-  pub delete-value : (a : List (List ℕ)) → a ≡ without l xs ++ drop n (replicate 4 blank) → record { count = n; atoms = a } ≡ valueOf (deletedOn c l xs .got)
+  pub delete-value : (a : List (List ℕ)) → a ≡ valueOf (without l xs) .atoms → record { count = n; atoms = a } ≡ valueOf (deletedOn c l xs .got)
   unfolding deletedOn
-  delete-value a f = front-value (without l xs) a n e f
+  delete-value a f = value-is (without l xs) a n e f
 
 -- ── what is written, by the mutator ──
 module _ (names : Names) (c : Column) (m : Mutator) (j : Json) (h : isFine (operandOf names c m j .fault) ≡ true) where
@@ -122,7 +113,7 @@ Five m =
 none-of : {P : Type 0} (t : ℕ) → 4 < t → (t ≡ 0) ⊎ ((t ≡ 1) ⊎ ((t ≡ 2) ⊎ ((t ≡ 3) ⊎ (t ≡ 4)))) → P
 none-of t g h = absurd (⊎-elim (λ x. omega (arith, x)) (λ k. ⊎-elim (λ x. omega (arith, x)) (λ l. ⊎-elim (λ x. omega (arith, x)) (λ n. ⊎-elim (λ x. omega (arith, x)) (λ x. omega (arith, x)) n) l) k) h)
 
-base-is : (b : Base) → isInteger b ≡ true → b ≡ integer
+base-is : (b : Base) → isIntegerBase b ≡ true → b ≡ integer
 base-is integer h = refl
 base-is boolean h = cc
 base-is text h = cc
@@ -137,7 +128,7 @@ five-base c Remainder k h = base-is (c .base) h
 five-base c Insert k h = none-of 5 (omega arith) k
 five-base c Delete k h = none-of 6 (omega arith) k
 
-pub five-suits : (c : Column) (m : Mutator) → Five m → suits c m ≡ isInteger (c .base)
+pub five-suits : (c : Column) (m : Mutator) → Five m → suits c m ≡ isIntegerBase (c .base)
 five-suits c Add k = refl
 five-suits c Subtract k = refl
 five-suits c Multiply k = refl

@@ -1,34 +1,16 @@
 -- A set with the elements of another, one after another, in four places. Assumes nothing.
 use mathlib.Core.Path.{_≡_, refl, sym, ap, _∙_}
 use mathlib.Core.List.{List, [], _∷_, _++_}
-use Prim.Native.Nat.{ℕ, zero, suc, _+_, _-_, _≤_, _<_}
-use native.Mathlib.Nat.{sub-zero}
+use Prim.Native.Nat.{ℕ, _+_, _-_, _≤_, _<_}
 use native.Mathlib.Numerals.{add-one}
 use native.Mathlib.Omega.{arith}
 use lib.ListN.{length, getD, take, drop, replicate, take-append-drop, length-append, length-replicate}
 use lib.Seq.{take-suc, take-all, take-append-seam, drop-append-seam, length-take-le}
 use Rattle.model.specs.Base.{if_then_else_, member}
 use Rattle.model.specs.Schema.{Base}
-use Rattle.model.specs.Value.{blank, placed, valueOf, union, without}
+use Rattle.model.specs.Value.{blank, placed, union, without}
 use Rattle.model.proofs.Sets.{union-length}
-
--- a list and what fills the four places
-abbrev pub padded : List (List ℕ) → List (List ℕ)
-padded l = valueOf l .atoms
-
-module _ {A : Type 0} (b : A) where
-  cut-same : (n j : ℕ) → n ≤ j → take n (replicate j b) ≡ replicate n b
-  cut-same zero zero h = refl
-  cut-same zero (suc j) h = refl
-  cut-same (suc n) zero h = absurd (omega arith)
-  cut-same (suc n) (suc j) h = ap (λ (r : List A). b ∷ r) (cut-same n j (omega arith))
-
-  cut-pad : (n j : ℕ) (p : List A) → length p ≤ n → n ≤ length p + j → take n (p ++ replicate j b) ≡ p ++ replicate (n - length p) b
-  cut-pad n j [] h g = rw (sub-zero n) (cut-same n j (omega arith))
-  cut-pad zero j (a ∷ p) h g = absurd (omega arith)
-  cut-pad (suc n) j (a ∷ p) h g =
-      let e : suc n - suc (length p) ≡ n - length p = omega arith in
-      rw e (ap (λ (r : List A). a ∷ r) (cut-pad n j p (omega arith) (omega arith)))
+use Rattle.value.proofs.Fours.{padded, cut-pad}
 
 pub padded-length : (l : List (List ℕ)) → length l ≤ 4 → length (padded l) ≡ 4
 padded-length l h = length-append l (replicate (4 - length l) blank) ∙ omega (arith, length-replicate (4 - length l) blank)

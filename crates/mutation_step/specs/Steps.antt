@@ -11,7 +11,7 @@ use Rattle.model.specs.Schema.{Column, Schema, columnsOf}
 use Rattle.model.specs.Value.{elements, intAtom, valueOf}
 use Rattle.model.specs.Rows.{setColumn}
 use Rattle.model.specs.Areas.{rowFrom}
-use Rattle.model.specs.Working.{tableIn, valueIn, TidyRow}
+use Rattle.inner.specs.Working.{tableIn, valueIn, TidyRow}
 use Rattle.model.specs.Faults.{isFine, check, Judged}
 use Rattle.model.specs.Written.{Names, written}
 use Rattle.model.specs.Mutations.{mutationFault, divides, isZero, in64, isEmpty, results, arithmetic, inserted, deleted, mutated}
@@ -57,6 +57,11 @@ mutatedOn c m l xs = mutated c m l xs
 pub record Reckoned (j : Judged (List (List ℕ))) (n : ℕ) (l : List (List ℕ)) (r : Fault) (after : List (List ℕ)) : Type 0 where
   pub fault : r ≡ j .fault
   pub atoms : isFine r ≡ true → take n after ≡ l
+
+-- the elements that are left, in four places: so many, and blanks
+pub record Kept (l : List (List ℕ)) (n : ℕ) (atoms : List (List ℕ)) : Type 0 where
+  pub size : n ≡ length l
+  pub cells : atoms ≡ valueOf l .atoms
 
 -- column c of a row after a mutation on it; a row with a fault is left as it was
 pub record Stepped (j : Judged (List (List ℕ))) (c : ℕ) (r : Fault) (entry exit : List (List ℕ)) : Type 0 where

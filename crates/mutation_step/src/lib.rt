@@ -4,21 +4,24 @@ use model::Found;
 use model::Mutator;
 use number::Exact;
 use number::Int;
+use written::Atom;
 ghost use mathlib.Core.Path.{_≡_};
 ghost use mathlib.Core.Bool.{true};
-ghost use mathlib.Core.List.{_++_};
+ghost use mathlib.Core.List.{[], _∷_};
 ghost use Prim.Native.Nat.{_≤_, _<_};
-ghost use lib.ListN.{length, take, drop};
-ghost use Rattle.model.specs.Nav.{wellAt, treeAt};
-ghost use Rattle.model.specs.Schema.{baseOf};
+ghost use lib.ListN.{length, take};
+ghost use Rattle.inner.specs.Positions.{wellAt, treeAt};
+ghost use Rattle.inner.specs.Packed.{baseNumbered};
 ghost use Rattle.model.specs.Value.{intOf, allInLimits, valueOf, union, without};
 ghost use Rattle.model.specs.Faults.{isFine};
 ghost use Rattle.model.specs.Mutations.{suits};
-ghost use Rattle.model.specs.Packed.{columnFrom};
+ghost use Rattle.inner.specs.Packed.{columnFrom};
 ghost use Rattle.number.specs.Ints.{intIn};
+ghost use Rattle.elements.specs.Elements.{elementsFrom, elementsFine};
 ghost use Rattle.uuids.specs.Named.{namesAt, Running};
+ghost use Rattle.written.specs.Atoms.{atomAs, atomsOf};
 ghost use Rattle.judged.specs.Weights.{atomsAs};
-ghost use Rattle.mutation_step.specs.Steps.{resultAtoms, Calculated, elementsOf, arithmeticOn, insertedOn, deletedOn, operandOf, mutatedOn, Reckoned, Stepped};
+ghost use Rattle.mutation_step.specs.Steps.{resultAtoms, Calculated, elementsOf, arithmeticOn, insertedOn, deletedOn, operandOf, mutatedOn, Kept, Reckoned, Stepped};
 
 // Whether there is no fault.
 pub fn is_fine(f: Fault) -> bool
@@ -114,21 +117,13 @@ fn arithmetic(
     f
 }
 
-// The first n of four atoms, and zeros.
-fn first_of(atoms: [[u8; 25]; 4], n: usize) -> [[u8; 25]; 4]
-    requires { ⌜ n ≤ 4 ⌝ }
-    ensures { λ r. ⌜ r ≡ valueOf (take n atoms) .atoms ⌝ }
-{
-    value::delete(atoms, n, &atoms[..0])
-}
-
 // The first n atoms are a set: the same with those of `more`, and zeros.
 fn unite(kind: u8, atoms: [[u8; 25]; 4], n: usize, more: &[[u8; 25]]) -> [[u8; 25]; 4]
     requires { ⌜ n ≤ 4 ⌝ }
-    requires { ⌜ length (union (baseOf kind) (take n atoms) (now more)) ≤ 4 ⌝ }
-    ensures { λ r. ⌜ r ≡ valueOf (union (baseOf kind) (take n atoms) (now (more .entry))) .atoms ⌝ }
+    requires { ⌜ length (union (baseNumbered kind) (take n atoms) (now more)) ≤ 4 ⌝ }
+    ensures { λ r. ⌜ r ≡ valueOf (union (baseNumbered kind) (take n atoms) (now (more .entry))) .atoms ⌝ }
 {
-    let mut s = first_of(atoms, n);
+    let mut s = value::first(atoms, n);
     let mut m = n;
     let mut i = 0;
     while i < more.len() {
@@ -164,36 +159,71 @@ fn insert(column: &[u8; 48], more: &[[u8; 25]], row: &mut [[u8; 25]; 25], c: usi
     Fault::Fine
 }
 
-// The first elements that the value at `at` does not have, in their order, put in front; and how many they are.
-fn keep_others(
+// The first n atoms are a set: the same without x, and zeros; n is how many are left.
+fn delete_atom(atoms: [[u8; 25]; 4], n: &mut usize, x: [u8; 25]) -> [[u8; 25]; 4]
+    requires { ⌜ now n ≤ 4 ⌝ }
+    ensures { λ r. ⌜ Kept (without (x ∷ []) (take (now (n .entry)) atoms)) (now (n .exit)) r ⌝ }
+{
+    let m = *n;
+    let left = value::delete_count(&atoms[..m], &x);
+    *n = left;
+    value::delete(atoms, m, x)
+}
+
+// The same without the element at `at`.
+fn delete_element(
     text: &[u8],
     ends: &[u16],
     ops: Found,
     fresh: &[u8],
     kind: u8,
     at: usize,
-    atoms: &[[u8; 25]],
-    count: usize,
-    out: &mut [[u8; 25]],
-) -> usize
+    atoms: [[u8; 25]; 4],
+    n: &mut usize,
+) -> [[u8; 25]; 4]
     requires { ⌜ Running (now text) (now ends) ops (now fresh) ⌝ }
     requires { ⌜ wellAt (now text) at ≡ true ⌝ }
-    requires { ⌜ (count ≤ length (now atoms)) × (count ≤ length (now out)) ⌝ }
-    ensures { λ r. ⌜ r ≡ length (without (atomsAs (namesAt (now (text .entry)) ops (now (fresh .entry))) (baseOf kind) (treeAt (now (text .entry)) at)) (take count (now (atoms .entry)))) ⌝ }
-    ensures { λ r. ⌜ now (out .exit) ≡ without (atomsAs (namesAt (now (text .entry)) ops (now (fresh .entry))) (baseOf kind) (treeAt (now (text .entry)) at)) (take count (now (atoms .entry))) ++ drop r (now (out .entry)) ⌝ }
+    requires { ⌜ now n ≤ 4 ⌝ }
+    ensures { λ r. ⌜ Kept (without (atomAs (namesAt (now (text .entry)) ops (now (fresh .entry))) (baseNumbered kind) (treeAt (now (text .entry)) at) ∷ []) (take (now (n .entry)) atoms)) (now (n .exit)) r ⌝ }
 {
-    let mut kept = 0;
-    let mut k = 0;
-    while k < count {
-        let gone = judged::among(text, ends, ops, fresh, kind, at, &atoms[k]);
-        if !gone {
-            let a = atoms[k];
-            out[kept] = a;
-            kept += 1;
-        }
-        k += 1;
+    let mut cell = [0u8; 25];
+    let a = written::atom_at(text, ends, ops, fresh, kind, at, &mut cell);
+    match a {
+        Atom::Wrong => delete_atom(atoms, n, cell),
+        Atom::Long => value::first(atoms, *n),
+        Atom::Fits => delete_atom(atoms, n, cell),
     }
-    kept
+}
+
+// The same without the elements from f on.
+fn delete_from(
+    text: &[u8],
+    ends: &[u16],
+    ops: Found,
+    fresh: &[u8],
+    kind: u8,
+    set: bool,
+    f: Found,
+    atoms: [[u8; 25]; 4],
+    n: &mut usize,
+) -> [[u8; 25]; 4]
+    requires { ⌜ Running (now text) (now ends) ops (now fresh) ⌝ }
+    requires { ⌜ elementsFine (now text) set f ≡ true ⌝ }
+    requires { ⌜ now n ≤ 4 ⌝ }
+    ensures { λ r. ⌜ Kept (without (atomsOf (namesAt (now (text .entry)) ops (now (fresh .entry))) (baseNumbered kind) (elementsFrom (now (text .entry)) set f)) (take (now (n .entry)) atoms)) (now (n .exit)) r ⌝ }
+{
+    let mut s = value::first(atoms, *n);
+    let mut g = f;
+    loop {
+        match g {
+            Found::At(p) => {
+                let t = delete_element(text, ends, ops, fresh, kind, p, s, n);
+                s = t;
+                g = elements::next_element(text, ends, p, set);
+            }
+            Found::Nothing => return s,
+        }
+    }
 }
 
 // The elements of the value at `at` deleted from column c of a row.
@@ -214,14 +244,16 @@ fn delete(
 {
     let kind = column[25];
     let min = atom::wide(column[28]);
-    let n = references::size(rows::count_of(row, c));
-    let atoms = rows::atoms_in(row, c);
-    let mut kept = [[0u8; 25]; 4];
-    let k = keep_others(text, ends, ops, fresh, kind, at, atoms, n, &mut kept);
-    if k < min {
+    let e = elements::elements_at(text, ends, at);
+    let set = e.set;
+    let f = e.first;
+    let mut n = references::size(rows::count_of(row, c));
+    let atoms = rows::atoms_of(row, c);
+    let kept = delete_from(text, ends, ops, fresh, kind, set, f, atoms, &mut n);
+    if n < min {
         return Fault::Constraint;
     }
-    rows::set_column(row, c, k as u8, &kept);
+    rows::set_column(row, c, n as u8, &kept);
     Fault::Fine
 }
 

@@ -12,14 +12,15 @@ use Rattle.model.specs.declared.Fault.{Fault}
 use Rattle.model.specs.declared.Fault.the-variants.{Fine, Syntax, Constraint}
 use Rattle.model.specs.declared.Mutator.{Mutator}
 use Rattle.model.specs.Json.{Json}
-use Rattle.model.specs.Nav.{treeAt, wellAt, nextItem}
-use Rattle.model.specs.Text as Text
-use Rattle.model.specs.Schema.{baseOf, Column, columnNamed}
+use Rattle.inner.specs.Positions.{treeAt, wellAt, nextItem}
+use Rattle.inner.specs.Positions as Text
+use Rattle.inner.specs.Packed.{baseNumbered}
+use Rattle.model.specs.Schema.{Column, columnNamed}
 use Rattle.model.specs.Faults.{isFine, earlier, check}
 use Rattle.model.specs.Written.{Names}
-use Rattle.model.specs.Conditions.{isInteger}
+use Rattle.model.specs.Conditions.{isIntegerBase}
 use Rattle.model.specs.Mutations.{suits, noMutation, mutationBy, mutationOf, mutatorNamed, readMutations}
-use Rattle.model.specs.Packed.{columnFrom}
+use Rattle.inner.specs.Packed.{columnFrom}
 use Rattle.model.proofs.Tests.{split, clash}
 use Rattle.model.proofs.FaultLaws.{earlier-fine}
 use Rattle.nav.proofs.Walk.{walk-rest, walk-end}
@@ -33,11 +34,11 @@ use Rattle.mutations.specs.Mutating.{mutatorIn, columnFault, mutationAs,
 use Rattle.mutations.proofs.Naming.{nth-cells}
 
 -- ── what a column takes ──
-pub base-integer : (k : ℕ) → isInteger (baseOf k) ≡ eqb k 0
-unfolding baseOf
+pub base-integer : (k : ℕ) → isIntegerBase (baseNumbered k) ≡ eqb k 0
+unfolding baseNumbered
 base-integer k = split (eqb k 0)
-    (λ a. rw (baseOf, a))
-    (λ a. split (eqb k 1) (λ b. rw (baseOf, a, b)) (λ b. split (eqb k 2) (λ d. rw (baseOf, a, b, d)) (λ d. rw (baseOf, a, b, d))))
+    (λ a. rw (baseNumbered, a))
+    (λ a. split (eqb k 1) (λ b. rw (baseNumbered, a, b)) (λ b. split (eqb k 2) (λ d. rw (baseNumbered, a, b, d)) (λ d. rw (baseNumbered, a, b, d))))
 
 -- ── a mutation on a column ──
 module _ (names : Names) (c : Column) (m : Mutator) (j : Json) where
@@ -102,7 +103,7 @@ module _ (s : List ℕ) (ops : Found) (fresh : List ℕ) (cells : List (List ℕ
       let n = namesAt s ops fresh in
       let cs = map columnFrom cells in
       ap (λ o. elim o [ none ↦ noMutation | some t ↦ mutationOf n cs (t .value) (columnNamed cs (t .name)) (mutatorNamed (t .word)) ]) (q .all)
-      ∙ ap (λ o. mutationOf n cs (treeAt s v) o (mutatorNamed (Text.stringIn (treeAt s b)))) (sym (ap (λ o. elim o [ none ↦ none | some w ↦ columnNamed cs w ]) (q .name)))
+      ∙ ap (λ o. mutationOf n cs (treeAt s v) o (mutatorNamed (Text.wordIn (treeAt s b)))) (sym (ap (λ o. elim o [ none ↦ none | some w ↦ columnNamed cs w ]) (q .name)))
       ∙ ap (mutationOf n cs (treeAt s v) (columnIn cs (treeAt s a))) (sym (ap (λ o. elim o [ none ↦ none | some w ↦ mutatorNamed w ]) (q .word)))
 
   pub value-well : {a b v : ℕ} → t ≡ triple.Of a b v → wellAt s v ≡ true

@@ -14,7 +14,7 @@ use Rattle.model.specs.Base.{if_then_else_, placeOf, nth, ascii}
 use Rattle.model.specs.Json.{Json, null, bool, num, str, arr, obj}
 use Rattle.model.specs.Text.{isWord}
 use Rattle.model.specs.Schema.{Column}
-use Rattle.model.specs.Packed.{columnFrom}
+use Rattle.inner.specs.Packed.{columnFrom}
 use Rattle.model.proofs.Tests.{split}
 use Rattle.fields.specs.Fields.{wordsFrom, wordsOf, choiceFrom, choice}
 use Rattle.names.specs.Names.{foundAt}

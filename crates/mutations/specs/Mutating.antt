@@ -6,12 +6,12 @@ use mathlib.Core.Option.{Option, none, some}
 use lib.Dec.{eqb}
 use Rattle.model.specs.Base.{if_then_else_}
 use Rattle.model.specs.Json.{Json}
-use Rattle.model.specs.Nav.{treeAt, itemsFrom}
+use Rattle.inner.specs.Positions.{treeAt, itemsFrom}
 use Rattle.model.specs.Schema.{Column}
 use Rattle.model.specs.Faults.{earlier, check, Judged}
 use Rattle.model.specs.Written.{Names, stringIn}
 use Rattle.model.specs.Mutations.{Mutation, mutatorNamed, suits, mutationOf, readMutation, readMutations}
-use Rattle.model.specs.Packed.{columnFrom}
+use Rattle.inner.specs.Packed.{columnFrom}
 use Rattle.model.specs.declared.Found.{Found}
 use Rattle.model.specs.declared.Fault.{Fault}
 use Rattle.model.specs.declared.Fault.the-variants.{Fine, Syntax, Constraint}

@@ -11,8 +11,9 @@ use lib.Seq.{drop-set-lt}
 use Rattle.model.specs.Scan.{spacesAt}
 use Rattle.model.specs.Strings.{bodyAt}
 use Rattle.model.specs.Json.{Json, null, bool, num, str, arr, obj}
-use Rattle.model.specs.Nav.{treeAt, kindOf, isText}
-use Rattle.model.specs.Text.{stringIn}
+use Rattle.inner.specs.Positions.{treeAt}
+use Rattle.model.specs.Nav.{kindOf, isText}
+use Rattle.inner.specs.Positions.{wordIn}
 use Rattle.model.specs.Value.{textAtom}
 use Rattle.model.proofs.Tests.{split}
 use Rattle.text.specs.declared.Written.{Written}
@@ -56,8 +57,8 @@ drop-zeros zero k = let z : k - 0 ≡ k = omega arith in rw z
 drop-zeros (suc n) zero = let z : 0 - suc n ≡ 0 = omega arith in rw z
 drop-zeros (suc n) (suc k) = let z : suc k - suc n ≡ k - n = omega arith in rw z (drop-zeros n k)
 
-no-string : (j : Json) → isText (kindOf j) ≡ false → stringIn j ≡ []
-unfolding kindOf isText stringIn
+no-string : (j : Json) → isText (kindOf j) ≡ false → wordIn j ≡ []
+unfolding kindOf isText wordIn
 no-string null h = refl
 no-string (bool b) h = refl
 no-string (num t) h = refl
@@ -71,8 +72,8 @@ unfolding nameCell shortCell
 name-none j h = sym (ap shortCell (no-string j h))
 
 module _ (s : List ℕ) (at : ℕ) (t : isText (kindOf (treeAt s at)) ≡ true) {i : ℕ} (q : i ≡ spacesAt s at) where
-  string-is : stringIn (treeAt s at) ≡ bodyAt s (i + 1) .tree
-  unfolding stringIn
+  string-is : wordIn (treeAt s at) ≡ bodyAt s (i + 1) .tree
+  unfolding wordIn
   string-is = rw (text-tree s at t .1, q)
 
   pub spaces-fit : i + 1 ≤ length s

@@ -12,7 +12,7 @@ use Rattle.model.specs.declared.Found.{Found}
 use Rattle.model.specs.declared.Found.the-variants.{At, Nothing}
 use Rattle.model.specs.Octets.{eqBytes}
 use Rattle.model.specs.Base.{placeOf}
-use Rattle.model.specs.Packed.{cellName}
+use Rattle.inner.specs.Packed.{cellName}
 use Rattle.names.specs.Names.{foundAt, cellNamed}
 
 -- a place found from i on

@@ -10,16 +10,16 @@ use Rattle.model.specs.declared.Found.the-variants.{At, Nothing}
 use Rattle.model.specs.Base.{placeOf}
 use Rattle.model.specs.Limits.{mostTextBytes}
 use Rattle.model.specs.Json.{Json}
-use Rattle.model.specs.Text.{stringIn}
+use Rattle.inner.specs.Positions.{wordIn}
 use Rattle.model.specs.Value.{textAtom, blank}
-use Rattle.model.specs.Packed.{cellName}
+use Rattle.inner.specs.Packed.{cellName}
 
 -- a string of at most 24 bytes as an atom; the empty one for any other value, which is no id either
 unfoldable pub shortCell : List ℕ → List ℕ
 shortCell t = elim (leb (length t) mostTextBytes) [ true ↦ textAtom t | false ↦ blank ]
 
 unfoldable pub nameCell : Json → List ℕ
-nameCell j = shortCell (stringIn j)
+nameCell j = shortCell (wordIn j)
 
 unfoldable pub foundAt : Option ℕ → Found
 foundAt none = Nothing

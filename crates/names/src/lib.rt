@@ -5,10 +5,10 @@ ghost use mathlib.Core.Path.{_≡_};
 ghost use mathlib.Core.Bool.{Bool};
 ghost use Prim.Native.Nat.{_≤_};
 ghost use lib.ListN.{length};
-ghost use Rattle.model.specs.Nav.{treeAt};
+ghost use Rattle.inner.specs.Positions.{treeAt};
 ghost use Rattle.model.specs.Scan.{isDigit};
 ghost use Rattle.model.specs.Value.{textOf};
-ghost use Rattle.model.specs.Packed.{cellName};
+ghost use Rattle.inner.specs.Packed.{cellName};
 ghost use Rattle.model.specs.SchemaText.{isLetter, isIdByte, isId, isVersion};
 ghost use Rattle.names.specs.Names.{nameCell, cellNamed};
 

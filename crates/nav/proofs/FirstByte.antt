@@ -20,7 +20,8 @@ use Rattle.model.specs.Numbers.{numberAt}
 use Rattle.model.specs.Json.{Json, null, bool, num, str, arr, obj, Items, none, item, items, scalarBy, opens, dispatch, valueAt}
 use Rattle.model.specs.declared.Kind.{Kind}
 use Rattle.model.specs.declared.Kind.the-variants.{Null, Truth, Number, Text, Array, Object}
-use Rattle.model.specs.Nav.{isEnd, wellAt, treeAt, firstOf, itemsFrom, itemsFine, kindOf, kindBy, listOf, itemsIn, textIn, isTrue}
+use Rattle.model.specs.Nav.{isRead, kindOf, listOf, itemsIn, textIn}
+use Rattle.inner.specs.Positions.{wellAt, treeAt, firstOf, itemsFrom, itemsFine, kindBy, isTrue}
 use Rattle.scan.proofs.Past.{Past}
 use Rattle.scan.proofs.Enough.{value-past}
 use Rattle.nav.proofs.Rest.{end-of, array-step, object-step, array-is, items-none}
@@ -142,11 +143,11 @@ module _ (s : List ℕ) where
   end-le at e h = (subst (Past s (suc at)) h (value-past s 12 at)) .1
 
   -- a number that is none has no text
-  pub number-not : (at : ℕ) → kindOf (treeAt s at) ≡ Number → isEnd (valueAt 12 s at .read) ≡ false → treeAt s at ≡ num []
-  unfolding kindBy treeAt scalarBy isEnd
+  pub number-not : (at : ℕ) → kindOf (treeAt s at) ≡ Number → isRead (valueAt 12 s at .read) ≡ false → treeAt s at ≡ num []
+  unfolding kindBy treeAt scalarBy isRead
   number-not at k r = go (first-of (byte s (spacesAt s at))) (sym (kind-is at) ∙ k)
     where
-      none : (q : Read) → isEnd q ≡ false → num (between s (spacesAt s at) (endOr (spacesAt s at) q)) ≡ num []
+      none : (q : Read) → isRead q ≡ false → num (between s (spacesAt s at) (endOr (spacesAt s at) q)) ≡ num []
       none (End e) z = absurd (let y : _≡_ {A = ℕ} 0 1 = cc in omega arith)
       none (Stop e) z = rw sub-self
       none (Deep e) z = rw sub-self
@@ -155,7 +156,7 @@ module _ (s : List ℕ) where
       go (number a o t n y f) q =
           let w = scalar-step 11 at (not-opens (byte s (spacesAt s at)) a o) in
           let v : scalarBy s (spacesAt s at) (byte s (spacesAt s at)) ≡ record { read = numberAt s (spacesAt s at); tree = num (between s (spacesAt s at) (endOr (spacesAt s at) (numberAt s (spacesAt s at)))) } = rw (scalarBy, t, n, y, f) in
-          let u : isEnd (numberAt s (spacesAt s at)) ≡ false = rw (w ∙ v) at r in
+          let u : isRead (numberAt s (spacesAt s at)) ≡ false = rw (w ∙ v) at r in
           ap (λ x. x .tree) (w ∙ v) ∙ none (numberAt s (spacesAt s at)) u
       go (object h) q = absurd (let m : Object ≡ Number = rw h at q in let z : _≡_ {A = ℕ} 0 1 = cc in omega arith)
       go (array h) q = absurd (let m : Array ≡ Number = rw h at q in let z : _≡_ {A = ℕ} 0 1 = cc in omega arith)

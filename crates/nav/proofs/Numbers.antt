@@ -13,7 +13,8 @@ use Rattle.model.specs.declared.Digits.the-variants.{Size, Bad}
 use Rattle.model.specs.Json.{Json, null, bool, num, str, arr, obj}
 use Rattle.model.specs.declared.Kind.{Kind}
 use Rattle.model.specs.declared.Kind.the-variants.{Null, Truth, Number, Text, Array, Object}
-use Rattle.model.specs.Nav.{kindOf, isNumber}
+use Rattle.model.specs.Nav.{kindOf}
+use Rattle.inner.specs.Positions.{isNumber}
 use Rattle.model.specs.declared.Whole.{Whole}
 use Rattle.model.specs.declared.Whole.the-variants.{Plus, Minus, Other}
 use Rattle.model.specs.Whole.{sized, plusOf, minusOf, wholeText, wholeOf}

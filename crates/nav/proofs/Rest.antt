@@ -16,18 +16,19 @@ use Rattle.model.specs.declared.Open.the-variants.{Array, Object, Scalar}
 use Rattle.model.specs.declared.Found.{Found}
 use Rattle.model.specs.declared.Found.the-variants.{At, Nothing}
 use Rattle.model.specs.Scan.{byte, Parsed, andThen, Turn, run, spacesAt}
-use Rattle.model.specs.Json.{Json, null, arr, obj, items, members, Named, keyAt, afterItem, itemTurn, listAt, arrayAt, memberAt, objectAt, opens, dispatch, valueAt, failed}
+use Rattle.model.specs.Json.{Json, null, arr, obj, items, members, Named, keyAt, afterItem, itemTurn, listAt, arrayAt, memberAt, objectAt, opens, dispatch, valueAt, noValue}
 use Rattle.scan.proofs.Past.{Past, PastNext}
 use Rattle.scan.proofs.Enough.{enough, run-on, after-past, value-past, member-past, spaces-ge}
-use Rattle.model.specs.Nav.{isEnd, wellAt, treeAt, foundOf, firstFrom, firstOf, nextOf, nextItem, nextMember, restOf, fineOf, itemsFrom, itemsFine, membersFrom, membersFine, left}
+use Rattle.model.specs.Nav.{isRead}
+use Rattle.inner.specs.Positions.{wellAt, treeAt, foundOf, firstFrom, firstOf, nextOf, nextItem, nextMember, restOf, fineOf, itemsFrom, itemsFine, membersFrom, membersFine, left}
 use Rattle.json.proofs.Mono.{Below, level-more, array-more, object-more}
 
 pub not-both : {b : Bool} → b ≡ true → b ≡ false → ⊥
 not-both t f = let z : _≡_ {A = ℕ} 0 1 = cc in omega arith
 
 -- a reading that ended
-pub end-of : (r : Read) → isEnd r ≡ true → (e : ℕ) × (r ≡ End e)
-unfolding isEnd
+pub end-of : (r : Read) → isRead r ≡ true → (e : ℕ) × (r ≡ End e)
+unfolding isRead
 end-of (End e) h = (e, refl)
 end-of (Stop e) h = absurd (let z : _≡_ {A = ℕ} 0 1 = cc in omega arith)
 end-of (Deep e) h = absurd (let z : _≡_ {A = ℕ} 0 1 = cc in omega arith)
@@ -63,33 +64,33 @@ module _ {A : Type 0} (p : ℕ → Parsed A) (s : List ℕ) (close : ℕ) (small
   pub rest-none : rest Nothing ≡ []
   rest-none = refl
 
-  pub fine-at : (i : ℕ) → fine (At i) ≡ true → (isEnd (p i .read) ≡ true) × (fine (next i) ≡ true)
-  unfolding run foundOf isEnd afterItem
+  pub fine-at : (i : ℕ) → fine (At i) ≡ true → (isRead (p i .read) ≡ true) × (fine (next i) ≡ true)
+  unfolding run foundOf isRead afterItem
   fine-at i h = go (p i .read) refl
     where
       turn : (t : Next) → afterItem s close (p i .read) ≡ t → fine (next i) ≡ true
       turn (More e) t = let o = on i e t in let z = same e (length s) (omega arith) (omega arith) (omega arith) in rw (foundOf, t) (rw (run, t, z) at h)
       turn (Done r) t = rw (foundOf, t)
 
-      go : (r : Read) → p i .read ≡ r → (isEnd (p i .read) ≡ true) × (fine (next i) ≡ true)
+      go : (r : Read) → p i .read ≡ r → (isRead (p i .read) ≡ true) × (fine (next i) ≡ true)
       go (End e) r = (rw r, turn (afterItem s close (p i .read)) refl)
       go (Stop e) r = absurd (let k : false ≡ true = rw (run, r) at h in let z : _≡_ {A = ℕ} 0 1 = cc in omega arith)
       go (Deep e) r = absurd (let k : false ≡ true = rw (run, r) at h in let z : _≡_ {A = ℕ} 0 1 = cc in omega arith)
 
-  some : (n j : ℕ) → isEnd (run (itemTurn p s close) n j .read) ≡ true → 0 < n
-  unfolding run isEnd
+  some : (n j : ℕ) → isRead (run (itemTurn p s close) n j .read) ≡ true → 0 < n
+  unfolding run isRead
   some zero j h = absurd (let z : _≡_ {A = ℕ} 0 1 = cc in omega arith)
   some (suc n) j h = omega arith
 
   -- a list that is read well is its first item and the rest
-  pub list-is : (j : ℕ) → 0 < j → isEnd (listAt p s close j .read) ≡ true → (listAt p s close j .tree ≡ rest (firstFrom s close j)) × (fine (firstFrom s close j) ≡ true)
+  pub list-is : (j : ℕ) → 0 < j → isRead (listAt p s close j .read) ≡ true → (listAt p s close j .tree ≡ rest (firstFrom s close j)) × (fine (firstFrom s close j) ≡ true)
   unfolding listAt firstFrom
   list-is j h w = go (eqb (byte s j) close) refl
     where
       go : (b : Bool) → eqb (byte s j) close ≡ b → (listAt p s close j .tree ≡ rest (firstFrom s close j)) × (fine (firstFrom s close j) ≡ true)
       go true t = (rw (listAt, firstFrom, t), rw (firstFrom, t))
       go false t =
-          let k : isEnd (run (itemTurn p s close) (length s) j .read) ≡ true = rw (listAt, t) at w in
+          let k : isRead (run (itemTurn p s close) (length s) j .read) ≡ true = rw (listAt, t) at w in
           let z = same j (length s) h (some (length s) j k) (omega arith) in
           (rw (listAt, firstFrom, t) (ap (λ x. x .tree) z), rw (firstFrom, t) (rw z at k))
 
@@ -108,7 +109,7 @@ module _ (s : List ℕ) where
   items-fine = fine-at (valueAt 12 s) s 93 (lit< tt) (value-past s 12)
 
   -- the theorems: an array that is read well is its items, and each is read well; and so an object
-  array-read : (i : ℕ) → isEnd (arrayAt (valueAt 12 s) s (i + 1) .read) ≡ true →
+  array-read : (i : ℕ) → isRead (arrayAt (valueAt 12 s) s (i + 1) .read) ≡ true →
       (arrayAt (valueAt 12 s) s (i + 1) .tree ≡ arr (items (itemsFrom s (firstFrom s 93 (spacesAt s (i + 1)))))) × (itemsFine s (firstFrom s 93 (spacesAt s (i + 1))) ≡ true)
   unfolding itemsFrom itemsFine
   array-read i w =
@@ -120,7 +121,7 @@ module _ (s : List ℕ) where
   unfolding valueAt dispatch opens
   array-step l at h = rw (dispatch, opens, h)
 
-  array-up : (l at : ℕ) → byte s (spacesAt s at) ≡ 91 → isEnd (valueAt (suc l) s at .read) ≡ true → valueAt (suc l) s at ≡ arrayAt (valueAt (suc l) s) s (spacesAt s at + 1)
+  array-up : (l at : ℕ) → byte s (spacesAt s at) ≡ 91 → isRead (valueAt (suc l) s at .read) ≡ true → valueAt (suc l) s at ≡ arrayAt (valueAt (suc l) s) s (spacesAt s at + 1)
   array-up l at h w =
       let z = array-step l at h in
       let q = end-of (valueAt (suc l) s at .read) w in
@@ -134,10 +135,10 @@ module _ (s : List ℕ) where
   unfolding wellAt treeAt
   array-is at w h =
       let z : valueAt 12 s at ≡ arrayAt (valueAt 12 s) s (spacesAt s at + 1) = array-up 11 at h w in
-      let q = array-read (spacesAt s at) (subst (λ (x : Parsed Json). isEnd (x .read) ≡ true) z w) in
+      let q = array-read (spacesAt s at) (subst (λ (x : Parsed Json). isRead (x .read) ≡ true) z w) in
       rw (first-is 91 93 at h) (ap (λ x. x .tree) z ∙ q .0, q .1)
 
-  object-read : (i : ℕ) → isEnd (objectAt (valueAt 12 s) s (i + 1) .read) ≡ true →
+  object-read : (i : ℕ) → isRead (objectAt (valueAt 12 s) s (i + 1) .read) ≡ true →
       (objectAt (valueAt 12 s) s (i + 1) .tree ≡ obj (members (membersFrom s (firstFrom s 125 (spacesAt s (i + 1)))))) × (membersFine s (firstFrom s 125 (spacesAt s (i + 1))) ≡ true)
   unfolding membersFrom membersFine
   object-read i w =
@@ -149,7 +150,7 @@ module _ (s : List ℕ) where
   unfolding valueAt dispatch opens
   object-step l at h = let o : opens (byte s (spacesAt s at)) ≡ Object = ap opens h in rw (dispatch, o)
 
-  object-up : (l at : ℕ) → byte s (spacesAt s at) ≡ 123 → isEnd (valueAt (suc l) s at .read) ≡ true → valueAt (suc l) s at ≡ objectAt (valueAt (suc l) s) s (spacesAt s at + 1)
+  object-up : (l at : ℕ) → byte s (spacesAt s at) ≡ 123 → isRead (valueAt (suc l) s at .read) ≡ true → valueAt (suc l) s at ≡ objectAt (valueAt (suc l) s) s (spacesAt s at + 1)
   object-up l at h w =
       let z = object-step l at h in
       let q = end-of (valueAt (suc l) s at .read) w in
@@ -159,7 +160,7 @@ module _ (s : List ℕ) where
   unfolding wellAt treeAt
   object-is at w h =
       let z : valueAt 12 s at ≡ objectAt (valueAt 12 s) s (spacesAt s at + 1) = object-up 11 at h w in
-      let q = object-read (spacesAt s at) (subst (λ (x : Parsed Json). isEnd (x .read) ≡ true) z w) in
+      let q = object-read (spacesAt s at) (subst (λ (x : Parsed Json). isRead (x .read) ≡ true) z w) in
       rw (first-is 123 125 at h) (ap (λ x. x .tree) z ∙ q .0, q .1)
 
   -- a member: its name, and its value where that begins
@@ -171,7 +172,7 @@ module _ (s : List ℕ) where
   unfolding membersFrom
   members-none = rest-none (memberAt (valueAt 12 s) s) s 125 (lit< tt) (member-past s (valueAt 12 s) (value-past s 12))
 
-  pub members-fine : (i : ℕ) → membersFine s (At i) ≡ true → (isEnd (memberAt (valueAt 12 s) s i .read) ≡ true) × (membersFine s (nextMember s i) ≡ true)
+  pub members-fine : (i : ℕ) → membersFine s (At i) ≡ true → (isRead (memberAt (valueAt 12 s) s i .read) ≡ true) × (membersFine s (nextMember s i) ≡ true)
   unfolding nextMember membersFine
   members-fine = fine-at (memberAt (valueAt 12 s) s) s 125 (lit< tt) (member-past s (valueAt 12 s) (value-past s 12))
 
@@ -179,8 +180,8 @@ module _ (s : List ℕ) where
   unfolding memberAt andThen treeAt
   member-is i e h = rw (memberAt, h)
 
-  pub member-well : (i : ℕ) → isEnd (memberAt (valueAt 12 s) s i .read) ≡ true → (e : ℕ) × (keyAt s i .read ≡ End e) × (wellAt s e ≡ true)
-  unfolding memberAt andThen wellAt isEnd
+  pub member-well : (i : ℕ) → isRead (memberAt (valueAt 12 s) s i .read) ≡ true → (e : ℕ) × (keyAt s i .read ≡ End e) × (wellAt s e ≡ true)
+  unfolding memberAt andThen wellAt isRead
   member-well i w = go (keyAt s i .read) refl
     where
       go : (r : Read) → keyAt s i .read ≡ r → (e : ℕ) × (keyAt s i .read ≡ End e) × (wellAt s e ≡ true)

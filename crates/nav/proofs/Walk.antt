@@ -16,7 +16,8 @@ use Rattle.model.specs.Strings.{stringAt}
 use Rattle.model.specs.Json.{Json, null, bool, num, str, arr, obj, Members, members, Named, keyAt, memberAt, valueAt}
 use Rattle.model.specs.declared.Kind.{Kind}
 use Rattle.model.specs.declared.Kind.the-variants.{Null, Truth, Number, Text, Array, Object}
-use Rattle.model.specs.Nav.{isEnd, wellAt, treeAt, kindOf, kindBy, firstOf, nextItem, itemsFrom, itemsFine, nextMember, membersFrom, membersFine, left}
+use Rattle.model.specs.Nav.{isRead, kindOf}
+use Rattle.inner.specs.Positions.{wellAt, treeAt, kindBy, firstOf, nextItem, itemsFrom, itemsFine, nextMember, membersFrom, membersFine, left}
 use Rattle.nav.proofs.Rest.{items-at, items-none, items-fine, item-past, object-is, members-at, members-none, members-fine, member-is, member-well, member-on}
 use Rattle.nav.proofs.FirstByte.{kind-is, split, text-is, First, array, object, text, nul, yes, no, number, first-of}
 use Rattle.model.specs.Members.{namedOf, membersIn}
@@ -79,7 +80,7 @@ module _ (s : List ℕ) where
       go (Stop x) r = absurd (let k : Stop x ≡ End e = sym (rw (keyAt, r)) ∙ h in let z : _≡_ {A = ℕ} 0 1 = cc in omega arith)
       go (Deep x) r = absurd (let k : Deep x ≡ End e = sym (rw (keyAt, r)) ∙ h in let z : _≡_ {A = ℕ} 0 1 = cc in omega arith)
 
-  pub name-at : (p : ℕ) → isEnd (memberAt (valueAt 12 s) s p .read) ≡ true → treeAt s p ≡ str (memberAt (valueAt 12 s) s p .tree .name)
+  pub name-at : (p : ℕ) → isRead (memberAt (valueAt 12 s) s p .read) ≡ true → treeAt s p ≡ str (memberAt (valueAt 12 s) s p .tree .name)
   unfolding kindBy
   name-at p w =
       let m = member-well s p w in
@@ -115,7 +116,7 @@ module _ (s : List ℕ) where
       pass-rest = ap (membersFrom s) h ∙ members-at s p
 
       module _ (fine : membersFine s g ≡ true) where
-        here : (isEnd (memberAt (valueAt 12 s) s p .read) ≡ true) × (membersFine s (nextMember s p) ≡ true)
+        here : (isRead (memberAt (valueAt 12 s) s p .read) ≡ true) × (membersFine s (nextMember s p) ≡ true)
         here = members-fine s p (subst (λ x. membersFine s x ≡ true) h fine)
 
         pub pass-fine : membersFine s (nextMember s p) ≡ true

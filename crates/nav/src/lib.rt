@@ -10,7 +10,8 @@ ghost use Prim.Native.Nat.{_≤_, _-_};
 ghost use lib.ListN.{length, getD};
 ghost use Rattle.model.specs.Scan.{between, endOr};
 ghost use Rattle.model.specs.Json.{keyAt, valueAt, memberAt};
-ghost use Rattle.model.specs.Nav.{Says, foundOf, firstOf, nextItem, nextMember, treeAt, kindOf, kindBy, isNumber, isText, isArray, isObject, isTruth, isTrue};
+ghost use Rattle.inner.specs.Positions.{Says, foundOf, firstOf, nextItem, nextMember, treeAt, kindBy, isNumber, isTrue};
+ghost use Rattle.model.specs.Nav.{kindOf, isText, isArray, isObject, isTruth};
 ghost use Rattle.model.specs.Whole.{sized, plusOf, minusOf, wholeText, wholeOf};
 
 // The entry of the table, 0 past its end.

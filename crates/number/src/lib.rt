@@ -6,8 +6,7 @@ ghost use lib.Dec.{ltb};
 ghost use lib.IntN.{_+ℤ_, _*ℤ_};
 ghost use lib.Signed.{ltZ, leZ};
 ghost use Rattle.model.specs.Octets.{twos};
-ghost use Rattle.model.specs.Schema.{Column};
-ghost use Rattle.model.specs.Value.{fromTwos, intOf, intAtom, inLimits};
+ghost use Rattle.model.specs.Value.{fromTwos, intOf, intAtom};
 ghost use Rattle.model.specs.declared.Mutator.the-variants.{Divide, Remainder};
 ghost use Rattle.number.specs.Ints.{signed, intIn, asInt, differ, fitted, calculated};
 
@@ -102,15 +101,6 @@ pub fn at_most(a: Int, b: Int) -> bool
 {
     let l = less_parts(b.minus, b.size, a.minus, a.size);
     !l
-}
-
-// Whether an integer is in a column's limits.
-pub fn in_limits(i: Int, low: Int, high: Int) -> bool
-    ensures { λ r. ⌜ ((c : Column) → c .low ≡ intIn low → c .high ≡ intIn high → r ≡ inLimits c (intIn i)) ⌝ }
-{
-    let l = at_most(low, i);
-    let h = at_most(i, high);
-    l & h
 }
 
 fn differ(a: bool, b: bool) -> bool

@@ -1,35 +1,14 @@
--- Numbers most significant byte first, at any width; and the laws of loops that write the first bytes of a list. Assumes nothing.
-use mathlib.Core.Path.{_≡_, refl, sym, ap, _∙_, subst}
+-- The laws of loops that write and read numbers most significant byte first, and of those that write the first bytes of a list. Assumes nothing.
+use mathlib.Core.Path.{_≡_, sym, ap, _∙_, subst}
 use mathlib.Core.List.{List, [], _∷_, _++_, append-assoc}
-use Prim.Native.Nat.{ℕ, zero, suc, _+_, _-_, _*_, _/_, _%_, _^_, _≤_, _<_}
-use native.Mathlib.Nat.{pow-suc, div-div-eq-div-mul, add-assoc, mul-assoc, mul-comm, add-mul, mul-right-comm, mod-one, mod-eq-of-lt, lt-of-lt-of-le, pow-le-pow-right}
+use Prim.Native.Nat.{ℕ, suc, _+_, _-_, _*_, _/_, _%_, _^_, _≤_, _<_}
+use native.Mathlib.Nat.{pow-suc, div-div-eq-div-mul, add-assoc, mul-assoc, add-mul, mul-right-comm, lt-of-lt-of-le, pow-le-pow-right}
 use native.Mathlib.Numerals.{add-one}
 use native.Mathlib.Omega.{arith}
-use lib.Arith.{mod-mul}
 use lib.Dec.{lit<}
 use lib.ListN.{length, take, drop, set, getD, length-append, length-take}
 use lib.Seq.{take-suc, drop-cons, set-at, append-snoc, length-take-le}
 use Rattle.model.specs.Octets.{big, value}
-
-pub length-big : (w x : ℕ) → length (big w x) ≡ w
-length-big zero x = refl
-length-big (suc w) x = ap suc (length-big w x)
-
-pow-pos′ : (k : ℕ) → 0 < 256 ^ k
-pow-pos′ zero = lit< tt
-pow-pos′ (suc k) = omega (arith, pow-suc 256 k, pow-pos′ k)
-
--- what is read back is the number, as far as the width holds it
-pub value-big : (w x : ℕ) → value (big w x) ≡ x % 256 ^ w
-value-big zero x = sym (mod-one x)
-value-big (suc w) x =
-    ap (λ (n : ℕ). x / 256 ^ w % 256 * 256 ^ n + value (big w x)) (length-big w x)
-    ∙ ap (λ (n : ℕ). x / 256 ^ w % 256 * 256 ^ w + n) (value-big w x)
-    ∙ sym (mod-mul x {m = 256} {c = 256 ^ w} (lit< tt) (pow-pos′ w))
-    ∙ ap (λ (n : ℕ). x % n) (mul-comm 256 (256 ^ w) ∙ sym (pow-suc 256 w))
-
-pub value-big-fits : (w x : ℕ) → x < 256 ^ w → value (big w x) ≡ x
-value-big-fits w x h = value-big w x ∙ mod-eq-of-lt h
 
 -- one byte more at the front: a turn of the loop that writes a number from its end
 pub turn : (xs : List ℕ) (x w i j k v : ℕ) (ys : List ℕ) → i ≡ suc j → w - j ≡ suc k → j < length xs → v ≡ x / 256 ^ k

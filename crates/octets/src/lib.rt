@@ -2,10 +2,10 @@
 use model::Whole;
 ghost use mathlib.Core.Path.{_≡_};
 ghost use mathlib.Core.List.{_++_};
-ghost use Prim.Native.Nat.{_≤_, _-_};
+ghost use Prim.Native.Nat.{_≤_};
 ghost use lib.ListN.{length, take, drop, replicate};
 ghost use Rattle.model.specs.Octets.{big, value, twos, eqBytes, ltBytes};
-ghost use Rattle.model.specs.Whole.{intOf};
+ghost use Rattle.model.specs.Whole.{wholeInt};
 
 // All of b is 0.
 pub fn clear(b: &mut [u8])
@@ -16,14 +16,6 @@ pub fn clear(b: &mut [u8])
         b[i] = 0;
         i += 1;
     }
-}
-
-// b from `at` on is 0.
-pub fn clear_from(b: &mut [u8], at: usize)
-    requires { ⌜ at ≤ length (now b) ⌝ }
-    ensures { λ _. ⌜ now (b .exit) ≡ take at (now (b .entry)) ++ replicate (length (now (b .entry)) - at) 0 ⌝ }
-{
-    clear(&mut b[at..]);
 }
 
 // The first bytes are those of `src`.
@@ -111,7 +103,7 @@ pub fn less(a: &[u8], b: &[u8]) -> bool
 
 // The two's complement of an integer in 64 bits, 0 where there is none.
 pub fn bits(w: Whole) -> u64
-    ensures { λ r. ⌜ r ≡ twos 64 (intOf w) ⌝ }
+    ensures { λ r. ⌜ r ≡ twos 64 (wholeInt w) ⌝ }
 {
     match w {
         Whole::Plus(m) => m,

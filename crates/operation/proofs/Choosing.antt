@@ -14,8 +14,10 @@ use Rattle.model.specs.declared.Found.the-variants.{At, Nothing}
 use Rattle.model.specs.Octets.{eqBytes}
 use Rattle.model.specs.Base.{ascii, isSome, placeOf}
 use Rattle.model.specs.Json.{Json, null, bool, num, str, arr, obj, Named}
-use Rattle.model.specs.Nav.{treeAt, kindOf, isText}
-use Rattle.model.specs.Members.{membersIn, has, valueOf, Means}
+use Rattle.inner.specs.Positions.{treeAt}
+use Rattle.model.specs.Nav.{kindOf, isText}
+use Rattle.model.specs.Members.{membersIn, hasMember, memberValue}
+use Rattle.inner.specs.Positions.{Means}
 use Rattle.model.specs.Text.{isWord}
 use Rattle.model.specs.Schema.{Table, Schema, columnsOf, tableNamed}
 use Rattle.model.specs.Rows.{Row}
@@ -23,8 +25,8 @@ use Rattle.model.specs.Faults.{check}
 use Rattle.model.specs.Written.{Names, stringIn}
 use Rattle.model.specs.Transact.{freshIds}
 use Rattle.model.specs.Operations as Model
-use Rattle.model.specs.Packed.{columnFrom, tablesIn}
-use Rattle.model.specs.Working.{working}
+use Rattle.inner.specs.Packed.{columnFrom, packedTables}
+use Rattle.inner.specs.Working.{working}
 use Rattle.model.proofs.Tests.{split}
 use Rattle.names.specs.Names.{foundAt}
 use Rattle.fields.specs.Fields.{choiceFrom, choice, slotTree, Slots}
@@ -112,10 +114,10 @@ abbrev tableOr : Schema → Option Json → Option ℕ
 tableOr s o = elim (stringOr o) [ none ↦ none | some w ↦ tableNamed s w ]
 
 module _ (s : Schema) (text : List ℕ) (ms : List Named) where
-  pub table-there : {f : Found} {p : ℕ} → Means text f (has (ascii "table") ms) (valueOf (ascii "table") ms) → f ≡ At p → {r : Found} → r ≡ foundAt (schema.tableIn s (treeAt text p)) → r ≡ foundAt (Model.tableIn s ms)
+  pub table-there : {f : Found} {p : ℕ} → Means text f (hasMember (ascii "table") ms) (memberValue (ascii "table") ms) → f ≡ At p → {r : Found} → r ≡ foundAt (schema.tableIn s (treeAt text p)) → r ≡ foundAt (Model.tableIn s ms)
   table-there m e h = h ∙ sym (ap (λ (o : Option Json). foundAt (tableOr s o)) (find-there text ms m refl e .0))
 
-  pub table-missing : {f : Found} → Means text f (has (ascii "table") ms) (valueOf (ascii "table") ms) → f ≡ Nothing → Nothing ≡ foundAt (Model.tableIn s ms)
+  pub table-missing : {f : Found} → Means text f (hasMember (ascii "table") ms) (memberValue (ascii "table") ms) → f ≡ Nothing → Nothing ≡ foundAt (Model.tableIn s ms)
   unfolding foundAt
   table-missing m e = sym (ap (λ (o : Option Json). foundAt (tableOr s o)) (find-missing text ms m refl e))
 
@@ -141,27 +143,27 @@ unfolding foundAt
 found-none none e = refl
 found-none (some i) e = cc
 
-module _ (cells : List (List ℕ)) (ms : List Named) {r : Found} (e : r ≡ foundAt (Model.tableIn (tablesIn cells) ms)) where
-  pub table-is : {t : ℕ} → r ≡ At t → Model.tableIn (tablesIn cells) ms ≡ some t
-  table-is {t} h = found-some (Model.tableIn (tablesIn cells) ms) t (sym e ∙ h)
+module _ (cells : List (List ℕ)) (ms : List Named) {r : Found} (e : r ≡ foundAt (Model.tableIn (packedTables cells) ms)) where
+  pub table-is : {t : ℕ} → r ≡ At t → Model.tableIn (packedTables cells) ms ≡ some t
+  table-is {t} h = found-some (Model.tableIn (packedTables cells) ms) t (sym e ∙ h)
 
-  pub table-none : r ≡ Nothing → Model.tableIn (tablesIn cells) ms ≡ none
-  table-none h = found-none (Model.tableIn (tablesIn cells) ms) (sym e ∙ h)
+  pub table-none : r ≡ Nothing → Model.tableIn (packedTables cells) ms ≡ none
+  table-none h = found-none (Model.tableIn (packedTables cells) ms) (sym e ∙ h)
 
   -- a table that is found is one of the schema's
   pub table-small : {t : ℕ} → r ≡ At t → t < getD (getD cells 0 []) 25 0
   table-small {t} h = go (Model.memberAs stringIn (ascii "table") ms) (table-is h)
     where
-      go : (o : Option (List ℕ)) → elim o [ none ↦ none | some w ↦ tableNamed (tablesIn cells) w ] ≡ some t → t < getD (getD cells 0 []) 25 0
+      go : (o : Option (List ℕ)) → elim o [ none ↦ none | some w ↦ tableNamed (packedTables cells) w ] ≡ some t → t < getD (getD cells 0 []) 25 0
       go none q = absurd (let z : _≡_ {A = ℕ} 0 1 = cc in omega arith)
       go (some w) q =
-          let l = place-small w (map (λ (x : Table). x .name) (tablesIn cells)) t q in
-          omega (arith, l, length-map (tablesIn cells) (λ (x : Table). x .name), tables-count cells 0 (getD (getD cells 0 []) 25 0))
+          let l = place-small w (map (λ (x : Table). x .name) (packedTables cells)) t q in
+          omega (arith, l, length-map (packedTables cells) (λ (x : Table). x .name), tables-count cells 0 (getD (getD cells 0 []) 25 0))
 
 -- ── an operation on a table, by its number ──
 module _ (text : List ℕ) (ops : Found) (fresh : List ℕ) (cells columns : List (List ℕ)) (k t i op n : ℕ) (given : List (List ℕ)) (rows : List (List (List ℕ))) where
   abbrev s : Schema
-  s = tablesIn cells
+  s = packedTables cells
 
   abbrev names : Names
   names = namesAt text ops fresh
@@ -205,7 +207,7 @@ module _ (text : List ℕ) (ops : Found) (fresh : List ℕ) (cells columns : Lis
   on-select e o = by-number 1 e refl o
 
 -- the cells of its columns
-pub columns-same : (cells columns : List (List ℕ)) (t : ℕ) → t < getD (getD cells 0 []) 25 0 → columns ≡ columnCells cells t → columnsOf (tablesIn cells) t ≡ map columnFrom columns
+pub columns-same : (cells columns : List (List ℕ)) (t : ℕ) → t < getD (getD cells 0 []) 25 0 → columns ≡ columnCells cells t → columnsOf (packedTables cells) t ≡ map columnFrom columns
 columns-same cells columns t h e = columns-in cells t h ∙ ap (map columnFrom) (sym e)
 
 -- ── any operation, by its number ──
@@ -292,7 +294,7 @@ module _ (s : Schema) (names : Names) (given : List (List ℕ)) (id : ℕ) (rows
   abbrev performOr : Option Json → Model.Done
   performOr o = Model.perform s names given id rows ms (stringOr o)
 
-  module _ (text : List ℕ) {f : Found} (m : Means text f (has (ascii "op") ms) (valueOf (ascii "op") ms)) where
+  module _ (text : List ℕ) {f : Found} (m : Means text f (hasMember (ascii "op") ms) (memberValue (ascii "op") ms)) where
     pub operate-there : {p k : ℕ} → f ≡ At p → k ≡ choice operations (treeAt text p) → Model.operate s names given id rows ms ≡ performed k s names given id rows ms
     operate-there {p} {k} e h =
         ap performOr (find-there text ms m refl e .0) ∙ by-word (treeAt text p) ∙ ap (λ (j : ℕ). performed j s names given id rows ms) (sym h)

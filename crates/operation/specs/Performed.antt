@@ -8,7 +8,7 @@ use lib.ListN.{length}
 use Rattle.model.specs.declared.Fault.the-variants.{Syntax}
 use Rattle.model.specs.declared.Found.{Found}
 use Rattle.model.specs.Json.{Named}
-use Rattle.model.specs.Nav.{wellAt, treeAt}
+use Rattle.inner.specs.Positions.{wellAt, treeAt}
 use Rattle.model.specs.Members.{membersIn}
 use Rattle.model.specs.Schema.{Schema, columnsOf}
 use Rattle.model.specs.Rows.{Row}

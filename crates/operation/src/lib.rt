@@ -7,13 +7,13 @@ ghost use mathlib.Core.Bool.{true};
 ghost use mathlib.Core.List.{List, []};
 ghost use Prim.Native.Nat.{ℕ, _+_, _^_, _≤_, _<_};
 ghost use lib.ListN.{length, getD};
-ghost use Rattle.model.specs.Nav.{Says, wellAt, treeAt};
+ghost use Rattle.inner.specs.Positions.{Says, wellAt, treeAt};
 ghost use Rattle.model.specs.Members.{membersIn};
 ghost use Rattle.model.specs.Schema.{Schema};
 ghost use Rattle.model.specs.Transact.{freshIds};
 ghost use Rattle.model.specs.Operations.{tableIn, operate};
-ghost use Rattle.model.specs.Packed.{tablesIn};
-ghost use Rattle.model.specs.Working.{working};
+ghost use Rattle.inner.specs.Packed.{packedTables};
+ghost use Rattle.inner.specs.Working.{working};
 ghost use Rattle.area.specs.Layout.{Sized};
 ghost use Rattle.references.specs.Links.{Accepted};
 ghost use Rattle.names.specs.Names.{foundAt};
@@ -77,7 +77,7 @@ fn table_in(text: &[u8], ends: &[u16], schema: &[[u8; 48]; 29], op: usize) -> Fo
     requires { ⌜ Says (now text) (now ends) ⌝ }
     requires { ⌜ wellAt (now text) op ≡ true ⌝ }
     requires { ⌜ getD (getD (now schema) 0 []) 25 0 ≤ 4 ⌝ }
-    ensures { λ r. ⌜ r ≡ foundAt (tableIn (tablesIn (now (schema .entry))) (membersIn (treeAt (now (text .entry)) op))) ⌝ }
+    ensures { λ r. ⌜ r ≡ foundAt (tableIn (packedTables (now (schema .entry))) (membersIn (treeAt (now (text .entry)) op))) ⌝ }
 {
     let f = text::find(text, ends, op, b"table");
     match f {
@@ -105,7 +105,7 @@ fn on_table(
     requires { ⌜ Begun (now text) (now ends) ops (now fresh) (now schema) i op n (now rows) at ⌝ }
     requires { ⌜ t < getD (getD (now schema) 0 []) 25 0 ⌝ }
     requires { ⌜ k < 5 ⌝ }
-    ensures { λ r. ⌜ ((given : List (List ℕ)) → Earlier (now (text .entry)) ops i given → Ran (tablesIn (now (schema .entry))) (tabled k (tablesIn (now (schema .entry))) (namesAt (now (text .entry)) ops (now (fresh .entry))) given (getD (freshIds (now (fresh .entry))) i 0) (working (tablesIn (now (schema .entry))) n (now (rows .entry))) (membersIn (treeAt (now (text .entry)) op)) t) n (now (rows .entry)) (now (rows .exit)) at (now (out .entry)) (now (out .exit)) r) ⌝ }
+    ensures { λ r. ⌜ ((given : List (List ℕ)) → Earlier (now (text .entry)) ops i given → Ran (packedTables (now (schema .entry))) (tabled k (packedTables (now (schema .entry))) (namesAt (now (text .entry)) ops (now (fresh .entry))) given (getD (freshIds (now (fresh .entry))) i 0) (working (packedTables (now (schema .entry))) n (now (rows .entry))) (membersIn (treeAt (now (text .entry)) op)) t) n (now (rows .entry)) (now (rows .exit)) at (now (out .entry)) (now (out .exit)) r) ⌝ }
 {
     let columns = area::columns_of(schema, t);
     let table = t as u8;
@@ -190,7 +190,7 @@ fn perform(
     at: usize,
 ) -> Done
     requires { ⌜ Begun (now text) (now ends) ops (now fresh) (now schema) i op n (now rows) at ⌝ }
-    ensures { λ r. ⌜ ((given : List (List ℕ)) → Earlier (now (text .entry)) ops i given → Ran (tablesIn (now (schema .entry))) (performed k (tablesIn (now (schema .entry))) (namesAt (now (text .entry)) ops (now (fresh .entry))) given (getD (freshIds (now (fresh .entry))) i 0) (working (tablesIn (now (schema .entry))) n (now (rows .entry))) (membersIn (treeAt (now (text .entry)) op))) n (now (rows .entry)) (now (rows .exit)) at (now (out .entry)) (now (out .exit)) r) ⌝ }
+    ensures { λ r. ⌜ ((given : List (List ℕ)) → Earlier (now (text .entry)) ops i given → Ran (packedTables (now (schema .entry))) (performed k (packedTables (now (schema .entry))) (namesAt (now (text .entry)) ops (now (fresh .entry))) given (getD (freshIds (now (fresh .entry))) i 0) (working (packedTables (now (schema .entry))) n (now (rows .entry))) (membersIn (treeAt (now (text .entry)) op))) n (now (rows .entry)) (now (rows .exit)) at (now (out .entry)) (now (out .exit)) r) ⌝ }
 {
     if k == 5 {
         return run_comment(text, ends, op, n, out, at);
@@ -251,7 +251,7 @@ pub fn operate(
     requires { ⌜ i < 16 ⌝ }
     requires { ⌜ (n ≤ 32) × (32 ≤ length (now rows)) ⌝ }
     requires { ⌜ at + 200000 < 2 ^ 64 ⌝ }
-    ensures { λ r. ⌜ ((given : List (List ℕ)) → Earlier (now (text .entry)) ops i given → Ran (tablesIn (now (schema .entry))) (operate (tablesIn (now (schema .entry))) (namesAt (now (text .entry)) ops (now (fresh .entry))) given (getD (freshIds (now (fresh .entry))) i 0) (working (tablesIn (now (schema .entry))) n (now (rows .entry))) (membersIn (treeAt (now (text .entry)) op))) n (now (rows .entry)) (now (rows .exit)) at (now (answer .entry)) (now (answer .exit)) r) ⌝ }
+    ensures { λ r. ⌜ ((given : List (List ℕ)) → Earlier (now (text .entry)) ops i given → Ran (packedTables (now (schema .entry))) (operate (packedTables (now (schema .entry))) (namesAt (now (text .entry)) ops (now (fresh .entry))) given (getD (freshIds (now (fresh .entry))) i 0) (working (packedTables (now (schema .entry))) n (now (rows .entry))) (membersIn (treeAt (now (text .entry)) op))) n (now (rows .entry)) (now (rows .exit)) at (now (answer .entry)) (now (answer .exit)) r) ⌝ }
 {
     let f = text::find(text, ends, op, b"op");
     let Found::At(p) = f else {

@@ -9,8 +9,8 @@ use native.Mathlib.Omega.{arith}
 use lib.ListN.{length, take, drop, getD}
 use Rattle.model.specs.Octets.{part}
 use Rattle.model.specs.Base.{ascii}
-use Rattle.model.specs.Packed.{cellName}
-use Rattle.model.specs.Working.{idIn, valueIn}
+use Rattle.inner.specs.Packed.{cellName}
+use Rattle.inner.specs.Working.{idIn, valueIn}
 use Rattle.model.specs.Answers.{quoted}
 use Rattle.answer.specs.Put.{Counted}
 use Rattle.answer.specs.Texts.{quotedText, idText, setText, commaText, joined}

@@ -8,11 +8,12 @@ use native.Mathlib.Omega.{arith}
 use lib.ListN.{length, take, drop, getD, length-drop, length-map}
 use lib.Seq.{drop-cons, drop-drop, getD-drop, length-take-le}
 use Rattle.model.specs.Base.{ascii, if_then_else_}
-use Rattle.model.specs.Schema.{Column, Schema, columnsOf, baseOf}
-use Rattle.model.specs.Packed.{cellName, columnFrom, columnCell, tableFrom}
+use Rattle.model.specs.Schema.{Column, Schema, columnsOf}
+use Rattle.inner.specs.Packed.{baseNumbered}
+use Rattle.inner.specs.Packed.{cellName, columnFrom, columnCell, tableFrom}
 use Rattle.model.specs.Value.{Value}
 use Rattle.model.specs.Areas.{columnsFrom, rowFrom}
-use Rattle.model.specs.Working.{tableIn, idIn, valueIn}
+use Rattle.inner.specs.Working.{tableIn, idIn, valueIn}
 use Rattle.model.specs.Operations.{shownColumns, rowText}
 use Rattle.model.specs.Answers.{memberText, valueText}
 use Rattle.answer.specs.Texts.{commaText, joined}
@@ -43,11 +44,11 @@ module _ (show : List ℕ → Bool) (schema : List (List ℕ)) (from : ℕ) (row
       ∙ ap (λ (n : ℕ). shownColumns show (map columnFrom (take k (drop n schema))) (columnsFrom k (drop (17 + suc c) head) (drop (1 + 4 * suc c) row))) e1
       ∙ ap (λ (l : List ℕ). shownColumns show (map columnFrom (take k (drop (suc (from + c)) schema))) (columnsFrom k l (drop (1 + 4 * suc c) row))) (ap (λ (n : ℕ). drop n head) e2 ∙ sym (drop-drop 1 (17 + c) head))
       ∙ ap (λ (l : List (List ℕ)). shownColumns show (map columnFrom (take k (drop (suc (from + c)) schema))) (columnsFrom k (drop 1 (drop (17 + c) head)) l)) (ap (λ (n : ℕ). drop n row) e3 ∙ sym (drop-drop 4 (1 + 4 * c) row)) in
-      let same : columnText cell row c ≡ memberText (cellName cell) (valueText (baseOf (getD cell 25 0)) v) =
-      ap (λ (n : ℕ). memberText (cellName cell) (valueText (baseOf (getD cell 25 0)) (record { count = n; atoms = take 4 (drop (1 + 4 * c) row) })))
+      let same : columnText cell row c ≡ memberText (cellName cell) (valueText (baseNumbered (getD cell 25 0)) v) =
+      ap (λ (n : ℕ). memberText (cellName cell) (valueText (baseNumbered (getD cell 25 0)) (record { count = n; atoms = take 4 (drop (1 + 4 * c) row) })))
       (sym (getD-drop (17 + c) head 0 0 ∙ ap (λ (n : ℕ). getD head n 0) (add-zero (17 + c)))) in
       ap (λ (b : Bool). listed b (columnText cell row c) (shownFrom schema from row shown (suc c) k)) (f c (omega arith))
-      ∙ choose (show (cellName cell)) (columnText cell row c) (memberText (cellName cell) (valueText (baseOf (getD cell 25 0)) v)) (shownFrom schema from row shown (suc c) k) rest same later
+      ∙ choose (show (cellName cell)) (columnText cell row c) (memberText (cellName cell) (valueText (baseNumbered (getD cell 25 0)) v)) (shownFrom schema from row shown (suc c) k) rest same later
       ∙ ap (λ (l : List (List ℕ)). shownColumns show (map columnFrom (take (suc k) l)) (columnsFrom (suc k) (drop (17 + c) head) (drop (1 + 4 * c) row))) (sym (drop-cons schema (from + c) [] (omega arith)))
 
 -- the id, and the columns after it

@@ -4,9 +4,9 @@ use mathlib.Core.Bool.{Bool, true, false, not}
 use mathlib.Core.List.{List, [], _∷_, _++_}
 use lib.ListN.{getD}
 use Rattle.model.specs.Base.{ascii}
-use Rattle.model.specs.Schema.{baseOf}
-use Rattle.model.specs.Packed.{cellName, columnCell, tableCell}
-use Rattle.model.specs.Working.{idIn, valueIn}
+use Rattle.inner.specs.Packed.{baseNumbered}
+use Rattle.inner.specs.Packed.{cellName, columnCell, tableCell}
+use Rattle.inner.specs.Working.{idIn, valueIn}
 use Rattle.model.specs.Answers.{quoted, uuidText, memberText, valueText}
 use Rattle.answer.specs.Texts.{commaText, joined}
 
@@ -16,7 +16,7 @@ nameText name = quoted name ++ (58 ∷ [])
 
 -- a column's member, by its cell of the schema
 unfoldable pub columnText : List ℕ → List (List ℕ) → ℕ → List ℕ
-columnText cell row c = memberText (cellName cell) (valueText (baseOf (getD cell 25 0)) (valueIn c row))
+columnText cell row c = memberText (cellName cell) (valueText (baseNumbered (getD cell 25 0)) (valueIn c row))
 
 unfoldable pub rowIdText : List (List ℕ) → List ℕ
 rowIdText row = memberText (ascii "_uuid") (uuidText (idIn row))

@@ -3,7 +3,7 @@ ghost use mathlib.Core.Path.{_≡_};
 ghost use mathlib.Core.Bool.{true};
 ghost use Prim.Native.Nat.{_+_, _*_, _^_, _<_, _≤_};
 ghost use lib.ListN.{length};
-ghost use Rattle.model.specs.Packed.{cellName};
+ghost use Rattle.inner.specs.Packed.{cellName};
 ghost use Rattle.answer.specs.Put.{Put};
 ghost use Rattle.answer.specs.Texts.{joined};
 ghost use Rattle.projection.specs.Shown.{nameText, columnText, rowIdText, shownText, shownFrom, columnsIn, rowShown};

@@ -1,36 +1,22 @@
 -- The parts of a record: the bytes of an id are its number's, four atoms are one after another. Assumes nothing.
-use mathlib.Core.Path.{_≡_, refl, sym, ap, _∙_, subst}
-use mathlib.Core.Bool.{true}
+use mathlib.Core.Path.{_≡_, refl, sym, subst}
 use mathlib.Core.List.{List, [], _∷_, _++_, append-assoc, append-nil}
-use Prim.Native.Nat.{ℕ, suc, _+_, _≤_, _<_}
+use Prim.Native.Nat.{ℕ, _+_, _≤_, _<_}
 use native.Mathlib.Omega.{arith}
-use borrow.Author.Tests.{lt-ltb}
 use lib.ListN.{length, getD, set, drop}
 use Rattle.model.specs.Octets.{big, value}
-use Rattle.model.specs.Base.{all, flat}
+use Rattle.model.specs.Base.{flat}
 use Rattle.model.specs.Records.{Record}
-use Rattle.model.proofs.Lists.{all-cons}
-use Rattle.model.proofs.Octets.{octet, length-big, big-octets, value-big-fits, value-lt, value-inj}
+use Rattle.model.proofs.Octets.{octets, big-value}
 use Rattle.record.specs.Writing.{Wrote}
 
 pub first : (l : List ℕ) (b : ℕ) → 1 ≤ length l → set l 0 b ≡ b ∷ drop 1 l
 first [] b h = absurd (omega arith)
 first (x ∷ l) b h = refl
 
--- bytes, one by one
-pub octets : (l : List ℕ) → ((i : ℕ) → getD l i 0 < 256) → all octet l ≡ true
-octets [] h = refl
-octets (b ∷ l) h = all-cons octet b l (lt-ltb b 256 (h 0)) (octets l (λ i. h (suc i)))
-
--- bytes are those of the number that they stand for
-big-value : (l : List ℕ) → all octet l ≡ true → big (length l) (value l) ≡ l
-big-value l h =
-    let n = length-big (length l) (value l) in
-    value-inj (big (length l) (value l)) l n (big-octets (length l) (value l)) h (value-big-fits (length l) (value l) (value-lt l h))
-
 -- an id's 16 bytes are those of its number
 pub id-bytes : (id : List ℕ) → length id ≡ 16 → ((i : ℕ) → getD id i 0 < 256) → id ≡ big 16 (value id)
-id-bytes id n h = sym (big-value id (octets id h)) ∙ ap (λ (w : ℕ). big w (value id)) n
+id-bytes id n h = sym (big-value 16 id n (octets id h))
 
 -- four atoms one after another
 pub flat-four : (l : List (List ℕ)) → length l ≡ 4 → ((getD l 0 [] ++ getD l 1 []) ++ getD l 2 []) ++ getD l 3 [] ≡ flat l

@@ -8,7 +8,7 @@ use lib.Dec.{eqb, ltb}
 use lib.ListN.{length, getD}
 use Rattle.model.specs.Octets.{value}
 use Rattle.model.proofs.Tests.{and-l}
-use Rattle.model.proofs.Octets.{value-lt}
+use Rattle.model.proofs.Octets.{octets, value-lt}
 use Rattle.record.specs.Reading.{idIn, arrivalRecord, Sized, knownIn, listedIn, listedRecord}
 use Rattle.record.specs.declared.Born.{Born}
 use Rattle.record.specs.declared.Gone.{Gone}
@@ -17,7 +17,6 @@ use Rattle.record.specs.declared.End.{End}
 use Rattle.record.specs.declared.Mark.{Mark}
 use Rattle.record.specs.declared.Arrival.{Arrival}
 use Rattle.record.specs.declared.Arrival.the-variants as arrival
-use Rattle.record.proofs.Laws.{octets}
 
 pub known-past : (n t i : ℕ) → n ≤ t → knownIn n t i ≡ false
 unfolding knownIn

@@ -3,7 +3,7 @@ use mathlib.Core.Path.{_≡_, refl, sym, ap, _∙_}
 use mathlib.Core.Bool.{_&&_}
 use mathlib.Core.List.{List, [], _∷_, _++_, append-nil}
 use mathlib.Core.Option.{some}
-use Prim.Native.Nat.{ℕ, suc, _+_, _*_, _^_, _≤_, _<_}
+use Prim.Native.Nat.{ℕ, suc, _+_, _*_, _≤_, _<_}
 use native.Mathlib.Omega.{arith}
 use borrow.Author.Tests.{eq-eqb, ne-eqb, eqb-true, eqb-false}
 use lib.Dec.{eqb}
@@ -12,8 +12,6 @@ use lib.Seq.{getD-drop, drop-drop, length-take-le}
 use Rattle.model.specs.Octets.{value, part}
 use Rattle.model.specs.Records.{born, gone, column, end, numbered, mark, recordBytes, bodyOf, cut, decode}
 use Rattle.model.proofs.Tests.{split}
-use Rattle.model.proofs.Lists.{all-take, all-drop}
-use Rattle.model.proofs.Octets.{octet, value-lt}
 use Rattle.octets.proofs.Laws.{value-take-suc}
 use Rattle.record.specs.Kinds.{bornOf, goneOf, columnOf, endOf, markOf}
 use Rattle.record.specs.Reading.{arrivalRecord, Sized, ReadAs}
@@ -23,13 +21,6 @@ use Rattle.record.specs.declared.Column.{Column}
 use Rattle.record.specs.declared.End.{End}
 use Rattle.record.specs.declared.Mark.{Mark}
 use Rattle.record.specs.declared.Arrival.the-variants as arrival
-use Rattle.record.proofs.Laws.{octets}
-
--- a part of w bytes is below 256 ^ w
-pub part-lt : (l : List ℕ) (at w : ℕ) → at + w ≤ length l → ((i : ℕ) → getD l i 0 < 256) → value (part at w l) < 256 ^ w
-part-lt l at w h f =
-    let n : length (part at w l) ≡ w = length-take-le w (drop at l) (omega (arith, length-drop at l)) in
-    rw n at (value-lt (part at w l) (all-take octet w (drop at l) (all-drop octet at l (octets l f))))
 
 -- the kinds that there are
 pub kind-five : (k : ℕ) → 0 < recordBytes k → (k ≡ 1 → ⊥) → (k ≡ 2 → ⊥) → (k ≡ 3 → ⊥) → (k ≡ 4 → ⊥) → k ≡ 5

@@ -16,11 +16,11 @@ use Rattle.model.specs.Value.{Value, elements, valueOf}
 use Rattle.model.specs.Rows.{Row}
 use Rattle.model.specs.Commit.{strongly, weakly, keysOf, targets}
 use Rattle.model.specs.Areas.{columnsFrom, rowFrom}
-use Rattle.model.specs.Packed.{refersFrom, columnCell, tablesIn}
-use Rattle.model.specs.Working.{tableIn, valueIn}
+use Rattle.inner.specs.Packed.{refersFrom, columnCell, packedTables}
+use Rattle.inner.specs.Working.{tableIn, valueIn}
 use Rattle.model.proofs.Tests.{split}
-use Rattle.model.proofs.Working.{row-table}
-use Rattle.model.proofs.Columns.{column-value}
+use Rattle.inner.proofs.Working.{row-table}
+use Rattle.inner.proofs.Columns.{column-value}
 use Rattle.references.specs.Links.{pick, told, refersAt, Accepted}
 use Rattle.references.specs.declared.Target.{Target}
 use Rattle.references.specs.declared.Target.the-variants.{Table, Nothing}
@@ -83,21 +83,21 @@ module _ {A : Type 0} (q : A → Bool) where
 -- ── what the columns from c on refer to ──
 module _ (which : Refers → Option ℕ) (schema cells : List (List ℕ)) where
   abbrev pub restOf : ℕ → List ℕ
-  restOf c = targets which (drop c (columnsOf (tablesIn schema) (tableIn cells))) (drop c (rowFrom (tablesIn schema) cells .columns))
+  restOf c = targets which (drop c (columnsOf (packedTables schema) (tableIn cells))) (drop c (rowFrom (packedTables schema) cells .columns))
 
   abbrev pub here : ℕ → List ℕ
   here c = keysOf (which (refersAt schema (tableIn cells) c)) (elements (valueIn c cells))
 
-  pub rest-all : targets which (columnsOf (tablesIn schema) (rowFrom (tablesIn schema) cells .table)) (rowFrom (tablesIn schema) cells .columns) ≡ restOf 0
-  rest-all = ap (λ (t : ℕ). targets which (columnsOf (tablesIn schema) t) (rowFrom (tablesIn schema) cells .columns)) (row-table (tablesIn schema) cells)
+  pub rest-all : targets which (columnsOf (packedTables schema) (rowFrom (packedTables schema) cells .table)) (rowFrom (packedTables schema) cells .columns) ≡ restOf 0
+  rest-all = ap (λ (t : ℕ). targets which (columnsOf (packedTables schema) t) (rowFrom (packedTables schema) cells .columns)) (row-table (packedTables schema) cells)
 
-  pub rest-end : (c : ℕ) → length (columnsOf (tablesIn schema) (tableIn cells)) ≤ c → restOf c ≡ []
-  rest-end c h = rw (drop-of-length-le (columnsOf (tablesIn schema) (tableIn cells)) {i = c} h)
+  pub rest-end : (c : ℕ) → length (columnsOf (packedTables schema) (tableIn cells)) ≤ c → restOf c ≡ []
+  rest-end c h = rw (drop-of-length-le (columnsOf (packedTables schema) (tableIn cells)) {i = c} h)
 
-  module _ (ok : Accepted schema) (c : ℕ) (h : c < length (columnsOf (tablesIn schema) (tableIn cells))) where
+  module _ (ok : Accepted schema) (c : ℕ) (h : c < length (columnsOf (packedTables schema) (tableIn cells))) where
     pub rest-on : restOf c ≡ here c ++ restOf (c + 1)
     unfolding refersAt
-    rest-on = rw (columns-on schema ok (tableIn cells) c h, values-on (tablesIn schema) cells c h)
+    rest-on = rw (columns-on schema ok (tableIn cells) c h, values-on (packedTables schema) cells c h)
 
     module _ (q : ℕ → Bool) where
       pub any-rest-here : any q (here c) ≡ true → any q (restOf c) ≡ true

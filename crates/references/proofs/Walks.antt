@@ -18,8 +18,8 @@ use Rattle.model.proofs.Within.{any-map, all-map}
 use Rattle.model.specs.Schema.{Schema}
 use Rattle.model.specs.Rows.{Row, keyOf, key, has}
 use Rattle.model.specs.Areas.{rowFrom}
-use Rattle.model.specs.Working.{working, keyIn}
-use Rattle.model.proofs.Working.{row-key, working-on, working-end}
+use Rattle.inner.specs.Working.{working, keyIn}
+use Rattle.inner.proofs.Working.{row-key, working-on, working-end}
 
 module _ {A : Type 0} (d : A) (l : List A) (n i : ℕ) (h : n ≤ length l) where
   pub first-on : i < n → drop i (take n l) ≡ getD l i d ∷ drop (i + 1) (take n l)

@@ -10,8 +10,8 @@ use Rattle.model.specs.Base.{all}
 use Rattle.model.specs.Schema.{Refers, Schema, columnsOf}
 use Rattle.model.specs.Rows.{Row, has}
 use Rattle.model.specs.Commit.{strongly, weakly, targets}
-use Rattle.model.specs.Packed.{schemaCells, columnCell, columnFrom, databaseFrom}
-use Rattle.model.specs.Sane.{sane}
+use Rattle.inner.specs.Packed.{schemaCells, columnCell, columnFrom, databaseFrom}
+use Rattle.model.proofs.Sane.{sane}
 use Rattle.references.specs.declared.Target.{Target}
 use Rattle.references.specs.declared.Target.the-variants.{Table, Nothing}
 

@@ -11,8 +11,8 @@ ghost use Rattle.model.specs.Value.{uuidOf, elements};
 ghost use Rattle.model.specs.Rows.{keyOf, has};
 ghost use Rattle.model.specs.Commit.{keysOf, targets, strongOf, present};
 ghost use Rattle.model.specs.Areas.{rowFrom};
-ghost use Rattle.model.specs.Packed.{refersFrom, tablesIn};
-ghost use Rattle.model.specs.Working.{working, keyIn, valueIn};
+ghost use Rattle.inner.specs.Packed.{refersFrom, packedTables};
+ghost use Rattle.inner.specs.Working.{working, keyIn, valueIn};
 ghost use Rattle.references.specs.Links.{pick, told, refersAt, referred, Accepted};
 
 // The table that a column refers to, if it refers to one.
@@ -30,7 +30,7 @@ fn wide(b: u8) -> usize
 // How many columns a table has.
 pub fn width(schema: &[[u8; 48]], table: u8) -> usize
     requires { ⌜ Accepted (now schema) ⌝ }
-    ensures { λ r. ⌜ r ≡ length (columnsOf (tablesIn (now (schema .entry))) table) ⌝ }
+    ensures { λ r. ⌜ r ≡ length (columnsOf (packedTables (now (schema .entry))) table) ⌝ }
 {
     if schema[0][25] <= table {
         return 0;
@@ -64,7 +64,7 @@ fn picked(how: u8, kind: u8, table: u8) -> Target
 // The table that column c of a table refers to, strongly (how 1) or weakly.
 pub fn refers(schema: &[[u8; 48]], table: u8, c: usize, how: u8) -> Target
     requires { ⌜ Accepted (now schema) ⌝ }
-    requires { ⌜ c < length (columnsOf (tablesIn (now schema)) table) ⌝ }
+    requires { ⌜ c < length (columnsOf (packedTables (now schema)) table) ⌝ }
     ensures { λ r. ⌜ told r ≡ pick how (refersAt (now (schema .entry)) table c) ⌝ }
 {
     let at = 5 + 6 * wide(table) + c;
@@ -202,7 +202,7 @@ fn column_found(
 // Whether a row refers strongly to another.
 pub fn refers_to(row: &[[u8; 25]; 25], schema: &[[u8; 48]], other: &[[u8; 25]; 25]) -> bool
     requires { ⌜ Accepted (now schema) ⌝ }
-    ensures { λ r. ⌜ r ≡ any (eqb (keyIn (now (other .entry)))) (strongOf (tablesIn (now (schema .entry))) (rowFrom (tablesIn (now (schema .entry))) (now (row .entry)))) ⌝ }
+    ensures { λ r. ⌜ r ≡ any (eqb (keyIn (now (other .entry)))) (strongOf (packedTables (now (schema .entry))) (rowFrom (packedTables (now (schema .entry))) (now (row .entry)))) ⌝ }
 {
     let table = rows::table_of(row);
     let w = width(schema, table);
@@ -227,7 +227,7 @@ pub fn row_found(
 ) -> bool
     requires { ⌜ Accepted (now schema) ⌝ }
     requires { ⌜ n ≤ length (now rows) ⌝ }
-    ensures { λ r. ⌜ r ≡ referred (tablesIn (now (schema .entry))) how (working (tablesIn (now (schema .entry))) n (now (rows .entry))) (rowFrom (tablesIn (now (schema .entry))) (now (row .entry))) ⌝ }
+    ensures { λ r. ⌜ r ≡ referred (packedTables (now (schema .entry))) how (working (packedTables (now (schema .entry))) n (now (rows .entry))) (rowFrom (packedTables (now (schema .entry))) (now (row .entry))) ⌝ }
 {
     let table = rows::table_of(row);
     let w = width(schema, table);

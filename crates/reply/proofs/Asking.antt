@@ -10,11 +10,12 @@ use Rattle.model.specs.declared.Answer.the-variants.{Accepted, BadRequest, Othe
 use Rattle.model.specs.Octets.{eqBytes}
 use Rattle.model.specs.Base.{isSome}
 use Rattle.model.specs.Json.{Json, null, bool, num, str, arr, obj}
-use Rattle.model.specs.Nav.{treeAt, kindOf, isText, textIn}
+use Rattle.inner.specs.Positions.{treeAt}
+use Rattle.model.specs.Nav.{kindOf, isText, textIn}
 use Rattle.model.specs.Text.{isWord}
-use Rattle.model.specs.Packed.{cellName, tablesIn, databaseFrom}
+use Rattle.inner.specs.Packed.{cellName, packedTables, databaseFrom}
 use Rattle.model.specs.Rows.{Row}
-use Rattle.model.specs.Working.{working}
+use Rattle.inner.specs.Working.{working}
 use Rattle.model.specs.Transact as model
 use Rattle.model.specs.Transact.{readRequest, freshIds, idsGood}
 use Rattle.model.specs.Replies.{Reply, refused, freshly, named, replyTo}
@@ -41,7 +42,7 @@ word-is w (obj ms) h = absurd (clash false h refl)
 
 module _ (cells : List (List ℕ)) (n : ℕ) (before : List (List (List ℕ))) (request fresh ends : List ℕ) {q : Request} (read : RequestRead request ends q) where
   abbrev rows : List Row
-  rows = working (tablesIn cells) n before
+  rows = working (packedTables cells) n before
 
   bad : q .fits ≡ false → (number room : ℕ) → replyOn cells number n before request fresh room ≡ refused BadRequest rows
   unfolding replyOn
@@ -82,13 +83,13 @@ module _ (cells : List (List ℕ)) (n : ℕ) (before : List (List (List ℕ))) (
             (λ t. absurd (clash _ t (same-name w))) (λ t. refl)
 
     module _ (w : isWord (cellName (getD cells 0 [])) (treeAt request (q .name)) ≡ true) where
-      goes : (number room : ℕ) → replyOn cells number n before request fresh room ≡ freshly (tablesIn cells) number rows (freshIds fresh) room asks
+      goes : (number room : ℕ) → replyOn cells number n before request fresh room ≡ freshly (packedTables cells) number rows (freshIds fresh) room asks
       goes number room =
           reads number room
-          ∙ by-test (λ (r : Reply). r ≡ freshly (tablesIn cells) number rows (freshIds fresh) room asks) (eqBytes (textIn (treeAt request (q .name))) (cellName (getD cells 0 [])))
+          ∙ by-test (λ (r : Reply). r ≡ freshly (packedTables cells) number rows (freshIds fresh) room asks) (eqBytes (textIn (treeAt request (q .name))) (cellName (getD cells 0 [])))
           (λ t. refl) (λ t. absurd (clash _ (same-name w) t))
 
-      stale : freshGood fresh rows ≡ false → (number room : ℕ) → freshly (tablesIn cells) number rows (freshIds fresh) room asks ≡ refused BadFreshIds rows
+      stale : freshGood fresh rows ≡ false → (number room : ℕ) → freshly (packedTables cells) number rows (freshIds fresh) room asks ≡ refused BadFreshIds rows
       unfolding freshGood
       stale g number room = by-test (λ (r : Reply). r ≡ refused BadFreshIds rows) (idsGood (freshIds fresh) rows) (λ t. absurd (clash _ t g)) (λ t. refl)
 
@@ -101,10 +102,10 @@ module _ (cells : List (List ℕ)) (n : ℕ) (before : List (List (List ℕ))) (
         few = λ t. absurd (clash false t refl);
       }
 
-      runs : freshGood fresh rows ≡ true → (number room : ℕ) → freshly (tablesIn cells) number rows (freshIds fresh) room asks ≡ toldOf (tablesIn cells) number rows room (transactOn (tablesIn cells) request (q .ops) fresh rows)
+      runs : freshGood fresh rows ≡ true → (number room : ℕ) → freshly (packedTables cells) number rows (freshIds fresh) room asks ≡ toldOf (packedTables cells) number rows room (transactOn (packedTables cells) request (q .ops) fresh rows)
       unfolding freshGood toldOf transactOn
       runs g number room =
-          by-test (λ (r : Reply). r ≡ toldOf (tablesIn cells) number rows room (transactOn (tablesIn cells) request (q .ops) fresh rows)) (idsGood (freshIds fresh) rows)
+          by-test (λ (r : Reply). r ≡ toldOf (packedTables cells) number rows room (transactOn (packedTables cells) request (q .ops) fresh rows)) (idsGood (freshIds fresh) rows)
           (λ t. refl) (λ t. absurd (clash _ g t))
 
       pub asked-runs : freshGood fresh rows ≡ true → length fresh ≡ 256 → Asked cells n before request fresh ends (record { runs = true; answer = Accepted; ops = q .ops })

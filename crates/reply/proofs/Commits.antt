@@ -6,11 +6,11 @@ use Prim.Native.Nat.{ℕ, _≤_}
 use native.Mathlib.Omega.{arith}
 use Rattle.model.specs.declared.Found.{Found}
 use Rattle.model.specs.declared.Fault.{Fault}
-use Rattle.model.specs.Text.{isNothing}
+use Rattle.inner.specs.Positions.{isNothing}
 use Rattle.model.specs.Schema.{Schema}
 use Rattle.model.specs.Rows.{Row}
 use Rattle.model.specs.Faults.{isFine}
-use Rattle.model.specs.Working.{working}
+use Rattle.inner.specs.Working.{working}
 use Rattle.model.specs.Answers.{bracketed, errorText}
 use Rattle.model.specs.Transact as model
 use Rattle.model.specs.Transact.{atCommit}
@@ -81,24 +81,24 @@ module _ (s : Schema) (text : List ℕ) (ops : Found) (fresh : List ℕ) (rows :
   stopped-is : isFine (whole .fault) ≡ false → transactOn s text ops fresh rows ≡ record { commits = false; rows = rows; text = bracketed (whole .results) }
   unfolding transactOn runWhole namesAt
   stopped-is h =
-      by-test (λ (t : model.Transacted). t ≡ record { commits = false; rows = rows; text = bracketed (whole .results) }) (isFine (whole .fault)) (λ t. absurd (clash _ t h)) (λ t. refl)
+      by-test (λ (t : model.Transaction). t ≡ record { commits = false; rows = rows; text = bracketed (whole .results) }) (isFine (whole .fault)) (λ t. absurd (clash _ t h)) (λ t. refl)
 
   went-on : isFine (whole .fault) ≡ true → transactOn s text ops fresh rows ≡ atCommit s rows whole
   unfolding transactOn runWhole namesAt
-  went-on h = by-test (λ (t : model.Transacted). t ≡ atCommit s rows whole) (isFine (whole .fault)) (λ t. refl) (λ t. absurd (clash _ h t))
+  went-on h = by-test (λ (t : model.Transaction). t ≡ atCommit s rows whole) (isFine (whole .fault)) (λ t. refl) (λ t. absurd (clash _ h t))
 
 module _ (s : Schema) (rows : List Row) (r : model.Ran) where
   fine-is : isFine (committed s (r .rows) .fault) ≡ true → atCommit s rows r ≡ record { commits = true; rows = committed s (r .rows) .got; text = bracketed (r .results) }
   unfolding committed
   fine-is h =
-      by-test (λ (t : model.Transacted). t ≡ record { commits = true; rows = committed s (r .rows) .got; text = bracketed (r .results) }) (isFine (committed s (r .rows) .fault))
+      by-test (λ (t : model.Transaction). t ≡ record { commits = true; rows = committed s (r .rows) .got; text = bracketed (r .results) }) (isFine (committed s (r .rows) .fault))
       (λ t. refl) (λ t. absurd (clash _ h t))
 
   failed-is : isFine (committed s (r .rows) .fault) ≡ false
       → atCommit s rows r ≡ record { commits = false; rows = rows; text = bracketed (r .results ++ errorText (committed s (r .rows) .fault) ∷ []) }
   unfolding committed
   failed-is h =
-      by-test (λ (t : model.Transacted). t ≡ record { commits = false; rows = rows; text = bracketed (r .results ++ errorText (committed s (r .rows) .fault) ∷ []) }) (isFine (committed s (r .rows) .fault))
+      by-test (λ (t : model.Transaction). t ≡ record { commits = false; rows = rows; text = bracketed (r .results ++ errorText (committed s (r .rows) .fault) ∷ []) }) (isFine (committed s (r .rows) .fault))
       (λ t. absurd (clash _ t h)) (λ t. refl)
 
 module _ (s : Schema) (text : List ℕ) (ops : Found) (fresh : List ℕ) (n : ℕ) (entry : List (List (List ℕ))) {mid : List (List (List ℕ))} {before answer : List ℕ} {q : Ran}
@@ -106,7 +106,7 @@ module _ (s : Schema) (text : List ℕ) (ops : Found) (fresh : List ℕ) (n : �
   abbrev run : model.Ran
   run = runWhole s text ops fresh (working s n entry)
 
-  abbrev done : model.Transacted
+  abbrev done : model.Transaction
   done = transactOn s text ops fresh (working s n entry)
 
   pub ended-stopped : isFine (q .fault) ≡ false → n ≤ 32 → {end : ℕ} {after : List ℕ} → Put 1 answer (q .at) (93 ∷ []) end after
@@ -114,12 +114,12 @@ module _ (s : Schema) (text : List ℕ) (ops : Found) (fresh : List ℕ) (n : �
   ended-stopped h k p =
       let e = stopped-is s text ops fresh (working s n entry) (ap isFine (sym (ran .fault)) ∙ h) in
       record {
-        commits = sym (ap (λ (t : model.Transacted). t .commits) e);
+        commits = sym (ap (λ (t : model.Transaction). t .commits) e);
         rows = λ t. absurd (clash false t refl);
-        stays = λ t. ap (λ (t : model.Transacted). t .rows) e;
+        stays = λ t. ap (λ (t : model.Transaction). t .rows) e;
         few = k;
         tidy = λ t. absurd (clash false t refl);
-        text = put-is (put-then (ran .answer) p) (bracketed-is (run .results) ∙ sym (ap (λ (t : model.Transacted). t .text) e)) (omega arith);
+        text = put-is (put-then (ran .answer) p) (bracketed-is (run .results) ∙ sym (ap (λ (t : model.Transaction). t .text) e)) (omega arith);
       }
 
   module _ (f : isFine (q .fault) ≡ true) where
@@ -131,24 +131,24 @@ module _ (s : Schema) (text : List ℕ) (ops : Found) (fresh : List ℕ) (n : �
       after-fine h =
           let e = went ∙ fine-is s (working s n entry) run h in
           record {
-            commits = c .commits ∙ h ∙ sym (ap (λ (t : model.Transacted). t .commits) e);
-            rows = λ t. c .rows t ∙ sym (ap (λ (t : model.Transacted). t .rows) e);
+            commits = c .commits ∙ h ∙ sym (ap (λ (t : model.Transaction). t .commits) e);
+            rows = λ t. c .rows t ∙ sym (ap (λ (t : model.Transaction). t .rows) e);
             stays = λ t. absurd (clash (r .commits) (c .commits ∙ h) t);
             few = omega (arith, c .few, ran .few);
             tidy = λ t x. c .tidy t (ran .tidy f x);
-            text = put-is (put-then (ran .answer) (c .text)) (end-fine (run .results) _ (isNothing ops) h ∙ sym (ap (λ (t : model.Transacted). t .text) e)) (omega arith);
+            text = put-is (put-then (ran .answer) (c .text)) (end-fine (run .results) _ (isNothing ops) h ∙ sym (ap (λ (t : model.Transaction). t .text) e)) (omega arith);
           }
 
       after-failed : isFine (committed s (run .rows) .fault) ≡ false → Ended s done n entry exit before after r
       after-failed h =
           let e = went ∙ failed-is s (working s n entry) run h in
           record {
-            commits = c .commits ∙ h ∙ sym (ap (λ (t : model.Transacted). t .commits) e);
+            commits = c .commits ∙ h ∙ sym (ap (λ (t : model.Transaction). t .commits) e);
             rows = λ t. absurd (clash (r .commits) t (c .commits ∙ h));
-            stays = λ t. ap (λ (t : model.Transacted). t .rows) e;
+            stays = λ t. ap (λ (t : model.Transaction). t .rows) e;
             few = omega (arith, c .few, ran .few);
             tidy = λ t. absurd (clash (r .commits) t (c .commits ∙ h));
-            text = put-is (put-then (ran .answer) (c .text)) (end-failed (run .results) _ (isNothing ops) h (run-empty s text ops fresh (working s n entry)) ∙ sym (ap (λ (t : model.Transacted). t .text) e)) (omega arith);
+            text = put-is (put-then (ran .answer) (c .text)) (end-failed (run .results) _ (isNothing ops) h (run-empty s text ops fresh (working s n entry)) ∙ sym (ap (λ (t : model.Transaction). t .text) e)) (omega arith);
           }
 
     pub ended-commit : {first : Bool} → first ≡ isNothing ops → {exit : List (List (List ℕ))} {after : List ℕ} {r : Outcome}

@@ -10,10 +10,10 @@ use Rattle.model.specs.Octets.{filled}
 use Rattle.model.specs.Limits.{lastNumber}
 use Rattle.model.specs.Base.{flat}
 use Rattle.model.specs.Schema.{Schema}
-use Rattle.model.specs.Packed.{tablesIn}
-use Rattle.model.specs.Working.{working}
+use Rattle.inner.specs.Packed.{packedTables}
+use Rattle.inner.specs.Working.{working}
 use Rattle.model.specs.Records.{diff, numberFrom, encode}
-use Rattle.model.specs.Transact.{Transacted}
+use Rattle.model.specs.Transact.{Transaction}
 use Rattle.model.specs.Replies.{Reply}
 use Rattle.reply.specs.declared.Question.{Question}
 use Rattle.reply.specs.declared.Outcome.{Outcome}
@@ -23,7 +23,7 @@ use Rattle.reply.proofs.Telling.{ended-same, replied-refused, replied-l
 
 module _ (cells : List (List ℕ)) (run number n : ℕ) (before rows : List (List (List ℕ))) (request fresh recordsIn textIn : List ℕ) (low : number ≤ lastNumber) where
   abbrev s : Schema
-  s = tablesIn cells
+  s = packedTables cells
 
   abbrev d : Reply
   d = replyOn cells number n before request fresh (length textIn)
@@ -35,7 +35,7 @@ module _ (cells : List (List ℕ)) (run number n : ℕ) (before rows : List (Lis
   module _ (same : take n rows ≡ take n before) {ends : List ℕ} {q : Question} (a : Asked cells n before request fresh ends q) (runs : q .runs ≡ true)
       {text : List ℕ} (blank : text ≡ replicate (length textIn) 0) {exit : List (List (List ℕ))} {textOut : List ℕ} {o : Outcome}
       (ended : Ended s (transactOn s request (q .ops) fresh (working s n rows)) n rows exit text textOut o) (long : length textOut ≡ length textIn) where
-    abbrev t : Transacted
+    abbrev t : Transaction
     t = transactOn s request (q .ops) fresh (working s n before)
 
     told : d ≡ toldOf s number (working s n before) (length textIn) t

@@ -10,8 +10,8 @@ use Rattle.model.specs.Octets.{filled}
 use Rattle.model.specs.Schema.{Database}
 use Rattle.model.specs.SchemaText.{readSchema}
 use Rattle.model.specs.Rows.{Row}
-use Rattle.model.specs.Packed.{tablesIn, databaseFrom}
-use Rattle.model.specs.Working.{working}
+use Rattle.inner.specs.Packed.{packedTables, databaseFrom}
+use Rattle.inner.specs.Working.{working}
 use Rattle.model.specs.Areas.{Store, encodeStore}
 use Rattle.model.specs.Refusals.{isRefusal}
 use Rattle.model.specs.Replies.{Reply, reply}
@@ -25,12 +25,12 @@ use Rattle.reply.specs.Replying.{replyOn, Replied}
 
 module _ (cells : List (List ℕ)) (run number n : ℕ) (before : List (List (List ℕ))) (schema request fresh : List ℕ) where
   abbrev store : Store
-  store = storeIn (tablesIn cells) run number schema n before
+  store = storeIn (packedTables cells) run number schema n before
 
   pub reply-of : readSchema schema ≡ some (databaseFrom cells) → (room : ℕ) → replyOf store request fresh room ≡ replyOn cells number n before request fresh room
   unfolding storeIn replyOn
   reply-of e room =
-      ap (λ (m : Option Database). reply (elim m [ none ↦ record { name = []; tables = [] } | some d ↦ d ]) number (working (tablesIn cells) n before) request fresh room) e
+      ap (λ (m : Option Database). reply (elim m [ none ↦ record { name = []; tables = [] } | some d ↦ d ]) number (working (packedTables cells) n before) request fresh room) e
 
 module _ (area recordsIn textIn : List ℕ) (st : Store) (d : Reply) where
   when-refused : isRefusal (d .answer) ≡ true → transactReplied area recordsIn textIn st d ≡ transactRefused (d .answer) area recordsIn textIn
@@ -44,9 +44,9 @@ module _ (area recordsIn textIn : List ℕ) (st : Store) (d : Reply) where
   when-given h = by-test (λ (t : calls.Transacted). t ≡ given) (isRefusal (d .answer)) (λ t. absurd (clash _ t h)) (λ t. refl)
 
 module _ (cells : List (List ℕ)) (run number n : ℕ) (before : List (List (List ℕ))) (schema : List ℕ) (d : Reply) (area recordsIn textIn : List ℕ) {exit : List (List (List ℕ))} {recordsOut textOut : List ℕ} {r : Effect}
-    (x : Replied (tablesIn cells) d run number n before exit recordsIn recordsOut textIn textOut r) where
+    (x : Replied (packedTables cells) d run number n before exit recordsIn recordsOut textIn textOut r) where
   abbrev held : Store
-  held = storeIn (tablesIn cells) run number schema n before
+  held = storeIn (packedTables cells) run number schema n before
 
   abbrev after : calls.Transacted
   after = transactReplied area recordsIn textIn held d
@@ -76,7 +76,7 @@ module _ (cells : List (List ℕ)) (run number n : ℕ) (before : List (List (Li
   accepts : r .commits ≡ true → isRefusal (d .answer) ≡ false
   accepts c = split (isRefusal (d .answer)) (λ h. absurd (clash (r .commits) c (x .refuses (told ∙ h)))) (λ h. h)
 
-  pub area-commits : r .commits ≡ true → after .area ≡ encodeStore (storeIn (tablesIn cells) run (number + r .changes) schema (r .count) exit)
+  pub area-commits : r .commits ≡ true → after .area ≡ encodeStore (storeIn (packedTables cells) run (number + r .changes) schema (r .count) exit)
   unfolding storeIn
   area-commits c =
       ap (λ (t : calls.Transacted). t .area) (when-given area recordsIn textIn held d (accepts c))

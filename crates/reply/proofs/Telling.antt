@@ -17,10 +17,10 @@ use Rattle.model.specs.Base.{flat}
 use Rattle.model.specs.Schema.{Schema}
 use Rattle.model.specs.Rows.{Row}
 use Rattle.model.specs.Areas.{rowFrom}
-use Rattle.model.specs.Working.{working, Tidy}
+use Rattle.inner.specs.Working.{working, Tidy}
 use Rattle.model.specs.Records.{Change, diff, numberFrom, encode}
 use Rattle.model.specs.Refusals.{isRefusal}
-use Rattle.model.specs.Transact.{Transacted}
+use Rattle.model.specs.Transact.{Transaction}
 use Rattle.model.specs.Replies.{Reply, refused, changesOf, numbered}
 use Rattle.model.proofs.Tests.{clash}
 use Rattle.model.proofs.TextUtf8.{by-test}
@@ -35,7 +35,7 @@ filled-none : (n : ℕ) → replicate n 0 ≡ filled n []
 filled-none n = sym (take-all n (replicate n 0) (omega (arith, length-replicate {A = ℕ} n 0)))
 
 -- ── the two refusals, and what is given else ──
-module _ (s : Schema) (number : ℕ) (rows : List Row) (room : ℕ) (t : Transacted) where
+module _ (s : Schema) (number : ℕ) (rows : List Row) (room : ℕ) (t : Transaction) where
   pub told-long : room < length (t .text) → toldOf s number rows room t ≡ refused AnswerTooLong rows
   unfolding toldOf
   told-long h = by-test (λ (r : Reply). r ≡ refused AnswerTooLong rows) (leb (length (t .text)) room) (λ e. absurd (clash _ e (lt-leb (length (t .text)) room h))) (λ e. refl)
@@ -113,7 +113,7 @@ module _ (s : Schema) (d : Reply) (run number n : ℕ) (before exit : List (List
         blank = λ t. (b, c);
       }
 
-  module _ {t : Transacted} (told : d ≡ toldOf s number (working s n before) (length textIn) t) {text textOut : List ℕ} (blank : text ≡ replicate (length textIn) 0) {o : Outcome} (e : Ended s t n before exit text textOut o) where
+  module _ {t : Transaction} (told : d ≡ toldOf s number (working s n before) (length textIn) t) {text textOut : List ℕ} (blank : text ≡ replicate (length textIn) 0) {o : Outcome} (e : Ended s t n before exit text textOut o) where
     pub replied-long : length textIn < o .at → d ≡ refused AnswerTooLong (working s n before)
     replied-long h = told ∙ told-long s number (working s n before) (length textIn) t (omega (arith, h, e .text .count))
 

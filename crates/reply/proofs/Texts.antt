@@ -9,7 +9,7 @@ use Rattle.model.specs.declared.Found.the-variants.{At, Nothing}
 use Rattle.model.specs.declared.Fault.{Fault}
 use Rattle.model.specs.Json.{Json, Named}
 use Rattle.model.specs.Members.{membersIn}
-use Rattle.model.specs.Text.{isNothing}
+use Rattle.inner.specs.Positions.{isNothing}
 use Rattle.model.specs.Schema.{Schema}
 use Rattle.model.specs.Rows.{Row}
 use Rattle.model.specs.Faults.{isFine}

@@ -10,13 +10,13 @@ use Rattle.model.specs.declared.Fault.{Fault}
 use Rattle.model.specs.Octets.{filled}
 use Rattle.model.specs.Limits.{lastNumber, mostRows, mostOperations}
 use Rattle.model.specs.Base.{flat}
-use Rattle.model.specs.Nav.{itemsFrom}
+use Rattle.inner.specs.Positions.{itemsFrom}
 use Rattle.model.specs.Faults.{Judged, isFine}
 use Rattle.model.specs.Schema.{Schema}
 use Rattle.model.specs.Rows.{Row}
 use Rattle.model.specs.Commit.{commit}
-use Rattle.model.specs.Packed.{tablesIn, databaseFrom}
-use Rattle.model.specs.Working.{working, Tidy}
+use Rattle.inner.specs.Packed.{packedTables, databaseFrom}
+use Rattle.inner.specs.Working.{working, Tidy}
 use Rattle.model.specs.Records.{numberFrom, encode}
 use Rattle.model.specs.Refusals.{isRefusal}
 use Rattle.model.specs.Transact as model
@@ -35,16 +35,16 @@ unfoldable pub committed : Schema → List Row → Judged (List Row)
 committed s rows = commit s rows
 
 -- the operations of a text run on rows, and the commit
-unfoldable pub transactOn : Schema → List ℕ → Found → List ℕ → List Row → model.Transacted
+unfoldable pub transactOn : Schema → List ℕ → Found → List ℕ → List Row → model.Transaction
 transactOn s text ops fresh rows = transactRows s (freshIds fresh) rows (operationsAt text ops)
 
 -- refusals 7 and 10, and what is given where neither applies
-unfoldable pub toldOf : Schema → ℕ → List Row → ℕ → model.Transacted → replies.Reply
+unfoldable pub toldOf : Schema → ℕ → List Row → ℕ → model.Transaction → replies.Reply
 toldOf s number rows room t = told s number rows room t
 
 -- a request's text on the first n rows of a store, its schema in cells
 unfoldable pub replyOn : List (List ℕ) → ℕ → ℕ → List (List (List ℕ)) → List ℕ → List ℕ → ℕ → replies.Reply
-replyOn cells number n before request fresh room = reply (databaseFrom cells) number (working (tablesIn cells) n before) request fresh room
+replyOn cells number n before request fresh room = reply (databaseFrom cells) number (working (packedTables cells) n before) request fresh room
 
 -- ── what the code's parts promise ──
 -- "A failed commit adds one such error object after the operations' results"; and the closing bracket
@@ -60,7 +60,7 @@ pub record Closed (s : Schema) (j : Judged (List Row)) (n : ℕ) (entry exit : L
   pub text : Put 45 before at (closing (j .fault) first) (r .at) after
 
 -- a transaction, and the whole of the answer's text
-pub record Ended (s : Schema) (t : model.Transacted) (n : ℕ) (entry exit : List (List (List ℕ))) (before after : List ℕ) (r : Outcome) : Type 0 where
+pub record Ended (s : Schema) (t : model.Transaction) (n : ℕ) (entry exit : List (List (List ℕ))) (before after : List ℕ) (r : Outcome) : Type 0 where
   pub commits : r .commits ≡ t .commits
   pub rows : r .commits ≡ true → working s (r .count) exit ≡ t .rows
   pub stays : r .commits ≡ false → t .rows ≡ working s n entry
@@ -71,9 +71,9 @@ pub record Ended (s : Schema) (t : model.Transacted) (n : ℕ) (entry exit : Lis
 -- a request: whether it is run, and else the refusal (4, 5 or 6)
 pub record Asked (cells : List (List ℕ)) (n : ℕ) (before : List (List (List ℕ))) (request fresh ends : List ℕ) (r : Question) : Type 0 where
   pub refuses : r .runs ≡ false → isRefusal (r .answer) ≡ true
-  pub refused : r .runs ≡ false → (number room : ℕ) → replyOn cells number n before request fresh room ≡ refused (r .answer) (working (tablesIn cells) n before)
+  pub refused : r .runs ≡ false → (number room : ℕ) → replyOn cells number n before request fresh room ≡ refused (r .answer) (working (packedTables cells) n before)
   pub told : r .runs ≡ true → (number room : ℕ)
-      → replyOn cells number n before request fresh room ≡ toldOf (tablesIn cells) number (working (tablesIn cells) n before) room (transactOn (tablesIn cells) request (r .ops) fresh (working (tablesIn cells) n before))
+      → replyOn cells number n before request fresh room ≡ toldOf (packedTables cells) number (working (packedTables cells) n before) room (transactOn (packedTables cells) request (r .ops) fresh (working (packedTables cells) n before))
   pub running : r .runs ≡ true → Running request ends (r .ops) fresh
   pub few : r .runs ≡ true → length (itemsFrom request (r .ops)) ≤ mostOperations
 

@@ -5,11 +5,11 @@ use model::Found;
 ghost use mathlib.Core.Path.{_≡_};
 ghost use Prim.Native.Nat.{_≤_, _<_, _+_, _^_};
 ghost use lib.ListN.{length, take};
-ghost use Rattle.model.specs.Nav.{itemsFrom};
-ghost use Rattle.model.specs.Text.{isNothing};
+ghost use Rattle.inner.specs.Positions.{itemsFrom};
+ghost use Rattle.inner.specs.Positions.{isNothing};
 ghost use Rattle.model.specs.Faults.{isFine};
-ghost use Rattle.model.specs.Working.{working};
-ghost use Rattle.model.specs.Packed.{tablesIn};
+ghost use Rattle.inner.specs.Working.{working};
+ghost use Rattle.inner.specs.Packed.{packedTables};
 ghost use Rattle.area.specs.Layout.{Sized};
 ghost use Rattle.references.specs.Links.{Accepted};
 ghost use Rattle.uuids.specs.Named.{Running};
@@ -76,7 +76,7 @@ fn at_commit(
     requires { ⌜ Accepted (now schema) ⌝ }
     requires { ⌜ n ≤ length (now rows) ⌝ }
     requires { ⌜ at + 45 < 2 ^ 64 ⌝ }
-    ensures { λ r. ⌜ Closed (tablesIn (now (schema .entry))) (committed (tablesIn (now (schema .entry))) (working (tablesIn (now (schema .entry))) n (now (rows .entry)))) n (now (rows .entry)) (now (rows .exit)) first at (now (answer .entry)) (now (answer .exit)) r ⌝ }
+    ensures { λ r. ⌜ Closed (packedTables (now (schema .entry))) (committed (packedTables (now (schema .entry))) (working (packedTables (now (schema .entry))) n (now (rows .entry)))) n (now (rows .entry)) (now (rows .exit)) first at (now (answer .entry)) (now (answer .exit)) r ⌝ }
 {
     let c = commit::commit(&schema[..], rows, n);
     let f = c.fault;
@@ -114,7 +114,7 @@ fn transact(
     requires { ⌜ Sized (now schema) ⌝ }
     requires { ⌜ length (itemsFrom (now text) ops) ≤ 16 ⌝ }
     requires { ⌜ (n ≤ 32) × (32 ≤ length (now rows)) ⌝ }
-    ensures { λ r. ⌜ Ended (tablesIn (now (schema .entry))) (transactOn (tablesIn (now (schema .entry))) (now (text .entry)) ops (now (fresh .entry)) (working (tablesIn (now (schema .entry))) n (now (rows .entry)))) n (now (rows .entry)) (now (rows .exit)) (now (answer .entry)) (now (answer .exit)) r ⌝ }
+    ensures { λ r. ⌜ Ended (packedTables (now (schema .entry))) (transactOn (packedTables (now (schema .entry))) (now (text .entry)) ops (now (fresh .entry)) (working (packedTables (now (schema .entry))) n (now (rows .entry)))) n (now (rows .entry)) (now (rows .exit)) (now (answer .entry)) (now (answer .exit)) r ⌝ }
 {
     let ran = run::run(text, ends, ops, fresh, schema, rows, n, answer);
     let f = ran.fault;
@@ -204,7 +204,7 @@ pub fn reply(
     requires { ⌜ (n ≤ 32) × (32 ≤ length (now before)) × (32 ≤ length (now rows)) ⌝ }
     requires { ⌜ take n (now rows) ≡ take n (now before) ⌝ }
     requires { ⌜ (length (now fresh) ≡ 256) × (26249 ≤ length (now records)) ⌝ }
-    ensures { λ r. ⌜ Replied (tablesIn (now (schema .entry))) (replyOn (now (schema .entry)) number n (now (before .entry)) (now (request .entry)) (now (fresh .entry)) (length (now (answer .entry)))) run number n (now (before .entry)) (now (rows .exit)) (now (records .entry)) (now (records .exit)) (now (answer .entry)) (now (answer .exit)) r ⌝ }
+    ensures { λ r. ⌜ Replied (packedTables (now (schema .entry))) (replyOn (now (schema .entry)) number n (now (before .entry)) (now (request .entry)) (now (fresh .entry)) (length (now (answer .entry)))) run number n (now (before .entry)) (now (rows .exit)) (now (records .entry)) (now (records .exit)) (now (answer .entry)) (now (answer .exit)) r ⌝ }
 {
     let mut ends = [0u16; 8192];
     let q = judge(schema, before, n, request, &mut ends[..], fresh);

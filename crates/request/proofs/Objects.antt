@@ -16,7 +16,8 @@ use Rattle.model.specs.Base.{if_then_else_, all, isSome}
 use Rattle.model.specs.Limits.{mostRequestBytes}
 use Rattle.model.specs.Scan.{Parsed}
 use Rattle.model.specs.Json.{Json, null, bool, num, str, arr, obj, Named, textAt}
-use Rattle.model.specs.Nav.{Says, isEnd, treeAt, wellAt, kindOf, isText, isObject, textIn, listOf, itemsIn, firstOf, nextItem, itemsFrom, itemsFine}
+use Rattle.inner.specs.Positions.{Says, treeAt, wellAt, firstOf, nextItem, itemsFrom, itemsFine}
+use Rattle.model.specs.Nav.{isRead, kindOf, isText, isObject, textIn, listOf, itemsIn}
 use Rattle.model.specs.Members.{membersIn, namedOf}
 use Rattle.model.specs.Written.{stringIn, arrayIn, objectIn}
 use Rattle.model.specs.Transact.{Request, objectsIn, requestBy, requestItems, requestTree, readRequest}
@@ -116,10 +117,10 @@ tree-items (str t) = refl
 tree-items (arr xs) = refl
 tree-items (obj ms) = refl
 
-tree-read : (q : Parsed Json) → isEnd (q .read) ≡ true → requestTree q ≡ requestItems (itemsIn (q .tree))
+tree-read : (q : Parsed Json) → isRead (q .read) ≡ true → requestTree q ≡ requestItems (itemsIn (q .tree))
 tree-read q e = rw (requestTree, e) (tree-items (q .tree))
 
-tree-bad : (q : Parsed Json) → isEnd (q .read) ≡ false → requestTree q ≡ none
+tree-bad : (q : Parsed Json) → isRead (q .read) ≡ false → requestTree q ≡ none
 tree-bad q e = rw (requestTree, e)
 
 -- a request is a string and at most 16 objects
@@ -185,7 +186,7 @@ module _ (s : List ℕ) where
 
   -- ── the whole text ──
   module _ (ends : List ℕ) (r : code.Request) where
-    read-whole : length s ≤ mostRequestBytes → isEnd (textAt s .read) ≡ true → Says s ends → Parted s r → RequestRead s ends r
+    read-whole : length s ≤ mostRequestBytes → isRead (textAt s .read) ≡ true → Says s ends → Parted s r → RequestRead s ends r
     unfolding readRequest
     read-whole l e y p =
         let w = text-well s e in
@@ -216,7 +217,7 @@ module _ (s : List ℕ) where
     unfolding readRequest
     read-too-long f l = refused-read f (rw (readRequest, lt-leb (length s) 8192 l))
 
-    read-bad : r .fits ≡ false → isEnd (textAt s .read) ≡ false → RequestRead s ends r
+    read-bad : r .fits ≡ false → isRead (textAt s .read) ≡ false → RequestRead s ends r
     unfolding readRequest
     read-bad f e = refused-read f (bad (leb (length s) 8192) refl)
       where
@@ -225,17 +226,17 @@ module _ (s : List ℕ) where
         bad false h = rw (readRequest, h)
 
     pub read-stop : r .fits ≡ false → {e : ℕ} → textAt s .read ≡ Stop e → RequestRead s ends r
-    unfolding isEnd
-    read-stop f q = read-bad f (ap isEnd q)
+    unfolding isRead
+    read-stop f q = read-bad f (ap isRead q)
 
     pub read-deep : r .fits ≡ false → {e : ℕ} → textAt s .read ≡ Deep e → RequestRead s ends r
-    unfolding isEnd
-    read-deep f q = read-bad f (ap isEnd q)
+    unfolding isRead
+    read-deep f q = read-bad f (ap isRead q)
 
     pub read-end : length s ≤ mostRequestBytes → {e : ℕ} → textAt s .read ≡ End e → Says s ends → Parted s r → RequestRead s ends r
-    unfolding isEnd
-    read-end l q y p = read-whole l (ap isEnd q) y p
+    unfolding isRead
+    read-end l q y p = read-whole l (ap isRead q) y p
 
   pub well-end : {e : ℕ} → textAt s .read ≡ End e → wellAt s 0 ≡ true
-  unfolding isEnd
-  well-end q = text-well s (ap isEnd q) .0
+  unfolding isRead
+  well-end q = text-well s (ap isRead q) .0

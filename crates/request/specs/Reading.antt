@@ -9,7 +9,8 @@ use lib.ListN.{length}
 use Rattle.model.specs.Base.{all, isSome}
 use Rattle.model.specs.Limits.{mostOperations, mostRequestBytes}
 use Rattle.model.specs.Json.{Json}
-use Rattle.model.specs.Nav.{Says, treeAt, kindOf, isText, isObject, itemsIn, textIn, itemsFrom, itemsFine}
+use Rattle.inner.specs.Positions.{Says, treeAt, itemsFrom, itemsFine}
+use Rattle.model.specs.Nav.{kindOf, isText, isObject, itemsIn, textIn}
 use Rattle.model.specs.Transact.{requestItems, readRequest}
 use Rattle.uuids.specs.Named.{operationsAt}
 use Rattle.request.specs.declared.Request.{Request}

@@ -5,7 +5,7 @@ ghost use mathlib.Core.Path.{_≡_};
 ghost use mathlib.Core.Bool.{true, false};
 ghost use Prim.Native.Nat.{_≤_};
 ghost use lib.ListN.{length};
-ghost use Rattle.model.specs.Nav.{Says, wellAt, itemsFrom, itemsFine};
+ghost use Rattle.inner.specs.Positions.{Says, wellAt, itemsFrom, itemsFine};
 ghost use Rattle.request.specs.Reading.{fewObjects, Parted, RequestRead};
 
 // Whether a text is a request, where the database's name stands in it, and where its operations begin.

@@ -12,9 +12,9 @@ use lib.Seq.{drop-cons, take-nil, take-suc, take-at, set-at, length-take-le, tak
 use Rattle.model.specs.Octets.{value, eqBytes}
 use Rattle.model.specs.Base.{all, eqLists}
 use Rattle.model.specs.Value.{Value, sameValue}
-use Rattle.model.specs.Working.{withValue, inserted, removed}
+use Rattle.inner.specs.Working.{withValue, inserted, removed}
 use Rattle.model.proofs.Octets.{octet, value-lt}
-use Rattle.model.proofs.Working.{eqb-value}
+use Rattle.inner.proofs.Working.{eqb-value}
 
 and-assoc : (a b c : Bool) → (a && (b && c)) ≡ ((a && b) && c)
 and-assoc true b c = refl

@@ -8,7 +8,7 @@ use Rattle.model.specs.Schema.{Schema, columnsOf}
 use Rattle.model.specs.Value.{Value}
 use Rattle.model.specs.Rows.{add, remove, setColumn}
 use Rattle.model.specs.Areas.{rowFrom}
-use Rattle.model.specs.Working.{working, tableIn, withValue, TidyRow, Tidy, place, removed}
+use Rattle.inner.specs.Working.{working, tableIn, withValue, TidyRow, Tidy, place, removed}
 use Rattle.model.specs.declared.Found.the-variants.{At}
 
 -- a row's table and id, and its id alone, in the first of its cells

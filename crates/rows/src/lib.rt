@@ -2,16 +2,16 @@
 use model::Found;
 ghost use mathlib.Core.Path.{_≡_};
 ghost use mathlib.Core.Bool.{not, _&&_};
-ghost use mathlib.Core.List.{List, [], map};
+ghost use mathlib.Core.List.{List, map};
 ghost use Prim.Native.Nat.{_+_, _-_, _^_, _≤_, _<_};
 ghost use lib.Dec.{eqb, ltb};
-ghost use lib.ListN.{length, take, drop, getD};
+ghost use lib.ListN.{length, take, drop};
 ghost use Rattle.model.specs.Octets.{value, part, eqBytes};
 ghost use Rattle.model.specs.Schema.{Column, Schema};
 ghost use Rattle.model.specs.Value.{sameValue};
 ghost use Rattle.model.specs.Areas.{headCell, rowCells};
 ghost use Rattle.model.specs.Rows.{keyOf, has, hasId};
-ghost use Rattle.model.specs.Working.{working, tableIn, idIn, keyIn, valueIn, withValue, minimums, bornCount, newRow, place, slot, inserted, removed};
+ghost use Rattle.inner.specs.Working.{working, tableIn, idIn, keyIn, valueIn, withValue, minimums, bornCount, newRow, place, slot, inserted, removed};
 ghost use Rattle.rows.specs.Post.{KeyBytes, IdBytes, Added, Removed, ColumnSet};
 
 // A row's table.
@@ -256,14 +256,6 @@ pub fn atoms_of(row: &[[u8; 25]; 25], c: usize) -> [[u8; 25]; 4]
     [atoms[0], atoms[1], atoms[2], atoms[3]]
 }
 
-// One of a column's atoms, lent.
-pub fn atom_of<'r>(row: &'r [[u8; 25]; 25], c: usize, a: usize) -> &'r [u8; 25]
-    requires { ⌜ (c < 6) × (a < 4) ⌝ }
-    ensures { λ r. ⌜ now r ≡ getD (valueIn c (now (row .entry)) .atoms) a [] ⌝ }
-{
-    &row[1 + 4 * c + a]
-}
-
 // A column's count and atoms set, in the cells of a row.
 fn set_cells(cells: &mut [[u8; 25]], c: usize, count: u8, atoms: &[[u8; 25]])
     requires { ⌜ (c < 6) × (length (now cells) ≡ 25) × (length (now atoms) ≡ 4) ⌝ }
@@ -325,6 +317,7 @@ fn put_counts(out: &mut [u8], mins: &[u8])
 fn new_head(table: u8, id: &[u8], mins: &[u8]) -> [u8; 25]
     requires { ⌜ (length (now id) ≡ 16) × (length (now mins) ≡ 6) ⌝ }
     ensures { λ r. ⌜ ((cs : List Column) → length cs ≤ 6 → now (mins .entry) ≡ minimums cs → r ≡ headCell (newRow table (value (now (id .entry))) cs)) ⌝ }
+    ensures { λ _. ⌜ value (now (id .entry)) < 256 ^ 16 ⌝ }
 {
     let mut head = [0u8; 25];
     head[0] = table;
@@ -333,9 +326,10 @@ fn new_head(table: u8, id: &[u8], mins: &[u8]) -> [u8; 25]
     head
 }
 
-// A new row of a table, by the minimums of the table's columns.
+// A new row of a table, by the minimums of the table's columns; its id is a number of 16 bytes.
 pub fn new_row(table: u8, id: &[u8; 16], mins: &[u8; 6]) -> [[u8; 25]; 25]
     ensures { λ r. ⌜ ((cs : List Column) → length cs ≤ 6 → now (mins .entry) ≡ minimums cs → r ≡ rowCells (newRow table (value (now (id .entry))) cs)) ⌝ }
+    ensures { λ _. ⌜ value (now (id .entry)) < 256 ^ 16 ⌝ }
 {
     let mut row = [[0u8; 25]; 25];
     let head = new_head(table, &id[..], &mins[..]);

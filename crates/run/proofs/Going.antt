@@ -11,12 +11,12 @@ use Rattle.model.specs.declared.Found.{Found}
 use Rattle.model.specs.declared.Found.the-variants.{At, Nothing}
 use Rattle.model.specs.declared.Fault.{Fault}
 use Rattle.model.specs.declared.Fault.the-variants.{Fine}
-use Rattle.model.specs.Nav.{treeAt, nextItem, itemsFrom, itemsFine}
+use Rattle.inner.specs.Positions.{treeAt, nextItem, itemsFrom, itemsFine}
 use Rattle.model.specs.Members.{membersIn}
 use Rattle.model.specs.Schema.{Schema}
 use Rattle.model.specs.Rows.{Row}
 use Rattle.model.specs.Faults.{isFine}
-use Rattle.model.specs.Working.{working, Tidy}
+use Rattle.inner.specs.Working.{working, Tidy}
 use Rattle.model.specs.Transact as model
 use Rattle.model.specs.Transact.{insertName, withName, followed, stopped}
 use Rattle.model.proofs.Tests.{split, clash}

@@ -5,7 +5,7 @@ use mathlib.Core.Bool.{Bool, true, false}
 use Prim.Native.Nat.{ℕ}
 use Rattle.model.specs.declared.Found.{Found}
 use Rattle.model.specs.declared.Found.the-variants.{At, Nothing}
-use Rattle.model.specs.Nav.{nextItem, itemsFrom}
+use Rattle.inner.specs.Positions.{nextItem, itemsFrom}
 use Rattle.answer.specs.Texts.{commaText, joined, nullText}
 use Rattle.nav.proofs.Walk.{walk-end, walk-rest}
 use Rattle.run.specs.Running.{nullsFrom}

@@ -16,7 +16,7 @@ use Rattle.model.specs.declared.Fault.the-variants.{Fine}
 use Rattle.model.specs.Octets.{eqBytes}
 use Rattle.model.specs.Base.{member, ascii}
 use Rattle.model.specs.Json.{Json, Named}
-use Rattle.model.specs.Nav.{treeAt, nextItem, itemsFrom}
+use Rattle.inner.specs.Positions.{treeAt, nextItem, itemsFrom}
 use Rattle.model.specs.Members.{membersIn}
 use Rattle.model.specs.Schema.{Schema}
 use Rattle.model.specs.Rows.{Row}

@@ -7,12 +7,12 @@ use lib.ListN.{length, take, drop}
 use Rattle.model.specs.declared.Found.{Found}
 use Rattle.model.specs.Schema.{Schema}
 use Rattle.model.specs.Json.{Json}
-use Rattle.model.specs.Nav.{itemsFrom}
+use Rattle.inner.specs.Positions.{itemsFrom}
 use Rattle.model.specs.Rows.{Row}
 use Rattle.model.specs.Faults.{isFine}
 use Rattle.model.specs.Written.{Names}
-use Rattle.model.specs.Working.{working, Tidy}
-use Rattle.model.specs.Packed.{tablesIn}
+use Rattle.inner.specs.Working.{working, Tidy}
+use Rattle.inner.specs.Packed.{packedTables}
 use Rattle.model.specs.Transact as model
 use Rattle.model.specs.Transact.{freshIds}
 use Rattle.answer.specs.Put.{Put}

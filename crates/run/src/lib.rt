@@ -5,10 +5,10 @@ ghost use mathlib.Core.Path.{_≡_};
 ghost use mathlib.Core.Bool.{true, false};
 ghost use Prim.Native.Nat.{_≤_, _<_, _+_, _^_};
 ghost use lib.ListN.{length};
-ghost use Rattle.model.specs.Nav.{Says, itemsFrom, itemsFine};
+ghost use Rattle.inner.specs.Positions.{Says, itemsFrom, itemsFine};
 ghost use Rattle.model.specs.Faults.{isFine};
-ghost use Rattle.model.specs.Working.{working};
-ghost use Rattle.model.specs.Packed.{tablesIn};
+ghost use Rattle.inner.specs.Working.{working};
+ghost use Rattle.inner.specs.Packed.{packedTables};
 ghost use Rattle.area.specs.Layout.{Sized};
 ghost use Rattle.references.specs.Links.{Accepted};
 ghost use Rattle.answer.specs.Put.{Put};
@@ -78,7 +78,7 @@ pub fn run(
     requires { ⌜ Sized (now schema) ⌝ }
     requires { ⌜ length (itemsFrom (now text) ops) ≤ 16 ⌝ }
     requires { ⌜ (n ≤ 32) × (32 ≤ length (now rows)) ⌝ }
-    ensures { λ r. ⌜ RunAll (tablesIn (now (schema .entry))) (runWhole (tablesIn (now (schema .entry))) (now (text .entry)) ops (now (fresh .entry)) (working (tablesIn (now (schema .entry))) n (now (rows .entry)))) n (now (rows .entry)) (now (rows .exit)) (now (answer .entry)) (now (answer .exit)) r ⌝ }
+    ensures { λ r. ⌜ RunAll (packedTables (now (schema .entry))) (runWhole (packedTables (now (schema .entry))) (now (text .entry)) ops (now (fresh .entry)) (working (packedTables (now (schema .entry))) n (now (rows .entry)))) n (now (rows .entry)) (now (rows .exit)) (now (answer .entry)) (now (answer .exit)) r ⌝ }
 {
     let mut at = answer::put_byte(answer, 0, 91);
     let mut g = ops;

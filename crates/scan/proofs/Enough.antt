@@ -17,7 +17,7 @@ use Rattle.model.specs.declared.Open.the-variants.{Array, Object, Scalar}
 use Rattle.model.specs.Scan.{byte, Parsed, andThen, Turn, run, passing, isSpace, isDigit, spacesAt, digitsAt, withinAt, wordAt, thenRead}
 use Rattle.model.specs.Strings.{charTurn, bodyAt, stringAt}
 use Rattle.model.specs.Numbers.{minusAt, signAt, someFrom, someAt, wholeAt, fracAt, isExp, expAt, numberAt}
-use Rattle.model.specs.Json.{Json, null, Named, scalarBy, keyAt, commaOr, afterItem, itemTurn, itemsOf, listAt, arrayAt, memberAt, objectAt, opens, dispatch, valueAt, failed}
+use Rattle.model.specs.Json.{Json, null, Named, scalarBy, keyAt, commaOr, afterItem, itemTurn, itemsOf, listAt, arrayAt, memberAt, objectAt, opens, dispatch, valueAt, noValue}
 use Rattle.scan.proofs.Bytes.{inside, inside-byte, inside-test}
 use Rattle.scan.proofs.Past.{by-test, Past, PastNext, within-past, shorter, later, from-past, char-past}
 
@@ -195,7 +195,7 @@ module _ (s : List ℕ) where
   unfolding valueAt
   value-past zero at =
       let i = spacesAt s at in
-      shorter s (suc at) (suc i) (omega (arith, spaces-ge at)) (valueAt zero s at .read) (dispatch-past (λ i. failed (Deep i)) (λ i. failed (Deep i)) (λ i. tt) (λ i. tt) i)
+      shorter s (suc at) (suc i) (omega (arith, spaces-ge at)) (valueAt zero s at .read) (dispatch-past (λ i. noValue (Deep i)) (λ i. noValue (Deep i)) (λ i. tt) (λ i. tt) i)
   value-past (suc l) at =
       let i = spacesAt s at in
       let p = valueAt l s in

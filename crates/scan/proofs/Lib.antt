@@ -3,6 +3,7 @@ pub mod Bytes
 pub mod Items
 pub mod Values
 pub mod Ends
+pub mod Same
 pub mod Past
 pub mod Enough
 mod Examples

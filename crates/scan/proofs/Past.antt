@@ -11,13 +11,16 @@ use Rattle.model.specs.declared.Read.{Read}
 use Rattle.model.specs.declared.Read.the-variants.{End, Stop, Deep}
 use Rattle.model.specs.declared.Next.{Next}
 use Rattle.model.specs.declared.Next.the-variants.{More, Done}
-use Rattle.model.specs.declared.Hex.{Hex}
-use Rattle.model.specs.declared.Hex.the-variants.{Unit16, Bad}
-use Rattle.model.specs.declared.Half.{Half}
-use Rattle.model.specs.declared.Half.the-variants.{Whole, High, Refused}
+use Rattle.scan.specs.declared.Hex.{Hex}
+use Rattle.scan.specs.declared.Hex.the-variants.{Unit16, Bad}
+use Rattle.scan.specs.declared.Half.{Half}
+use Rattle.scan.specs.declared.Half.the-variants.{Whole, High, Refused}
 use Rattle.model.specs.Scan.{byte, withinAt}
-use Rattle.model.specs.Strings.{shortOf, hexOf, hexAdd, hexStep, outside, inside as within, hexAt, lowHexAt, halfOf, lowFrom, lowAt, pairBy, unitBy, escapeBy, secondLow, secondHigh, wideBy, going, charBy}
+use Rattle.model.specs.Strings.{shortOf, hexOf, plainBy, escapedAt, going, escapeBy, charBy}
+use Rattle.scan.specs.Units.{hexAdd, hexStep, outside, inside as within, hexAt, lowHexAt, halfOf, lowFrom, lowAt, pairBy, unitBy, secondLow, secondHigh, wideBy}
+use Rattle.model.proofs.Tests.{split}
 use Rattle.scan.proofs.Bytes.{inside, inside-byte}
+use Rattle.scan.proofs.Same.{escape-same, wide-same, ascii-same}
 
 -- a choice by a test, one side at a time
 pub by-test : {A : Type 0} (P : A → Type 0) (b : Bool) {x y : A} → (b ≡ true → P x) → (b ≡ false → P y) → P (elim b [ true ↦ x | false ↦ y ])
@@ -127,9 +130,9 @@ module _ (s : List ℕ) where
   unit-past a (Bad e) h = tt
 
   -- a \u escape is four digits long at least
-  pub unit-far : (a e : ℕ) → unitBy s (hexAt s a) ≡ More e → a + 4 ≤ e
+  pub unit-far : (a e : ℕ) → going (escapedAt s a .read) ≡ More e → a + 4 ≤ e
   unit-far a e h =
-      let p = subst (PastNext s (suc (suc (suc (suc a))))) h (unit-past (suc (suc (suc (suc a)))) (hexAt s a) (hex4-far a)) in
+      let p = subst (PastNext s (suc (suc (suc (suc a))))) (escape-same s a ∙ h) (unit-past (suc (suc (suc (suc a)))) (hexAt s a) (hex4-far a)) in
       omega (arith, p .0)
 
   pub later : (a b : ℕ) → a ≤ b → (n : Next) → PastNext s b n → PastNext s a n
@@ -143,7 +146,7 @@ module _ (s : List ℕ) where
   escape-past at =
       by-test (PastNext s (suc at)) (eqb (shortOf (byte s at)) 0)
       (λ t. by-test (PastNext s (suc at)) (eqb (byte s at) 117)
-      (λ u. later (suc at) (at + 1) (omega arith) (unitBy s (hexAt s (at + 1))) (unit-past (at + 1) (hexAt s (at + 1)) (hex4-past (at + 1))))
+      (λ u. subst (PastNext s (suc at)) (escape-same s (at + 1)) (later (suc at) (at + 1) (omega arith) (unitBy s (hexAt s (at + 1))) (unit-past (at + 1) (hexAt s (at + 1)) (hex4-past (at + 1)))))
       (λ u. tt))
       (λ t. let i : at < length s = inside s at (λ q. eqb-false (shortOf (byte s at)) 0 t (ap shortOf q)) in omega arith)
 
@@ -177,6 +180,13 @@ module _ (s : List ℕ) where
       by-test P (ltb b 240) (λ t. shorter (suc at) (suc (suc (suc at))) (omega arith) y p2)
       (λ t. shorter (suc at) (suc (suc (suc (suc at)))) (omega arith) (withinAt s 128 191 y) p3))))
 
+  plain-past : (at : ℕ) → Past s (suc at) (plainBy s at (byte s at))
+  plain-past at =
+      let b = byte s at in
+      split (ltb b 128)
+      (λ t. let h = ltb-true b 128 t in let i = inside s at (λ q. omega (arith, q)) in rw (ascii-same s at b h) (omega arith, omega arith))
+      (λ t. subst (Past s (suc at)) (wide-same s at b (ltb-false b 128 t)) (wide-past at b))
+
   pub char-past : (at : ℕ) → PastNext s (suc at) (charBy s at (byte s at))
   unfolding charBy
   char-past at =
@@ -184,5 +194,4 @@ module _ (s : List ℕ) where
       let P = PastNext s (suc at) in
       by-test P (eqb b 34) (λ t. let i = inside-byte s at 34 (eqb-true b 34 t) (lit< tt) in omega arith) (λ t.
       by-test P (eqb b 92) (λ t. later (suc at) (suc (at + 1)) (omega arith) (escapeBy s (at + 1) (byte s (at + 1))) (escape-past (at + 1))) (λ t.
-      by-test P (ltb b 32) (λ t. tt) (λ t.
-      by-test P (ltb b 128) (λ t. let i = inside s at (λ q. omega (arith, q, ltb-true b 128 t)) in omega arith) (λ t. going-past (suc at) (wideBy s at b) (wide-past at b)))))
+      by-test P (ltb b 32) (λ t. tt) (λ t. going-past (suc at) (plainBy s at b) (plain-past at))))

@@ -5,12 +5,12 @@ use Prim.Native.Nat.{ℕ, zero, suc, _+_, _-_, _<_}
 use native.Mathlib.Numerals.{sub-one}
 use Rattle.model.specs.declared.Read.the-variants.{Deep}
 use Rattle.model.specs.Scan.{Parsed, spacesAt}
-use Rattle.model.specs.Json.{Json, failed, dispatch, valueAt, arrayAt, objectAt}
+use Rattle.model.specs.Json.{Json, noValue, dispatch, valueAt, arrayAt, objectAt}
 
 -- what reads a value that opens a level, where so many more may be opened
 module _ (inner : (ℕ → Parsed Json) → List ℕ → ℕ → Parsed Json) where
   unfoldable pub nested : ℕ → List ℕ → ℕ → Parsed Json
-  nested zero s = λ at. failed (Deep at)
+  nested zero s = λ at. noValue (Deep at)
   nested (suc l) s = λ at. inner (valueAt l s) s (at + 1)
 
   pub nested-is : (l : ℕ) (s : List ℕ) (at : ℕ) → (l ≡ 0 → ⊥) → nested l s at ≡ inner (valueAt (l - 1) s) s (at + 1)

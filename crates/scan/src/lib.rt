@@ -1,6 +1,4 @@
 // The parts of a JSON text by RFC 4627 that open no level: where each ends, or where the text stops being one.
-use model::Half;
-use model::Hex;
 use model::Next;
 use model::Open;
 use model::Read;
@@ -10,9 +8,23 @@ ghost use mathlib.Core.List.{List, [], _∷_};
 ghost use Prim.Native.Nat.{ℕ, _-_};
 ghost use Rattle.model.specs.Scan.{wordAt};
 ghost use Rattle.model.specs.declared.Read.the-variants.{End};
-ghost use Rattle.model.specs.Strings.{shortOf, hexOf, hexStep, outside, inside, hexAt, lowHexAt, halfOf, lowAt, pairBy, unitBy, escapeBy, secondLow, secondHigh, wideBy, going, charBy, bodyAt, stringAt};
+ghost use Rattle.model.specs.Strings.{shortOf, hexOf, escapeBy, going, charBy, bodyAt, stringAt};
+ghost use Rattle.scan.specs.Units.{hexStep, outside, inside, hexAt, lowHexAt, halfOf, lowAt, pairBy, unitBy, secondLow, secondHigh, wideBy};
 ghost use Rattle.model.specs.Numbers.{minusAt, signAt, someAt, wholeAt, fracAt, isExp, expAt, numberAt};
 ghost use Rattle.model.specs.Json.{opens, scalarBy, afterItem, keyAt};
+
+// Hexadecimal digits read so far: the next position and their number; or the position of a byte that is none.
+pub enum Hex {
+    Unit16(usize, u32),
+    Bad(usize),
+}
+
+// What a 16-bit unit is: a character, the first half of a pair, or one that is refused.
+pub enum Half {
+    Whole,
+    High,
+    Refused,
+}
 
 // The byte at a position, or 256 past the end.
 pub fn peek(text: &[u8], at: usize) -> u16

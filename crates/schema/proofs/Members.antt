@@ -10,12 +10,13 @@ use lib.ListN.{length, getD, set, drop, replicate}
 use lib.Seq.{getD-set-same, getD-set-other, drop-set-lt, getD-at}
 use Rattle.model.specs.Base.{ascii}
 use Rattle.model.specs.Json.{Json, null, bool, num, str, arr, obj, Named}
-use Rattle.model.specs.Nav.{treeAt, kindOf, isObject, isText, textIn}
-use Rattle.model.specs.Members.{membersIn, valueOf, counting}
-use Rattle.model.specs.Text.{stringIn}
+use Rattle.inner.specs.Positions.{treeAt}
+use Rattle.model.specs.Nav.{kindOf, isObject, isText, textIn}
+use Rattle.model.specs.Members.{membersIn, memberValue, counting}
+use Rattle.inner.specs.Positions.{wordIn}
 use Rattle.model.specs.Value.{textOf}
 use Rattle.model.specs.Schema.{Database, Table}
-use Rattle.model.specs.Packed.{cellName, tableFrom, tablesFrom, databaseFrom}
+use Rattle.inner.specs.Packed.{cellName, tableFrom, tablesFrom, databaseFrom}
 use Rattle.model.specs.SchemaText.{must, may, isString, isStringOf, isId, versionFrom, isVersion, names, tableOf, tablesFit, schemaFits, schemaTables, databaseOf}
 use Rattle.model.proofs.Tests.{split, clash, and-l, and-r}
 use Rattle.names.specs.Names.{shortCell, nameCell}
@@ -35,8 +36,8 @@ no-tree : (s : List ℕ) {p : ℕ} → p ≡ 0 → slotTree s p ≡ null
 no-tree s h = rw h (slot-none s)
 
 -- ── strings that are versions and ids ──
-version-string : (j : Json) → isVersion (stringIn j) ≡ isStringOf isVersion j
-unfolding stringIn kindOf isText textIn isVersion versionFrom
+version-string : (j : Json) → isVersion (wordIn j) ≡ isStringOf isVersion j
+unfolding wordIn kindOf isText textIn isVersion versionFrom
 version-string null = refl
 version-string (bool b) = refl
 version-string (num t) = refl
@@ -44,8 +45,8 @@ version-string (str t) = refl
 version-string (arr xs) = refl
 version-string (obj ms) = refl
 
-id-string : (j : Json) → isId (stringIn j) ≡ isStringOf isId j
-unfolding stringIn kindOf isText textIn isId
+id-string : (j : Json) → isId (wordIn j) ≡ isStringOf isId j
+unfolding wordIn kindOf isText textIn isId
 id-string null = refl
 id-string (bool b) = refl
 id-string (num t) = refl
@@ -55,7 +56,7 @@ id-string (obj ms) = refl
 
 -- the text of a name that is an id
 name-text : (j : Json) → isStringOf isId j ≡ true → textOf (nameCell j) ≡ textIn j
-unfolding nameCell stringIn kindOf isText textIn
+unfolding nameCell wordIn kindOf isText textIn
 name-text null h = absurd (clash false h refl)
 name-text (bool b) h = absurd (clash false h refl)
 name-text (num t) h = absurd (clash false h refl)
@@ -65,7 +66,7 @@ name-text (obj ms) h = absurd (clash false h refl)
 
 id-told : (j : Json) → isId (textOf (nameCell j)) ≡ isStringOf isId j
 unfolding nameCell
-id-told j = cell-id (stringIn j) ∙ id-string j
+id-told j = cell-id (wordIn j) ∙ id-string j
 
 no-text : (p : List ℕ → Bool) → isStringOf p null ≡ false
 unfolding kindOf isText
@@ -80,7 +81,7 @@ module _ (s : List ℕ) {p : ℕ} where
   pub no-version : p ≡ 0 → false ≡ isStringOf isVersion (slotTree s p)
   no-version h = sym (ap (isStringOf isVersion) (no-tree s h) ∙ no-text isVersion)
 
-  pub some-version : (p ≡ 0 → ⊥) → {r : Bool} {t : List ℕ} → r ≡ isVersion t → t ≡ stringIn (treeAt s p) → r ≡ isStringOf isVersion (slotTree s p)
+  pub some-version : (p ≡ 0 → ⊥) → {r : Bool} {t : List ℕ} → r ≡ isVersion t → t ≡ wordIn (treeAt s p) → r ≡ isStringOf isVersion (slotTree s p)
   some-version h q e = q ∙ ap isVersion e ∙ version-string (treeAt s p) ∙ ap (isStringOf isVersion) (sym (at-some s h))
 
   pub no-name : p ≡ 0 → replicate 25 0 ≡ nameCell (slotTree s p)
@@ -197,9 +198,9 @@ module _ (s : List ℕ) (j : Json) (f : List ℕ) (k : Slots s schemaWords (memb
 
       name-short : getD name 0 0 ≤ 24
       unfolding nameCell
-      name-short = rw en (short-cell (stringIn (slotTree s (slot 0))) .1)
+      name-short = rw en (short-cell (wordIn (slotTree s (slot 0))) .1)
 
-      name-is : cellName (getD cells 0 []) ≡ textIn (valueOf (ascii "name") ms)
+      name-is : cellName (getD cells 0 []) ≡ textIn (memberValue (ascii "name") ms)
       name-is =
           ap cellName cell-first
           ∙ name-front name (n ∷ replicate 22 0) [] long name-short

@@ -9,7 +9,7 @@ use lib.Seq.{drop-cons}
 use Rattle.model.specs.Base.{placeOf}
 use Rattle.model.specs.Json.{Json, null, bool, num, str, arr, obj}
 use Rattle.model.specs.Schema.{Table}
-use Rattle.model.specs.Packed.{cellName, columnFrom, tableFrom, tablesFrom, tablesIn}
+use Rattle.inner.specs.Packed.{cellName, columnFrom, tableFrom, tablesFrom, packedTables}
 use Rattle.names.specs.Names.{foundAt}
 use Rattle.lookup.specs.Lookup.{columnIn}
 use Rattle.tables.proofs.Shapes.{cells-names}
@@ -24,7 +24,7 @@ names-are cells t (suc k) h =
     ap (λ (l : List (List ℕ)). map cellName (take (suc k) l)) (drop-cons cells (1 + t) [] (omega arith) ∙ ap (λ (m : ℕ). getD cells (1 + t) [] ∷ drop m cells) z)
     ∙ ap (λ (l : List (List ℕ)). cellName (getD cells (1 + t) []) ∷ l) (names-are cells (suc t) k (omega arith))
 
-pub table-named : (cells : List (List ℕ)) (n : ℕ) → n ≡ getD (getD cells 0 []) 25 0 → 1 + n ≤ length cells → (j : Json) → foundAt (columnIn (map columnFrom (take n (drop 1 cells))) j) ≡ foundAt (tableIn (tablesIn cells) j)
+pub table-named : (cells : List (List ℕ)) (n : ℕ) → n ≡ getD (getD cells 0 []) 25 0 → 1 + n ≤ length cells → (j : Json) → foundAt (columnIn (map columnFrom (take n (drop 1 cells))) j) ≡ foundAt (tableIn (packedTables cells) j)
 table-named cells n e h null = refl
 table-named cells n e h (bool b) = refl
 table-named cells n e h (num t) = refl

@@ -8,8 +8,9 @@ use borrow.Author.Tests.{le-leb, lt-leb}
 use lib.ListN.{length}
 use Rattle.model.specs.Base.{isSome}
 use Rattle.model.specs.Json.{Json, textAt}
-use Rattle.model.specs.Nav.{isEnd, treeAt, wellAt}
-use Rattle.model.specs.Packed.{databaseFrom}
+use Rattle.model.specs.Nav.{isRead}
+use Rattle.inner.specs.Positions.{treeAt, wellAt}
+use Rattle.inner.specs.Packed.{databaseFrom}
 use Rattle.model.specs.SchemaText.{schemaFits, databaseOf, schemaOf, readSchema}
 use Rattle.model.proofs.Tests.{split, clash}
 use Rattle.json.proofs.Whole.{text-well}
@@ -42,11 +43,11 @@ module _ (s : List ℕ) where
   read-long h = refused (rw (readSchema, lt-leb (length s) 4096 h))
 
   module _ (short : length s ≤ 4096) where
-    pub read-bad : isEnd (textAt s .read) ≡ false → SchemaRead s false blanks
+    pub read-bad : isRead (textAt s .read) ≡ false → SchemaRead s false blanks
     unfolding readSchema
     read-bad e = refused (rw (readSchema, le-leb (length s) 4096 short, e))
 
-    module _ (e : isEnd (textAt s .read) ≡ true) where
+    module _ (e : isRead (textAt s .read) ≡ true) where
       pub read-well : wellAt s 0 ≡ true
       read-well = text-well s e .0
 

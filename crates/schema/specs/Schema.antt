@@ -10,7 +10,7 @@ use Rattle.model.specs.Base.{every, isSome}
 use Rattle.model.specs.Json.{Json}
 use Rattle.model.specs.Schema.{Schema, tableNamed}
 use Rattle.model.specs.Written.{stringIn}
-use Rattle.model.specs.Packed.{databaseFrom}
+use Rattle.inner.specs.Packed.{databaseFrom}
 use Rattle.model.specs.SchemaText.{isString, isStringOf, isVersion, schemaFits, databaseOf, readSchema}
 use Rattle.fields.specs.Fields.{slotTree}
 use Rattle.tables.specs.Tables.{FewColumns}

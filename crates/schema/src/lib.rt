@@ -7,9 +7,9 @@ ghost use mathlib.Core.List.{[], _∷_, _++_};
 ghost use Prim.Native.Nat.{_≤_};
 ghost use lib.Dec.{eqb};
 ghost use lib.ListN.{length, getD, replicate};
-ghost use Rattle.model.specs.Nav.{Says, wellAt, treeAt};
+ghost use Rattle.inner.specs.Positions.{Says, wellAt, treeAt};
 ghost use Rattle.model.specs.SchemaText.{isStringOf, isVersion};
-ghost use Rattle.model.specs.Packed.{tablesIn};
+ghost use Rattle.inner.specs.Packed.{packedTables};
 ghost use Rattle.names.specs.Names.{nameCell, foundAt};
 ghost use Rattle.fields.specs.Fields.{slotTree};
 ghost use Rattle.tables.specs.Tables.{TablesRead};
@@ -115,7 +115,7 @@ pub fn read(text: &[u8], cells: &mut [[u8; 48]; 29]) -> bool
 // The number of the table that the value at `at` names.
 pub fn table_at(text: &[u8], at: usize, cells: &[[u8; 48]; 29]) -> Found
     requires { ⌜ getD (getD (now cells) 0 []) 25 0 ≤ 4 ⌝ }
-    ensures { λ r. ⌜ r ≡ foundAt (tableIn (tablesIn (now (cells .entry))) (treeAt (now (text .entry)) at)) ⌝ }
+    ensures { λ r. ⌜ r ≡ foundAt (tableIn (packedTables (now (cells .entry))) (treeAt (now (text .entry)) at)) ⌝ }
 {
     let all = &cells[..];
     let n = atom::wide(cells[0][25]);

@@ -16,13 +16,14 @@ use Rattle.model.specs.declared.Found.the-variants.{At, Nothing}
 use Rattle.model.specs.Octets.{eqBytes}
 use Rattle.model.specs.Base.{any, all, member, distinct, isSome, ascii}
 use Rattle.model.specs.Json.{Json, null, bool, num, str, arr, obj}
-use Rattle.model.specs.Nav.{treeAt, wellAt, itemsFrom, itemsIn, firstOf, nextItem, kindOf, isArray}
+use Rattle.inner.specs.Positions.{treeAt, wellAt, itemsFrom, firstOf, nextItem}
+use Rattle.model.specs.Nav.{itemsIn, kindOf, isArray}
 use Rattle.model.specs.Text.{isWord}
 use Rattle.model.specs.Schema.{Column, columnNamed}
 use Rattle.model.specs.Faults.{isFine, check}
 use Rattle.model.specs.Written.{stringIn, arrayIn}
 use Rattle.model.specs.Operations.{namesIn, shownFault, columnsFault, namesOr, shows}
-use Rattle.model.specs.Packed.{cellName, columnFrom}
+use Rattle.inner.specs.Packed.{cellName, columnFrom}
 use Rattle.model.proofs.Tests.{split, clash, bytes-same}
 use Rattle.nav.proofs.FirstByte.{items-in}
 use Rattle.nav.proofs.Walk.{walk-rest, walk-end}

@@ -17,11 +17,11 @@ use Rattle.model.specs.Rows.{Row}
 use Rattle.model.specs.Conditions.{Test, holds, matches}
 use Rattle.model.specs.Operations.{rowText, sameColumns, sameShown, firsts}
 use Rattle.model.specs.Areas.{rowFrom}
-use Rattle.model.specs.Packed.{cellName, columnFrom, columnCell, tableFrom, tablesIn}
+use Rattle.inner.specs.Packed.{cellName, columnFrom, columnCell, tableFrom, packedTables}
 use Rattle.model.specs.Answers.{rowsText}
-use Rattle.model.specs.Working.{working, tableIn, idIn, valueIn}
+use Rattle.inner.specs.Working.{working, tableIn, idIn, valueIn}
 use Rattle.model.proofs.Tests.{split, and-l}
-use Rattle.model.proofs.Working.{row-table, row-id, working-on, working-end}
+use Rattle.inner.proofs.Working.{row-table, row-id, working-on, working-end}
 use Rattle.references.proofs.Links.{values-on}
 use Rattle.answer.specs.Texts.{commaText, joined}
 use Rattle.answer.proofs.Joins.{rows-is}
@@ -217,10 +217,10 @@ module _ (schema : List (List ℕ)) (t : ℕ) (size : length schema ≡ 29) (few
 
 pub answer-is : (schema : List (List ℕ)) (t : ℕ) → length schema ≡ 29 → getD (getD schema (1 + t) []) 25 0 ≤ 6 → t < 4 → t < getD (getD schema 0 []) 25 0 → (show : List ℕ → Bool) (flags marks : List Bool) (rows : List (List (List ℕ))) (n : ℕ) → n ≤ length rows → (ts : List Test)
     → Flagged show (columnCells schema t) flags → Marked (map columnFrom (columnCells schema t)) ts t n rows marks
-    → (ascii "{\"rows\":[" ++ (joined true (pickedFrom schema t flags (length (columnCells schema t)) marks rows 0 n) ++ ascii "]}")) ≡ selected show (columnsOf (tablesIn schema) t) t ts (working (tablesIn schema) n rows)
+    → (ascii "{\"rows\":[" ++ (joined true (pickedFrom schema t flags (length (columnCells schema t)) marks rows 0 n) ++ ascii "]}")) ≡ selected show (columnsOf (packedTables schema) t) t ts (working (packedTables schema) n rows)
 unfolding Marked selected
 answer-is schema t size few four lt show flags marks rows n room ts fl mk =
-    let s = tablesIn schema in
+    let s = packedTables schema in
     let cs = map columnFrom (columnCells schema t) in
     let here : columnsOf s t ≡ cs = columns-in schema t lt in
     ap (λ (l : List (List ℕ)). ascii "{\"rows\":[" ++ (joined true l ++ ascii "]}"))

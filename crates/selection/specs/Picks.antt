@@ -13,7 +13,7 @@ use Rattle.model.specs.Answers.{rowsText}
 use Rattle.model.specs.Conditions.{Test, matches}
 use Rattle.model.specs.Operations.{rowText, sameShown, firsts}
 use Rattle.model.specs.Areas.{rowFrom}
-use Rattle.model.specs.Working.{idIn, valueIn}
+use Rattle.inner.specs.Working.{idIn, valueIn}
 use Rattle.projection.specs.Shown.{rowShown}
 
 -- whether two rows have the same values for k columns from c on, of those that are shown

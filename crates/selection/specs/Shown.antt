@@ -9,12 +9,13 @@ use lib.ListN.{length, getD}
 use Rattle.model.specs.Octets.{eqBytes}
 use Rattle.model.specs.Base.{any, isSome, ascii}
 use Rattle.model.specs.Json.{Json}
-use Rattle.model.specs.Nav.{wellAt, itemsIn}
+use Rattle.inner.specs.Positions.{wellAt}
+use Rattle.model.specs.Nav.{itemsIn}
 use Rattle.model.specs.Text.{isWord}
 use Rattle.model.specs.Schema.{Column, columnNamed}
 use Rattle.model.specs.Written.{stringIn}
 use Rattle.model.specs.Operations.{namesIn}
-use Rattle.model.specs.Packed.{cellName}
+use Rattle.inner.specs.Packed.{cellName}
 
 -- a slot stands for nothing, or for a value that can be read
 unfoldable pub slotWell : List ℕ → ℕ → Bool

@@ -7,15 +7,15 @@ ghost use mathlib.Core.List.{[], map};
 ghost use Prim.Native.Nat.{_+_, _^_, _≤_, _<_};
 ghost use lib.ListN.{length, getD};
 ghost use Rattle.model.specs.Base.{any};
-ghost use Rattle.model.specs.Nav.{Says, treeAt, itemsFrom, itemsFine};
+ghost use Rattle.inner.specs.Positions.{Says, treeAt, itemsFrom, itemsFine};
 ghost use Rattle.model.specs.Text.{isWord};
 ghost use Rattle.model.specs.Operations.{namesIn, shownFault, columnsFault, shows};
-ghost use Rattle.model.specs.Packed.{columnFrom};
+ghost use Rattle.inner.specs.Packed.{columnFrom};
 ghost use Rattle.model.specs.Schema.{columnsOf};
 ghost use Rattle.model.specs.Value.{sameValue};
 ghost use Rattle.model.specs.Faults.{isFine};
-ghost use Rattle.model.specs.Packed.{tablesIn};
-ghost use Rattle.model.specs.Working.{working, valueIn};
+ghost use Rattle.inner.specs.Packed.{packedTables};
+ghost use Rattle.inner.specs.Working.{working, valueIn};
 ghost use Rattle.uuids.specs.Named.{Running};
 ghost use Rattle.answer.specs.Put.{Put};
 ghost use Rattle.answer.specs.Texts.{joined};
@@ -324,9 +324,9 @@ pub fn select_rows(
     requires { ⌜ Sized (now schema) ⌝ }
     requires { ⌜ table < getD (getD (now schema) 0 []) 25 0 ⌝ }
     requires { ⌜ isFine (testsAt (now text) ops (now fresh) (columnCells (now schema) table) tests .fault) ≡ true ⌝ }
-    requires { ⌜ isFine (columnsFault (columnsOf (tablesIn (now schema)) table) (slotted (now text) p)) ≡ true ⌝ }
+    requires { ⌜ isFine (columnsFault (columnsOf (packedTables (now schema)) table) (slotted (now text) p)) ≡ true ⌝ }
     requires { ⌜ (n ≤ 32) × (n ≤ length (now rows)) × (at + 200000 < 2 ^ 64) ⌝ }
-    ensures { λ r. ⌜ Put 200000 (now (out .entry)) at (selected (shows (slotted (now (text .entry)) p)) (columnsOf (tablesIn (now (schema .entry))) table) table (testsAt (now (text .entry)) ops (now (fresh .entry)) (columnCells (now (schema .entry)) table) tests .got) (working (tablesIn (now (schema .entry))) n (now (rows .entry)))) r (now (out .exit)) ⌝ }
+    ensures { λ r. ⌜ Put 200000 (now (out .entry)) at (selected (shows (slotted (now (text .entry)) p)) (columnsOf (packedTables (now (schema .entry))) table) table (testsAt (now (text .entry)) ops (now (fresh .entry)) (columnCells (now (schema .entry)) table) tests .got) (working (packedTables (now (schema .entry))) n (now (rows .entry)))) r (now (out .exit)) ⌝ }
 {
     let t = atom::wide(table);
     let columns = area::columns_of(schema, t);

@@ -10,7 +10,7 @@ use Rattle.model.specs.declared.Found.{Found}
 use Rattle.model.specs.declared.Found.the-variants.{At, Nothing}
 use Rattle.model.specs.Base.{any}
 use Rattle.model.specs.Json.{Json}
-use Rattle.model.specs.Nav.{treeAt}
+use Rattle.inner.specs.Positions.{treeAt}
 use Rattle.model.specs.Schema.{Base}
 use Rattle.model.specs.Written.{Names, longAtom}
 use Rattle.model.proofs.Tests.{or-l, or-r}

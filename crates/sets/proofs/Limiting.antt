@@ -9,7 +9,8 @@ use lib.IntN.{ℤ, pos, negsuc}
 use lib.Signed.{leZ}
 use borrow.Author.Tests.{ltb-true, ltb-false, le-leb, lt-leb, eqb-true, eqb-false}
 use Rattle.model.specs.Base.{if_then_else_}
-use Rattle.model.specs.Schema.{Base, baseOf, Column}
+use Rattle.model.specs.Schema.{Base, Column}
+use Rattle.inner.specs.Packed.{baseNumbered}
 use Rattle.model.specs.Value.{fromTwos, atomInLimits}
 use Rattle.model.proofs.Tests.{split}
 use Rattle.model.proofs.Signed.{leZ-is}
@@ -34,7 +35,7 @@ below-is h n = split (ltb h 9223372036854775808)
     (λ e. ap (λ (b : Bool). b && leb n h) e ∙ sym (ap (leZ (pos n)) (twos-by h e)))
 
 -- truth values and ids have none
-pub unlimited : (c : Column) (k : ℕ) (a : List ℕ) → (k ≡ 0 → ⊥) → (k ≡ 2 → ⊥) → atomInLimits c (baseOf k) a ≡ true
+pub unlimited : (c : Column) (k : ℕ) (a : List ℕ) → (k ≡ 0 → ⊥) → (k ≡ 2 → ⊥) → atomInLimits c (baseNumbered k) a ≡ true
 unlimited c k a h g = split (eqb k 1)
     (λ e. ap (λ b. atomInLimits c b a) (base-boolean k (eqb-true k 1 e)))
     (λ e. ap (λ b. atomInLimits c b a) (base-uuid k h (eqb-false k 1 e) g))

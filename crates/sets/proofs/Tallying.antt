@@ -12,8 +12,10 @@ use Rattle.model.specs.declared.Found.{Found}
 use Rattle.model.specs.declared.Found.the-variants.{At, Nothing}
 use Rattle.model.specs.Base.{any, all, isSome, member, distinct}
 use Rattle.model.specs.Json.{Json}
-use Rattle.model.specs.Nav.{treeAt, kindOf, isText}
-use Rattle.model.specs.Text.{isWord, chars, stringIn}
+use Rattle.inner.specs.Positions.{treeAt}
+use Rattle.model.specs.Nav.{kindOf, isText}
+use Rattle.model.specs.Text.{isWord, chars}
+use Rattle.inner.specs.Positions.{wordIn}
 use Rattle.model.specs.Schema.{Base, integer, boolean, text, uuid, Column}
 use Rattle.model.specs.Value.{blank, textAtom, textOf, inLimits, atomInLimits}
 use Rattle.model.specs.Written.{Names, atomIn, longAtom}
@@ -61,11 +63,11 @@ module _ (names : Names) (c : Column) (j : Json) (out : List ℕ) where
   abbrev oneString : Option (List ℕ) → Option (List ℕ)
   oneString o = elim o [ none ↦ none | some t ↦ some (textAtom t) ]
 
-  pub sees-long : Reads names (c .base) j Long out → {n : ℕ} → n ≡ chars (stringIn j) → {w : Bool} → w ≡ inLimits c (pos n) → Sees names c j true false w
+  pub sees-long : Reads names (c .base) j Long out → {n : ℕ} → n ≡ chars (wordIn j) → {w : Bool} → w ≡ inLimits c (pos n) → Sees names c j true false w
   unfolding Reads isTyped
   sees-long p {n} m e =
       let q = long-cell names j (c .base) out p in
-      let t = stringIn j in
+      let t = wordIn j in
       record {
         typed = sym (ap (λ k. isSome (atomIn names k j)) (p .0) ∙ ap (λ o. isSome (oneString o)) (some-string j (p .1)));
         short = sym (ap (λ k. not (longAtom k (atomAs names (c .base) j))) (p .0) ∙ ap (λ a. not (longAtom text a)) (q .0) ∙ ap not (lt-ltb 24 (length t) (q .1)));
@@ -79,7 +81,7 @@ reads-cell names k j out Wrong p h = wrong-cell names j k out p
 reads-cell names k j out Fits p h = fits-cell names j k out p
 reads-cell names k j out Long p h =
     let q = long-cell names j k out p in
-    absurd (clash (longAtom k (atomAs names k j)) (ap (longAtom k) (q .0) ∙ ap (λ b. longAtom b (textAtom (stringIn j))) (q .2) ∙ lt-ltb 24 (length (stringIn j)) (q .1)) h)
+    absurd (clash (longAtom k (atomAs names k j)) (ap (longAtom k) (q .0) ∙ ap (λ b. longAtom b (textAtom (wordIn j))) (q .2) ∙ lt-ltb 24 (length (wordIn j)) (q .1)) h)
 
 -- ── all of them ──
 or-not : (a b : Bool) → not (a || b) ≡ (not a && not b)
@@ -119,10 +121,10 @@ module _ (names : Names) (c : Column) (js : List Json) where
 
 -- ── different elements ──
 module _ (names : Names) (k : Base) (j : Json) (out : List ℕ) (js : List Json) where
-  pub again-long : Reads names k j Long out → member (atomAs names k j) (atomsOf names k js) ≡ any (isWord (stringIn j)) js
+  pub again-long : Reads names k j Long out → member (atomAs names k j) (atomsOf names k js) ≡ any (isWord (wordIn j)) js
   again-long p =
       let q = long-cell names j k out p in
-      ap (λ a. member a (atomsOf names k js)) (q .0) ∙ ap (λ b. member (textAtom (stringIn j)) (atomsOf names b js)) (q .2) ∙ word-member names (stringIn j) (q .1) js
+      ap (λ a. member a (atomsOf names k js)) (q .0) ∙ ap (λ b. member (textAtom (wordIn j)) (atomsOf names b js)) (q .2) ∙ word-member names (wordIn j) (q .1) js
 
 module _ (names : Names) (k : Base) (s : List ℕ) (set : Bool) {g : Found} where
   pub distinct-end : g ≡ Nothing → distinct (atomsOf names k (elementsFrom s set g)) ≡ true

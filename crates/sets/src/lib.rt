@@ -9,11 +9,11 @@ ghost use lib.Signed.{leZ};
 ghost use lib.ListN.{length};
 ghost use Rattle.model.specs.Octets.{value, part};
 ghost use Rattle.model.specs.Base.{any, member, distinct};
-ghost use Rattle.model.specs.Nav.{wellAt, treeAt};
-ghost use Rattle.model.specs.Schema.{baseOf};
+ghost use Rattle.inner.specs.Positions.{wellAt, treeAt};
+ghost use Rattle.inner.specs.Packed.{baseNumbered};
 ghost use Rattle.model.specs.Value.{fromTwos, inLimits, atomInLimits, valueOf};
 ghost use Rattle.model.specs.Written.{longAtom};
-ghost use Rattle.model.specs.Packed.{columnFrom};
+ghost use Rattle.inner.specs.Packed.{columnFrom};
 ghost use Rattle.atom.specs.Bytes.{halves};
 ghost use Rattle.elements.specs.Elements.{elementsFrom, elementsFine};
 ghost use Rattle.uuids.specs.Named.{namesAt, Running};
@@ -194,7 +194,7 @@ fn again(
     requires { ⌜ Running (now text) (now ends) ops (now fresh) ⌝ }
     requires { ⌜ wellAt (now text) at ≡ true ⌝ }
     requires { ⌜ elementsFine (now text) set f ≡ true ⌝ }
-    ensures { λ r. ⌜ r ≡ member (atomAs (namesAt (now (text .entry)) ops (now (fresh .entry))) (baseOf kind) (treeAt (now (text .entry)) at)) (atomsOf (namesAt (now (text .entry)) ops (now (fresh .entry))) (baseOf kind) (elementsFrom (now (text .entry)) set f)) ⌝ }
+    ensures { λ r. ⌜ r ≡ member (atomAs (namesAt (now (text .entry)) ops (now (fresh .entry))) (baseNumbered kind) (treeAt (now (text .entry)) at)) (atomsOf (namesAt (now (text .entry)) ops (now (fresh .entry))) (baseNumbered kind) (elementsFrom (now (text .entry)) set f)) ⌝ }
 {
     let mut cell = [0u8; 25];
     let a = written::atom_at(text, ends, ops, fresh, kind, at, &mut cell);
@@ -217,7 +217,7 @@ pub fn distinct_from(
 ) -> bool
     requires { ⌜ Running (now text) (now ends) ops (now fresh) ⌝ }
     requires { ⌜ elementsFine (now text) set f ≡ true ⌝ }
-    ensures { λ r. ⌜ r ≡ distinct (atomsOf (namesAt (now (text .entry)) ops (now (fresh .entry))) (baseOf kind) (elementsFrom (now (text .entry)) set f)) ⌝ }
+    ensures { λ r. ⌜ r ≡ distinct (atomsOf (namesAt (now (text .entry)) ops (now (fresh .entry))) (baseNumbered kind) (elementsFrom (now (text .entry)) set f)) ⌝ }
 {
     let mut g = f;
     loop {
@@ -239,8 +239,8 @@ pub fn distinct_from(
 fn cell_at(text: &[u8], ends: &[u16], ops: Found, fresh: &[u8], kind: u8, at: usize) -> [u8; 25]
     requires { ⌜ Running (now text) (now ends) ops (now fresh) ⌝ }
     requires { ⌜ wellAt (now text) at ≡ true ⌝ }
-    requires { ⌜ longAtom (baseOf kind) (atomAs (namesAt (now text) ops (now fresh)) (baseOf kind) (treeAt (now text) at)) ≡ false ⌝ }
-    ensures { λ r. ⌜ r ≡ atomAs (namesAt (now (text .entry)) ops (now (fresh .entry))) (baseOf kind) (treeAt (now (text .entry)) at) ⌝ }
+    requires { ⌜ longAtom (baseNumbered kind) (atomAs (namesAt (now text) ops (now fresh)) (baseNumbered kind) (treeAt (now text) at)) ≡ false ⌝ }
+    ensures { λ r. ⌜ r ≡ atomAs (namesAt (now (text .entry)) ops (now (fresh .entry))) (baseNumbered kind) (treeAt (now (text .entry)) at) ⌝ }
 {
     let mut cell = [0u8; 25];
     written::atom_at(text, ends, ops, fresh, kind, at, &mut cell);
@@ -259,9 +259,9 @@ pub fn gather(
 ) -> [[u8; 25]; 4]
     requires { ⌜ Running (now text) (now ends) ops (now fresh) ⌝ }
     requires { ⌜ elementsFine (now text) set f ≡ true ⌝ }
-    requires { ⌜ allShort (namesAt (now text) ops (now fresh)) (baseOf kind) (elementsFrom (now text) set f) ≡ true ⌝ }
+    requires { ⌜ allShort (namesAt (now text) ops (now fresh)) (baseNumbered kind) (elementsFrom (now text) set f) ≡ true ⌝ }
     requires { ⌜ length (elementsFrom (now text) set f) ≤ 4 ⌝ }
-    ensures { λ r. ⌜ r ≡ valueOf (atomsOf (namesAt (now (text .entry)) ops (now (fresh .entry))) (baseOf kind) (elementsFrom (now (text .entry)) set f)) .atoms ⌝ }
+    ensures { λ r. ⌜ r ≡ valueOf (atomsOf (namesAt (now (text .entry)) ops (now (fresh .entry))) (baseNumbered kind) (elementsFrom (now (text .entry)) set f)) .atoms ⌝ }
 {
     let mut atoms = [[0u8; 25]; 4];
     let mut g = f;

@@ -10,11 +10,11 @@ use Rattle.model.specs.Schema.{Schema}
 use Rattle.model.specs.Rows.{Row, remove}
 use Rattle.model.specs.Commit.{loose, firstLoose, collect}
 use Rattle.model.specs.Areas.{rowFrom}
-use Rattle.model.specs.Working.{working, keyIn, place}
+use Rattle.inner.specs.Working.{working, keyIn, place}
 use Rattle.model.specs.declared.Found.{Found}
 use Rattle.model.specs.declared.Found.the-variants.{At, Nothing}
-use Rattle.model.proofs.Working.{row-key, working-on, working-end, working-length}
-use Rattle.model.proofs.Places.{place-at, place-none}
+use Rattle.inner.proofs.Working.{row-key, working-on, working-end, working-length}
+use Rattle.inner.proofs.Places.{place-at, place-none}
 use Rattle.settle.specs.Loose.{LooseAt, Collected}
 use Rattle.rows.specs.Post.{Removed}
 

@@ -14,9 +14,9 @@ use Rattle.model.specs.Value.{Value, elements, valueOf, uuidOf}
 use Rattle.model.specs.Rows.{Row, keyOf, key, has}
 use Rattle.model.specs.Commit.{present, weakenValue, weakenColumns, weakenRow, weaken}
 use Rattle.model.specs.Areas.{rowFrom}
-use Rattle.model.specs.Working.{working, TidyRow, Tidy}
-use Rattle.model.proofs.Working.{working-at, working-on, working-length}
-use Rattle.model.proofs.Places.{working-set, tidy-set, tidy-at}
+use Rattle.inner.specs.Working.{working, TidyRow, Tidy}
+use Rattle.inner.proofs.Working.{working-at, working-on, working-length}
+use Rattle.inner.proofs.Places.{working-set, tidy-set, tidy-at}
 use Rattle.references.proofs.Keeping.{keep-alike}
 use Rattle.settle.specs.Weak.{RowWeak, Weakened}
 

@@ -10,7 +10,7 @@ use lib.Dec.{eqb}
 use lib.ListN.{length, getD}
 use Rattle.model.specs.Base.{any}
 use Rattle.model.specs.Schema.{Table, Schema, rootAt, isRoot}
-use Rattle.model.specs.Packed.{tableCell, tableFrom, tablesFrom, tablesIn}
+use Rattle.inner.specs.Packed.{tableCell, tableFrom, tablesFrom, packedTables}
 use Rattle.model.proofs.Tests.{or-true}
 use Rattle.references.proofs.Packs.{tableCount, tables-on, tables-end}
 
@@ -49,19 +49,19 @@ module _ (cells : List (List ℕ)) where
   root-past a (suc k) (suc t) h = root-past (suc a) k t (omega arith)
 
   module _ (t : ℕ) where
-    pub is-root-past : tableCount cells ≤ t → isRoot (tablesIn cells) t ≡ true
-    is-root-past h = rw (root-past 0 (tableCount cells) t h) (or-true (not (any saysRoot (tablesIn cells))))
+    pub is-root-past : tableCount cells ≤ t → isRoot (packedTables cells) t ≡ true
+    is-root-past h = rw (root-past 0 (tableCount cells) t h) (or-true (not (any saysRoot (packedTables cells))))
 
-    says : t < tableCount cells → rootAt (tablesIn cells) t ≡ eqb (rootByte t) 1
+    says : t < tableCount cells → rootAt (packedTables cells) t ≡ eqb (rootByte t) 1
     says h =
         let e : 0 + t ≡ t = omega arith in
         root-from 0 (tableCount cells) t h ∙ ap (λ (n : ℕ). eqb (rootByte n) 1) e
 
-    pub is-root-says : t < tableCount cells → rootByte t ≡ 1 → isRoot (tablesIn cells) t ≡ true
-    is-root-says h e = rw (says h, eq-eqb (rootByte t) 1 e) (or-true (not (any saysRoot (tablesIn cells))))
+    pub is-root-says : t < tableCount cells → rootByte t ≡ 1 → isRoot (packedTables cells) t ≡ true
+    is-root-says h e = rw (says h, eq-eqb (rootByte t) 1 e) (or-true (not (any saysRoot (packedTables cells))))
 
-    pub is-root-none : t < tableCount cells → (rootByte t ≡ 1 → ⊥) → isRoot (tablesIn cells) t ≡ not (any saysRoot (tablesIn cells))
-    is-root-none h e = rw (says h, ne-eqb (rootByte t) 1 e) (or-no (not (any saysRoot (tablesIn cells))))
+    pub is-root-none : t < tableCount cells → (rootByte t ≡ 1 → ⊥) → isRoot (packedTables cells) t ≡ not (any saysRoot (packedTables cells))
+    is-root-none h e = rw (says h, ne-eqb (rootByte t) 1 e) (or-no (not (any saysRoot (packedTables cells))))
       where
         or-no : (b : Bool) → (b || false) ≡ b
         or-no true = refl

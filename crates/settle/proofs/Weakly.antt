@@ -14,10 +14,10 @@ use Rattle.model.specs.Value.{Value, elements, valueOf, blank}
 use Rattle.model.specs.Rows.{Row, columnValue, setColumn}
 use Rattle.model.specs.Commit.{weakly, present, weakenValue, weakenColumns, weakenRow}
 use Rattle.model.specs.Areas.{rowFrom}
-use Rattle.model.specs.Packed.{tablesIn, columnFrom, columnCell}
-use Rattle.model.specs.Working.{working, tableIn, valueIn, TidyRow}
-use Rattle.model.proofs.Working.{row-table}
-use Rattle.model.proofs.Columns.{column-value}
+use Rattle.inner.specs.Packed.{packedTables, columnFrom, columnCell}
+use Rattle.inner.specs.Working.{working, tableIn, valueIn, TidyRow}
+use Rattle.inner.proofs.Working.{row-table}
+use Rattle.inner.proofs.Columns.{column-value}
 use Rattle.references.specs.Links.{Accepted, pick, refersAt}
 use Rattle.references.proofs.Packs.{columns-on, few-columns}
 use Rattle.references.proofs.Links.{values-on, values-length}
@@ -96,7 +96,7 @@ module _ (rows : List Row) where
 -- ── a row ──
 module _ (schema : List (List ℕ)) (ok : Accepted schema) (n : ℕ) (rows : List (List (List ℕ))) (entry : List (List ℕ)) where
   abbrev s : Schema
-  s = tablesIn schema
+  s = packedTables schema
 
   abbrev width : ℕ
   width = length (columnsOf s (tableIn entry))

@@ -9,7 +9,7 @@ use Rattle.model.specs.Base.{any}
 use Rattle.model.specs.Schema.{Schema}
 use Rattle.model.specs.Rows.{Row, key}
 use Rattle.model.specs.Commit.{strongOf, loose, firstLoose, collect, weaken}
-use Rattle.model.specs.Working.{working, keyIn, place, Tidy}
+use Rattle.inner.specs.Working.{working, keyIn, place, Tidy}
 use Rattle.model.specs.declared.Found.{Found}
 use Rattle.model.specs.declared.Found.the-variants.{At, Nothing}
 use mathlib.Core.Option.{Option, none, some}

@@ -10,7 +10,7 @@ use Rattle.model.specs.Value.{Value, elements, valueOf}
 use Rattle.model.specs.Rows.{Row, setColumn}
 use Rattle.model.specs.Commit.{present, weakenRow, weaken}
 use Rattle.model.specs.Areas.{rowFrom}
-use Rattle.model.specs.Working.{working, tableIn, valueIn, TidyRow, Tidy}
+use Rattle.inner.specs.Working.{working, tableIn, valueIn, TidyRow, Tidy}
 
 -- a value of a column that refers weakly to a table, without the elements that name no row
 unfoldable pub keptValue : List Row → Option ℕ → Value → Value

@@ -12,8 +12,8 @@ ghost use Rattle.model.specs.Schema.{Schema, Table, isRoot, columnsOf};
 ghost use Rattle.model.specs.Rows.{Row, keyOf, has};
 ghost use Rattle.model.specs.Commit.{strongOf, loose, firstLoose, collect};
 ghost use Rattle.model.specs.Areas.{rowFrom};
-ghost use Rattle.model.specs.Packed.{tablesIn};
-ghost use Rattle.model.specs.Working.{working, tableIn, keyIn, valueIn, place, Tidy};
+ghost use Rattle.inner.specs.Packed.{packedTables};
+ghost use Rattle.inner.specs.Working.{working, tableIn, keyIn, valueIn, place, Tidy};
 ghost use Rattle.references.specs.Links.{Accepted, told};
 ghost use Rattle.settle.specs.Loose.{holds, LooseAt, Collected};
 ghost use Rattle.settle.specs.Weak.{ColumnWeak, RowWeak, Weakened};
@@ -27,7 +27,7 @@ fn wide(b: u8) -> usize
 // Whether a table says that it is root.
 fn some_root(schema: &[[u8; 48]]) -> bool
     requires { ⌜ Accepted (now schema) ⌝ }
-    ensures { λ r. ⌜ r ≡ any (λ (x : Table). x .root) (tablesIn (now (schema .entry))) ⌝ }
+    ensures { λ r. ⌜ r ≡ any (λ (x : Table). x .root) (packedTables (now (schema .entry))) ⌝ }
 {
     let n = wide(schema[0][25]);
     let mut t = 0;
@@ -43,7 +43,7 @@ fn some_root(schema: &[[u8; 48]]) -> bool
 // Whether a table is root: all are, if none says so.
 fn is_root(schema: &[[u8; 48]], table: u8) -> bool
     requires { ⌜ Accepted (now schema) ⌝ }
-    ensures { λ r. ⌜ r ≡ isRoot (tablesIn (now (schema .entry))) table ⌝ }
+    ensures { λ r. ⌜ r ≡ isRoot (packedTables (now (schema .entry))) table ⌝ }
 {
     if schema[0][25] <= table {
         return true;
@@ -64,7 +64,7 @@ fn same_row(a: &[[u8; 25]; 25], b: &[[u8; 25]; 25]) -> bool
 // Whether a row is a different one that refers strongly to another.
 fn holds_row(schema: &[[u8; 48]], row: &[[u8; 25]; 25], other: &[[u8; 25]; 25]) -> bool
     requires { ⌜ Accepted (now schema) ⌝ }
-    ensures { λ r. ⌜ r ≡ holds (tablesIn (now (schema .entry))) (keyIn (now (other .entry))) (rowFrom (tablesIn (now (schema .entry))) (now (row .entry))) ⌝ }
+    ensures { λ r. ⌜ r ≡ holds (packedTables (now (schema .entry))) (keyIn (now (other .entry))) (rowFrom (packedTables (now (schema .entry))) (now (row .entry))) ⌝ }
 {
     if same_row(row, other) {
         return false;
@@ -76,7 +76,7 @@ fn holds_row(schema: &[[u8; 48]], row: &[[u8; 25]; 25], other: &[[u8; 25]; 25]) 
 fn is_held(schema: &[[u8; 48]], rows: &[[[u8; 25]; 25]], n: usize, row: &[[u8; 25]; 25]) -> bool
     requires { ⌜ Accepted (now schema) ⌝ }
     requires { ⌜ n ≤ length (now rows) ⌝ }
-    ensures { λ r. ⌜ r ≡ any (holds (tablesIn (now (schema .entry))) (keyIn (now (row .entry)))) (working (tablesIn (now (schema .entry))) n (now (rows .entry))) ⌝ }
+    ensures { λ r. ⌜ r ≡ any (holds (packedTables (now (schema .entry))) (keyIn (now (row .entry)))) (working (packedTables (now (schema .entry))) n (now (rows .entry))) ⌝ }
 {
     let mut j = 0;
     while j < n {
@@ -97,7 +97,7 @@ pub fn is_loose(
 ) -> bool
     requires { ⌜ Accepted (now schema) ⌝ }
     requires { ⌜ n ≤ length (now rows) ⌝ }
-    ensures { λ r. ⌜ r ≡ loose (tablesIn (now (schema .entry))) (working (tablesIn (now (schema .entry))) n (now (rows .entry))) (rowFrom (tablesIn (now (schema .entry))) (now (row .entry))) ⌝ }
+    ensures { λ r. ⌜ r ≡ loose (packedTables (now (schema .entry))) (working (packedTables (now (schema .entry))) n (now (rows .entry))) (rowFrom (packedTables (now (schema .entry))) (now (row .entry))) ⌝ }
 {
     if is_root(schema, rows::table_of(row)) {
         return false;
@@ -124,7 +124,7 @@ fn place_of(rows: &[[[u8; 25]; 25]], n: usize, row: &[[u8; 25]; 25]) -> Found
 pub fn first_loose(schema: &[[u8; 48]], rows: &[[[u8; 25]; 25]], n: usize) -> Found
     requires { ⌜ Accepted (now schema) ⌝ }
     requires { ⌜ n ≤ length (now rows) ⌝ }
-    ensures { λ r. ⌜ LooseAt (tablesIn (now (schema .entry))) (working (tablesIn (now (schema .entry))) n (now (rows .entry))) r ⌝ }
+    ensures { λ r. ⌜ LooseAt (packedTables (now (schema .entry))) (working (packedTables (now (schema .entry))) n (now (rows .entry))) r ⌝ }
 {
     let mut i = 0;
     while i < n {
@@ -140,7 +140,7 @@ pub fn first_loose(schema: &[[u8; 48]], rows: &[[[u8; 25]; 25]], n: usize) -> Fo
 pub fn collect(schema: &[[u8; 48]], rows: &mut [[[u8; 25]; 25]], n: usize) -> usize
     requires { ⌜ Accepted (now schema) ⌝ }
     requires { ⌜ n ≤ length (now rows) ⌝ }
-    ensures { λ r. ⌜ Collected (tablesIn (now (schema .entry))) n r (now (rows .entry)) (now (rows .exit)) ⌝ }
+    ensures { λ r. ⌜ Collected (packedTables (now (schema .entry))) n r (now (rows .entry)) (now (rows .exit)) ⌝ }
 {
     let found = first_loose(schema, rows, n);
     let Found::At(i) = found else {
@@ -170,7 +170,7 @@ fn weaken_column(row: &mut [[u8; 25]; 25], c: usize, to: Target, rows: &[[[u8; 2
 fn weaken_row(row: &mut [[u8; 25]; 25], schema: &[[u8; 48]], rows: &[[[u8; 25]; 25]], n: usize)
     requires { ⌜ Accepted (now schema) ⌝ }
     requires { ⌜ n ≤ length (now rows) ⌝ }
-    ensures { λ _. ⌜ RowWeak (tablesIn (now (schema .entry))) n (now (rows .entry)) (now (row .entry)) (now (row .exit)) ⌝ }
+    ensures { λ _. ⌜ RowWeak (packedTables (now (schema .entry))) n (now (rows .entry)) (now (row .entry)) (now (row .exit)) ⌝ }
 {
     let table = rows::table_of(row);
     let w = references::width(schema, table);
@@ -186,7 +186,7 @@ fn weaken_row(row: &mut [[u8; 25]; 25], schema: &[[u8; 48]], rows: &[[[u8; 25]; 
 pub fn weaken(schema: &[[u8; 48]], rows: &mut [[[u8; 25]; 25]], n: usize)
     requires { ⌜ Accepted (now schema) ⌝ }
     requires { ⌜ n ≤ length (now rows) ⌝ }
-    ensures { λ _. ⌜ Weakened (tablesIn (now (schema .entry))) n (now (rows .entry)) (now (rows .exit)) ⌝ }
+    ensures { λ _. ⌜ Weakened (packedTables (now (schema .entry))) n (now (rows .entry)) (now (rows .exit)) ⌝ }
 {
     let mut i = 0;
     while i < n {

@@ -12,14 +12,17 @@ use Rattle.model.specs.Octets.{filled}
 use Rattle.model.specs.Base.{isSome}
 use Rattle.model.specs.Schema.{Schema}
 use Rattle.model.specs.SchemaText.{readSchema}
+use Rattle.model.specs.Refusals.{numberOf}
 use Rattle.model.specs.Records.{mark, encode}
 use Rattle.model.specs.Areas.{Store, textFrom, encodeStore, storeOf}
-use Rattle.model.specs.Packed.{tablesIn}
+use Rattle.inner.specs.Packed.{packedTables}
 use Rattle.area.specs.Layout.{rowCount}
 use Rattle.model.specs.Calls.{zeroed, Started, storeStart, Marked, markOn, storeMark}
-use Rattle.model.specs.Working.{working}
+use Rattle.inner.specs.Working.{working}
 use Rattle.model.specs.declared.Answer.{Answer}
 use Rattle.model.specs.declared.Answer.the-variants.{Accepted, Disordered, WrongLength, BadSchema}
+use Rattle.model.specs.FirstRefusal.{storeStartNumber, markNumber}
+use Rattle.model.proofs.Demand1.{store-start-first, mark-first}
 use Rattle.model.proofs.StoreCalls.{filled-is}
 use Rattle.area.specs.Writing.{numberIn, storeIn}
 use Rattle.holding.specs.Held.{runIn, Holding}
@@ -104,7 +107,7 @@ module _ (area out : List ℕ) where
           → (before after : List ℕ) → before ≡ replicate (length out) 0 → Wrote (markRecord m) 9 before after → Marks Accepted after
       unfolding storeIn
       mark-made cells rows k m run number p q r before after z w =
-          let st = storeIn (tablesIn cells) (runIn area) (numberIn area) (textFrom area) (rowCount area) rows in
+          let st = storeIn (packedTables cells) (runIn area) (numberIn area) (textFrom area) (rowCount area) rows in
           let y = marks (markOn out (some st)) (on (some st) (k .store)) in
           let b = encode (mark (runIn area) (numberIn area)) in
           let same : encode (markRecord m) ≡ b = ap (λ (x : Mark). encode (markRecord x)) p ∙ (λ i. encode (mark (q i) (r i))) in
@@ -112,3 +115,11 @@ module _ (area out : List ℕ) where
           let f : filled (length out) b ≡ b ++ replicate (length out - 9) 0 = filled-is (length out) b (omega (arith, n)) ∙ ap (λ (x : ℕ). b ++ replicate (length out - x) 0) n in
           let g : drop 9 before ≡ replicate (length out - 9) 0 = ap (drop 9) z ∙ drop-zeros 9 (length out) in
           (y .0, w .bytes ∙ (λ i. same i ++ g i) ∙ sym f ∙ y .1)
+
+-- ── the numbers of the answers ──
+pub start-numbered : (area schema : List ℕ) (run : ℕ) {r : Answer} {after : List ℕ} → Starts area schema run r after → (numberOf r ≡ storeStartNumber area schema) × Starts area schema run r after
+start-numbered area schema run z = (ap numberOf (z .0) ∙ store-start-first area schema run, z)
+
+pub mark-numbered : (area out : List ℕ) {r : Answer} {after : List ℕ} → (r ≡ storeMark area out .answer) × (after ≡ storeMark area out .mark)
+    → (numberOf r ≡ markNumber area out) × ((r ≡ storeMark area out .answer) × (after ≡ storeMark area out .mark))
+mark-numbered area out z = (ap numberOf (z .0) ∙ mark-first area out, z)

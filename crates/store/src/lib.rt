@@ -1,11 +1,14 @@
-// The calls of a store.
+// The calls of a store. Each promises its answer's number, as the first refusal of document 01 that applies (specs FirstRefusal of model), and the equation of the model's definition for that call.
 use model::Answer;
 use record::Mark;
 ghost use mathlib.Core.Path.{_≡_};
+ghost use Rattle.model.specs.Refusals.{numberOf};
 ghost use Rattle.model.specs.Calls.{storeStart, storeTransact, storeMark};
+ghost use Rattle.model.specs.FirstRefusal.{storeStartNumber, transactNumber, markNumber};
 
 // Makes a store of a schema's text and a run, with no rows and number 0.
 pub fn start(area: &mut [u8], schema: &[u8], run: u32) -> Answer
+    ensures { λ r. ⌜ numberOf r ≡ storeStartNumber (now (area .entry)) (now (schema .entry)) ⌝ }
     ensures { λ r. ⌜ r ≡ storeStart (now (area .entry)) (now (schema .entry)) run .answer ⌝ }
     ensures { λ r. ⌜ now (area .exit) ≡ storeStart (now (area .entry)) (now (schema .entry)) run .area ⌝ }
 {
@@ -29,6 +32,7 @@ pub fn transact(
     records: &mut [u8],
     answer: &mut [u8],
 ) -> Answer
+    ensures { λ r. ⌜ numberOf r ≡ transactNumber (now (area .entry)) (now (request .entry)) (now (fresh .entry)) (now (records .entry)) (now (answer .entry)) ⌝ }
     ensures { λ r. ⌜ r ≡ storeTransact (now (area .entry)) (now (request .entry)) (now (fresh .entry)) (now (records .entry)) (now (answer .entry)) .answer ⌝ }
     ensures { λ r. ⌜ now (area .exit) ≡ storeTransact (now (area .entry)) (now (request .entry)) (now (fresh .entry)) (now (records .entry)) (now (answer .entry)) .area ⌝ }
     ensures { λ r. ⌜ now (records .exit) ≡ storeTransact (now (area .entry)) (now (request .entry)) (now (fresh .entry)) (now (records .entry)) (now (answer .entry)) .records ⌝ }
@@ -39,6 +43,7 @@ pub fn transact(
 
 // Writes the mark of a store: its run and the last number that it gave out.
 pub fn mark(area: &[u8], mark: &mut [u8]) -> Answer
+    ensures { λ r. ⌜ numberOf r ≡ markNumber (now (area .entry)) (now (mark .entry)) ⌝ }
     ensures { λ r. ⌜ r ≡ storeMark (now (area .entry)) (now (mark .entry)) .answer ⌝ }
     ensures { λ r. ⌜ now (mark .exit) ≡ storeMark (now (area .entry)) (now (mark .entry)) .mark ⌝ }
 {

@@ -13,22 +13,22 @@ use Rattle.model.specs.declared.Fault.the-variants.{Fine, Syntax, Resources, Du
 use Rattle.model.specs.declared.Found.{Found}
 use Rattle.model.specs.Base.{ascii, keep, count}
 use Rattle.model.specs.Json.{Named}
-use Rattle.model.specs.Nav.{treeAt, wellAt, firstOf, itemsFine}
+use Rattle.inner.specs.Positions.{treeAt, wellAt, firstOf, itemsFine}
 use Rattle.model.specs.Members.{membersIn}
 use Rattle.model.specs.Schema.{Column, Schema, columnsOf}
 use Rattle.model.specs.Value.{Value, initial}
 use Rattle.model.specs.Octets.{value}
 use Rattle.model.specs.Rows.{Row, add}
 use Rattle.model.specs.Faults.{isFine, earlier, worst, check, Judged}
-use Rattle.model.specs.Written.{Names, find}
+use Rattle.model.specs.Written.{Names, memberNamed}
 use Rattle.model.specs.Conditions.{Test, matches}
 use Rattle.model.specs.Mutations.{Mutation}
 use Rattle.model.specs.Answers.{countText, insertText}
 use Rattle.model.specs.SchemaText.{only}
 use Rattle.model.specs.Operations as Model
-use Rattle.model.specs.Packed.{columnFrom}
+use Rattle.inner.specs.Packed.{columnFrom}
 use Rattle.model.specs.Areas.{rowFrom}
-use Rattle.model.specs.Working.{working, Tidy}
+use Rattle.inner.specs.Working.{working, Tidy}
 use Rattle.model.proofs.Tests.{clash}
 use Rattle.model.proofs.FaultLaws.{fine-is, earlier-fine, check-true}
 use Rattle.fields.specs.Fields.{Slots}
@@ -114,7 +114,7 @@ module _ (text : List ℕ) (ops : Found) (fresh : List ℕ) (columns : List (Lis
     pub fine : isFine (testsAt text ops fresh columns g .fault) ≡ true
     pub tests : Model.readWhere names cs ms ≡ testsAt text ops fresh columns g
 
-  pub where-got : find (ascii "where") ms ≡ slotted text p → SlotFine text p → {w : Fault} → w ≡ whereAt text ops fresh columns p .fault → isFine w ≡ true → {g : Found} → g ≡ firstOf text 91 93 p → Where g
+  pub where-got : memberNamed (ascii "where") ms ≡ slotted text p → SlotFine text p → {w : Fault} → w ≡ whereAt text ops fresh columns p .fault → isFine w ≡ true → {g : Found} → g ≡ firstOf text 91 93 p → Where g
   where-got there fine {w} ew y {g} eg =
       let z : isFine (whereAt text ops fresh columns p .fault) ≡ true = ap isFine (sym ew) ∙ y in
       let l = where-fine text ops fresh columns p fine z in
@@ -142,7 +142,7 @@ module _ (text : List ℕ) (ops : Found) (fresh : List ℕ) (columns : List (Lis
   abbrev del-p : ℕ
   del-p = getD slots 2 0
 
-  del-there : find (ascii "where") del-ms ≡ slotted text del-p
+  del-there : memberNamed (ascii "where") del-ms ≡ slotted text del-p
   del-there = slot-find k 2 (omega arith)
 
   pub delete-slot : SlotFine text del-p
@@ -189,7 +189,7 @@ module _ (text : List ℕ) (ops : Found) (fresh : List ℕ) (columns : List (Lis
   abbrev up-q : ℕ
   up-q = getD slots 3 0
 
-  up-there : find (ascii "where") up-ms ≡ slotted text up-p
+  up-there : memberNamed (ascii "where") up-ms ≡ slotted text up-p
   up-there = slot-find k 2 (omega arith)
 
   pub update-slot : SlotFine text up-p
@@ -255,7 +255,7 @@ module _ (text : List ℕ) (ops : Found) (fresh : List ℕ) (columns : List (Lis
   abbrev mu-q : ℕ
   mu-q = getD slots 3 0
 
-  mu-there : find (ascii "where") mu-ms ≡ slotted text mu-p
+  mu-there : memberNamed (ascii "where") mu-ms ≡ slotted text mu-p
   mu-there = slot-find k 2 (omega arith)
 
   pub mutate-slot : SlotFine text mu-p

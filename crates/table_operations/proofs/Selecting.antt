@@ -11,15 +11,15 @@ use Rattle.model.specs.declared.Fault.the-variants.{Fine, Syntax}
 use Rattle.model.specs.declared.Found.{Found}
 use Rattle.model.specs.Base.{ascii}
 use Rattle.model.specs.Json.{Named}
-use Rattle.model.specs.Nav.{treeAt, firstOf, itemsFine}
+use Rattle.inner.specs.Positions.{treeAt, firstOf, itemsFine}
 use Rattle.model.specs.Members.{membersIn}
 use Rattle.model.specs.Schema.{Column, Schema, columnsOf}
 use Rattle.model.specs.Rows.{Row}
 use Rattle.model.specs.Faults.{isFine, earlier, worst, check}
-use Rattle.model.specs.Written.{Names, find}
+use Rattle.model.specs.Written.{Names, memberNamed}
 use Rattle.model.specs.Operations as Model
-use Rattle.model.specs.Packed.{columnFrom, tablesIn}
-use Rattle.model.specs.Working.{working}
+use Rattle.inner.specs.Packed.{columnFrom, packedTables}
+use Rattle.inner.specs.Working.{working}
 use Rattle.model.proofs.Tests.{split}
 use Rattle.model.proofs.FaultLaws.{earlier-fine}
 use Rattle.fields.specs.Fields.{Slots}
@@ -53,7 +53,7 @@ module _ (text : List ℕ) (ops : Found) (fresh : List ℕ) (schema columns : Li
   q = getD slots 3 0
 
   abbrev s : Schema
-  s = tablesIn schema
+  s = packedTables schema
 
   abbrev cs : List Column
   cs = columnsOf s table
@@ -64,10 +64,10 @@ module _ (text : List ℕ) (ops : Found) (fresh : List ℕ) (schema columns : Li
   same : cs ≡ map columnFrom columns
   same = columns-in schema table (at-table .here) ∙ ap (map columnFrom) (sym (at-table .cells))
 
-  there : find (ascii "where") ms ≡ slotted text p
+  there : memberNamed (ascii "where") ms ≡ slotted text p
   there = slot-find k 2 (omega arith)
 
-  shown : find (ascii "columns") ms ≡ slotted text q
+  shown : memberNamed (ascii "columns") ms ≡ slotted text q
   shown = slot-find k 3 (omega arith)
 
   pub select-slot : SlotFine text p

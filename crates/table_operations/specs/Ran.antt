@@ -9,13 +9,13 @@ use Rattle.model.specs.declared.Fault.{Fault}
 use Rattle.model.specs.declared.Fault.the-variants.{Fine, Syntax, Resources}
 use Rattle.model.specs.declared.Found.{Found}
 use Rattle.model.specs.Limits.{mostRows}
-use Rattle.model.specs.Nav.{wellAt, treeAt}
+use Rattle.inner.specs.Positions.{wellAt, treeAt}
 use Rattle.model.specs.Members.{membersIn}
 use Rattle.model.specs.Schema.{Column, Schema}
 use Rattle.model.specs.Rows.{Row}
 use Rattle.model.specs.Faults.{isFine, check}
 use Rattle.model.specs.Operations as Model
-use Rattle.model.specs.Working.{working, Tidy}
+use Rattle.inner.specs.Working.{working, Tidy}
 use Rattle.area.specs.Layout.{columnCells, Sized}
 use Rattle.references.specs.Links.{Accepted}
 use Rattle.answer.specs.Put.{Put}

@@ -6,8 +6,8 @@ ghost use mathlib.Core.List.{List, map};
 ghost use Prim.Native.Nat.{ℕ, _<_};
 ghost use lib.ListN.{length};
 ghost use Rattle.model.specs.Schema.{Schema, columnsOf};
-ghost use Rattle.model.specs.Packed.{columnFrom, tablesIn};
-ghost use Rattle.model.specs.Working.{working};
+ghost use Rattle.inner.specs.Packed.{columnFrom, packedTables};
+ghost use Rattle.inner.specs.Working.{working};
 ghost use Rattle.fresh.specs.Fresh.{freshAt, FreshId};
 ghost use Rattle.clauses.specs.Clauses.{Earlier};
 ghost use Rattle.table_operations.specs.Ran.{Ready, Chosen, Ran, listedFault, roomFault, inserting, selecting, updating, mutating, deleting};
@@ -251,7 +251,7 @@ pub fn run_select(
 ) -> Done
     requires { ⌜ Ready (now text) (now ends) ops (now fresh) (now columns) op n (now rows) at ⌝ }
     requires { ⌜ Chosen (now schema) (now columns) table ⌝ }
-    ensures { λ r. ⌜ Ran (tablesIn (now (schema .entry))) (selecting (now (text .entry)) ops (now (fresh .entry)) op (working (tablesIn (now (schema .entry))) n (now (rows .entry))) table (columnsOf (tablesIn (now (schema .entry))) table)) n (now (rows .entry)) (now (rows .entry)) at (now (out .entry)) (now (out .exit)) r ⌝ }
+    ensures { λ r. ⌜ Ran (packedTables (now (schema .entry))) (selecting (now (text .entry)) ops (now (fresh .entry)) op (working (packedTables (now (schema .entry))) n (now (rows .entry))) table (columnsOf (packedTables (now (schema .entry))) table)) n (now (rows .entry)) (now (rows .entry)) at (now (out .entry)) (now (out .exit)) r ⌝ }
 {
     let slots = fields::fields(text, ends, op, b"\x02op\x05table\x05where\x07columns");
     let p = slots[2];

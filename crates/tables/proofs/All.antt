@@ -11,12 +11,13 @@ use lib.ListN.{length, getD, set, take, drop, replicate, length-append, length-r
 use lib.Seq.{length-take-le, take-suc, take-suc-set, getD-take, getD-append-add}
 use Rattle.model.specs.Base.{all}
 use Rattle.model.specs.Json.{Json, Named, memberAt, valueAt}
-use Rattle.model.specs.Nav.{treeAt, isEnd, kindOf, isObject}
+use Rattle.inner.specs.Positions.{treeAt}
+use Rattle.model.specs.Nav.{isRead, kindOf, isObject}
 use Rattle.model.specs.Members.{membersIn, counting}
-use Rattle.model.specs.Text.{stringIn}
+use Rattle.inner.specs.Positions.{wordIn}
 use Rattle.model.specs.Value.{textOf}
 use Rattle.model.specs.Schema.{Table}
-use Rattle.model.specs.Packed.{cellName, tablesFrom}
+use Rattle.inner.specs.Packed.{cellName, tablesFrom}
 use Rattle.model.specs.SchemaText.{names, isId, tableFits, tableOf, tablesFit}
 use Rattle.model.proofs.Tests.{split, clash, and-l, and-r}
 use Rattle.model.proofs.SchemaLaws.{counting-all}
@@ -48,7 +49,7 @@ module _ (s : List ℕ) (p : ℕ) where
   pub head-only : NameOnly (headAt s p)
   unfolding headAt nameCell
   head-only =
-      let c = short-cell (stringIn (treeAt s p)) in
+      let c = short-cell (wordIn (treeAt s p)) in
       let l = length-append (nameCell (treeAt s p)) (replicate 23 0) in
       record {
         size = omega (arith, l, c .0);
@@ -58,17 +59,17 @@ module _ (s : List ℕ) (p : ℕ) where
             ∙ getD-append-add (nameCell (treeAt s p)) (replicate 23 0) 11 0;
       }
 
-  pub head-name : isEnd (memberAt (valueAt 12 s) s p .read) ≡ true → isId (memberOf s p .name) ≡ true → cellName (headAt s p) ≡ memberOf s p .name
-  unfolding headAt nameCell stringIn
+  pub head-name : isRead (memberAt (valueAt 12 s) s p .read) ≡ true → isId (memberOf s p .name) ≡ true → cellName (headAt s p) ≡ memberOf s p .name
+  unfolding headAt nameCell wordIn
   head-name w h =
-      let c = short-cell (stringIn (treeAt s p)) in
+      let c = short-cell (wordIn (treeAt s p)) in
       let t : nameCell (treeAt s p) ≡ shortCell (memberOf s p .name) = ap nameCell (name-at s p w) in
       name-front (nameCell (treeAt s p)) (replicate 23 0) [] (c .0) (c .1)
       ∙ ap cellName (append-nil (nameCell (treeAt s p)))
       ∙ ap textOf t
       ∙ cell-name (memberOf s p .name) h
 
-heads-named : (s ps : List ℕ) → ((i : ℕ) → i < length ps → isEnd (memberAt (valueAt 12 s) s (getD ps i 0) .read) ≡ true) → all isId (map (λ (p : ℕ). memberOf s p .name) ps) ≡ true → map cellName (map (headAt s) ps) ≡ map (λ (p : ℕ). memberOf s p .name) ps
+heads-named : (s ps : List ℕ) → ((i : ℕ) → i < length ps → isRead (memberAt (valueAt 12 s) s (getD ps i 0) .read) ≡ true) → all isId (map (λ (p : ℕ). memberOf s p .name) ps) ≡ true → map cellName (map (headAt s) ps) ≡ map (λ (p : ℕ). memberOf s p .name) ps
 heads-named s [] w h = refl
 heads-named s (p ∷ ps) w h =
     let x = head-name s p (w 0 (omega arith)) (and-l (isId (memberOf s p .name)) _ h) in
@@ -148,7 +149,7 @@ module _ (s : List ℕ) (j : Json) (before : List (List ℕ)) where
       place-size : length (take n places) ≡ n
       place-size = length-take-le n places room
 
-      well : (i : ℕ) → i < n → isEnd (memberAt (valueAt 12 s) s (getD places i 0) .read) ≡ true
+      well : (i : ℕ) → i < n → isRead (memberAt (valueAt 12 s) s (getD places i 0) .read) ≡ true
       well = k .well few
 
       named : map cellName (take n cells) ≡ map (λ (p : ℕ). memberOf s p .name) (take n places)

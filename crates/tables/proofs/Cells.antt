@@ -9,7 +9,7 @@ use lib.Dec.{eqb}
 use lib.ListN.{length, getD, take, drop, replicate, length-append, take-append-drop}
 use lib.Seq.{length-take-le, take-append-le, getD-append-add, drop-append-add, getD-take, getD-drop, take-at}
 use Rattle.model.specs.Octets.{big, value, part}
-use Rattle.model.specs.Packed.{cellName, isSet, maxRowsFrom}
+use Rattle.inner.specs.Packed.{cellName, isSet, maxRowsFrom}
 use Rattle.model.proofs.Octets.{length-big, value-big-fits}
 use Rattle.model.proofs.Tests.{split}
 use Rattle.columns.specs.Columns.{bit}

@@ -11,9 +11,10 @@ use lib.Seq.{length-take-le, drop-cons, getD-set-same, getD-set-other, getD-take
 use Rattle.model.specs.Base.{all}
 use Rattle.model.specs.Scan.{endOr}
 use Rattle.model.specs.Json.{Json, Named, keyAt, memberAt, valueAt}
-use Rattle.model.specs.Nav.{treeAt, wellAt, isEnd}
+use Rattle.inner.specs.Positions.{treeAt, wellAt}
+use Rattle.model.specs.Nav.{isRead}
 use Rattle.model.specs.Schema.{Table}
-use Rattle.model.specs.Packed.{cellName, tableFrom, tablesFrom}
+use Rattle.inner.specs.Packed.{cellName, tableFrom, tablesFrom}
 use Rattle.model.specs.SchemaText.{tableFits, tableOf}
 use Rattle.model.proofs.Tests.{split, clash}
 use Rattle.nav.proofs.Rest.{member-is, member-well}

@@ -11,11 +11,12 @@ use lib.ListN.{length, getD, take, drop}
 use Rattle.model.specs.declared.Whole.{Whole}
 use Rattle.model.specs.Base.{all, ascii}
 use Rattle.model.specs.Json.{Json, null, Named}
-use Rattle.model.specs.Nav.{treeAt, wellAt, kindOf, isObject, isTruth, itemsIn}
-use Rattle.model.specs.Members.{membersIn, has, valueOf, counting}
+use Rattle.inner.specs.Positions.{treeAt, wellAt}
+use Rattle.model.specs.Nav.{kindOf, isObject, isTruth, itemsIn}
+use Rattle.model.specs.Members.{membersIn, hasMember, memberValue, counting}
 use Rattle.model.specs.Whole.{wholeOf}
 use Rattle.model.specs.Schema.{Column}
-use Rattle.model.specs.Packed.{cellName, columnFrom, indexFrom, indexesFrom, maxRowsFrom}
+use Rattle.inner.specs.Packed.{cellName, columnFrom, indexFrom, indexesFrom, maxRowsFrom}
 use Rattle.model.specs.SchemaText.{only, must, may, isBool, isWithin, sizeOr, truthOr, names, isId, columnsFit, columnOf, indexOf, indexesFit, tableFits, tableOf, tableColumns, maxRowsOf}
 use Rattle.model.proofs.Tests.{split, clash, and-l, and-r, or-l}
 use Rattle.model.proofs.SchemaLaws.{within-size}
@@ -165,9 +166,9 @@ module _ (s : List ℕ) (tables : List (List ℕ)) (j : Json) (f : List ℕ) (k 
     module _ (name : List ℕ) (only : NameOnly name) (root limited : Bool) (most : ℕ) (er : root ≡ truthOr false (slotTree s (getD f 2 0))) (el : limited ≡ not (eqb (getD f 1 0) 0)) (em : most ≡ sizeOr 0 (wholeOf (slotTree s (getD f 1 0))))
         {a b : Bool} {cell : List ℕ} (ea : a ≡ restTold s f (wholeOf (slotTree s (getD f 1 0))))
         (ix : IndexesIn s (getD f 3 0) (membersIn (treeAt s (getD f 0 0))) (map cellName (take n after)) b ((take 25 name ++ headBytes n root limited most) ++ drop 36 name) cell) where
-      indexes-told : may (ascii "indexes") (indexesFit (membersIn (valueOf (ascii "columns") ms))) ms ≡ (eqb (slot 3) 0 || indexesFit (membersIn (treeAt s (slot 0))) (slotTree s (slot 3)))
+      indexes-told : may (ascii "indexes") (indexesFit (membersIn (memberValue (ascii "columns") ms))) ms ≡ (eqb (slot 3) 0 || indexesFit (membersIn (treeAt s (slot 0))) (slotTree s (slot 3)))
       indexes-told =
-          may-slot k 3 (omega arith) (indexesFit (membersIn (valueOf (ascii "columns") ms)))
+          may-slot k 3 (omega arith) (indexesFit (membersIn (memberValue (ascii "columns") ms)))
           ∙ ap (λ (x : Json). eqb (slot 3) 0 || indexesFit (membersIn x) (slotTree s (slot 3))) (k .value 0 (omega arith) ∙ tree-is)
 
       fits-is : (a && b) ≡ tableFits tables j
@@ -200,11 +201,11 @@ module _ (s : List ℕ) (tables : List (List ℕ)) (j : Json) (f : List ℕ) (k 
       rows-are : a ≡ true → maxRowsFrom cell ≡ maxRowsOf ms
       rows-are h =
           after-rows name only n root limited most cell (ix .front) (small h)
-          ∙ (let l : limited ≡ has (ascii "maxRows") ms = el ∙ sym (k .here 1 (omega arith)) in
-          let m : most ≡ sizeOr 0 (wholeOf (valueOf (ascii "maxRows") ms)) = em ∙ ap (λ (x : Json). sizeOr 0 (wholeOf x)) (sym (k .value 1 (omega arith))) in
+          ∙ (let l : limited ≡ hasMember (ascii "maxRows") ms = el ∙ sym (k .here 1 (omega arith)) in
+          let m : most ≡ sizeOr 0 (wholeOf (memberValue (ascii "maxRows") ms)) = em ∙ ap (λ (x : Json). sizeOr 0 (wholeOf x)) (sym (k .value 1 (omega arith))) in
           (λ i. elim (l i) [ true ↦ some (m i) | false ↦ none ]))
 
-      indexes-are : b ≡ true → indexesFrom cell ≡ map (indexOf (names (tableColumns ms))) (itemsIn (valueOf (ascii "indexes") ms))
+      indexes-are : b ≡ true → indexesFrom cell ≡ map (indexOf (names (tableColumns ms))) (itemsIn (memberValue (ascii "indexes") ms))
       indexes-are h =
           ix .holds h (before-index name only n root limited most)
           ∙ (λ i. map (indexOf (names-are i)) (itemsIn (sym (k .value 3 (omega arith)) i)))

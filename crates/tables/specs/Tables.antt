@@ -9,10 +9,11 @@ use Rattle.model.specs.declared.Whole.{Whole}
 use Rattle.model.specs.Octets.{big}
 use Rattle.model.specs.Base.{all, every}
 use Rattle.model.specs.Json.{Json, Named, memberAt, valueAt}
-use Rattle.model.specs.Nav.{treeAt, kindOf, isTruth, isEnd, itemsIn}
+use Rattle.inner.specs.Positions.{treeAt}
+use Rattle.model.specs.Nav.{kindOf, isTruth, isRead, itemsIn}
 use Rattle.model.specs.Members.{membersIn, counting}
 use Rattle.model.specs.Schema.{Table}
-use Rattle.model.specs.Packed.{cellName, columnFrom, isSet, maxRowsFrom, indexesFrom, tablesFrom}
+use Rattle.inner.specs.Packed.{cellName, columnFrom, isSet, maxRowsFrom, indexesFrom, tablesFrom}
 use Rattle.model.specs.SchemaText.{names, isId, isWithin, indexOf, indexesFit, tableFits, tableOf, tablesFit}
 use Rattle.names.specs.Names.{nameCell}
 use Rattle.fields.specs.Fields.{slotTree}
@@ -70,7 +71,7 @@ pub record Heads (s places : List ℕ) (heads : List (List ℕ)) : Type 0 where
   pub only : (i : ℕ) → i < length heads → NameOnly (getD heads i [])
   pub named : map cellName heads ≡ map (λ (p : ℕ). memberOf s p .name) (take (length heads) places)
   pub ids : all isId (map cellName heads) ≡ true
-  pub well : (i : ℕ) → i < length heads → isEnd (memberAt (valueAt 12 s) s (getD places i 0) .read) ≡ true
+  pub well : (i : ℕ) → i < length heads → isRead (memberAt (valueAt 12 s) s (getD places i 0) .read) ≡ true
 
 -- no table has more than six columns
 unfoldable pub FewColumns : List (List ℕ) → Type 0

@@ -8,9 +8,10 @@ use Rattle.model.specs.declared.Found.the-variants.{At, Nothing}
 use Rattle.model.specs.Octets.{eqBytes}
 use Rattle.model.specs.Scan.{endOr}
 use Rattle.model.specs.Json.{Json, null, Named, keyAt, memberAt, valueAt}
-use Rattle.model.specs.Nav.{wellAt, treeAt, firstOf, nextMember, membersFrom, membersFine}
+use Rattle.inner.specs.Positions.{wellAt, treeAt, firstOf, nextMember, membersFrom, membersFine}
 use Rattle.model.specs.Text.{isWord}
-use Rattle.model.specs.Members.{membersIn, has, namedOr, valueOr, valueOf, Means}
+use Rattle.model.specs.Members.{membersIn, hasMember, namedOr, valueOr, memberValue}
+use Rattle.inner.specs.Positions.{Means}
 use Rattle.nav.proofs.Walk.{members-in, pass-end, pass-rest, pass-fine, pass-name, pass-value}
 use Rattle.text.specs.Match.{orLast}
 
@@ -45,25 +46,25 @@ named-no w d m h = rw (namedOr, h)
 
 -- what the walk knows at the place g, where `last` was found before it
 pub record Sofar (s w : List ℕ) (all : List Named) (last g : Found) : Type 0 where
-  pub is : has w all ≡ (seen last || has w (membersFrom s g))
-  pub value : valueOf w all ≡ valueOr w (treeOr s last) (membersFrom s g)
+  pub is : hasMember w all ≡ (seen last || hasMember w (membersFrom s g))
+  pub value : memberValue w all ≡ valueOr w (treeOr s last) (membersFrom s g)
   pub well : WellOr s last
   pub fine : membersFine s g ≡ true
 
 module _ (s w : List ℕ) where
   pub sofar-start : (at : ℕ) → wellAt s at ≡ true → {g : Found} → g ≡ firstOf s 123 125 at → Sofar s w (membersIn (treeAt s at)) Nothing g
-  unfolding seen treeOr WellOr valueOf
+  unfolding seen treeOr WellOr memberValue
   sofar-start at h {g} e =
       let q = members-in s at h in
       let z : membersIn (treeAt s at) ≡ membersFrom s g = q .0 ∙ ap (membersFrom s) (sym e) in
-      record { is = ap (has w) z; value = ap (valueOr w null) z; well = tt; fine = rw e (q .1) }
+      record { is = ap (hasMember w) z; value = ap (valueOr w null) z; well = tt; fine = rw e (q .1) }
 
   module _ {all : List Named} {last g : Found} (so : Sofar s w all last g) where
-    pub sofar-end : g ≡ Nothing → Means s last (has w all) (valueOf w all)
-    unfolding Means seen treeOr WellOr has valueOr
-    sofar-end e = go last (so .is ∙ ap (λ l. seen last || has w l) (pass-end s e) ∙ or-false (seen last)) (so .value ∙ ap (valueOr w (treeOr s last)) (pass-end s e)) (so .well)
+    pub sofar-end : g ≡ Nothing → Means s last (hasMember w all) (memberValue w all)
+    unfolding Means seen treeOr WellOr hasMember valueOr
+    sofar-end e = go last (so .is ∙ ap (λ l. seen last || hasMember w l) (pass-end s e) ∙ or-false (seen last)) (so .value ∙ ap (valueOr w (treeOr s last)) (pass-end s e)) (so .well)
       where
-        go : (f : Found) → has w all ≡ seen f → valueOf w all ≡ treeOr s f → WellOr s f → Means s f (has w all) (valueOf w all)
+        go : (f : Found) → hasMember w all ≡ seen f → memberValue w all ≡ treeOr s f → WellOr s f → Means s f (hasMember w all) (memberValue w all)
         go (At p) a b c = (a, b, c)
         go Nothing a b c = a
 
@@ -73,20 +74,20 @@ module _ (s w : List ℕ) where
       named = rw (pass-name s h (so .fine))
 
       pub sofar-on : {b : Bool} {v : ℕ} {l n : Found} → b ≡ isWord w (treeAt s p) → v ≡ endOr p (keyAt s p .read) → l ≡ orLast b v last → n ≡ nextMember s p → Sofar s w all l n
-      unfolding seen treeOr WellOr has valueOr orLast
+      unfolding seen treeOr WellOr hasMember valueOr orLast
       sofar-on {b} {v} {l} {n} eb ev el en = go b (sym (eb ∙ named)) el
         where
           go : (d : Bool) → eqBytes (memberAt (valueAt 12 s) s p .tree .name) w ≡ d → l ≡ orLast d v last → Sofar s w all l n
           go true q e =
               rw (e, en) (record {
-                is = so .is ∙ ap (λ x. seen last || has w x) (pass-rest s h) ∙ rw (has, q) (or-true (seen last));
+                is = so .is ∙ ap (λ x. seen last || hasMember w x) (pass-rest s h) ∙ rw (hasMember, q) (or-true (seen last));
                 value = so .value ∙ ap (valueOr w (treeOr s last)) (pass-rest s h) ∙ ap (λ x. valueOr w x (membersFrom s (nextMember s p))) (named-yes w (treeOr s last) _ q ∙ pass-value s h (so .fine) .0 ∙ ap (treeAt s) (sym ev));
                 well = rw ev (pass-value s h (so .fine) .1);
                 fine = pass-fine s h (so .fine);
               })
           go false q e =
               rw (e, en) (record {
-                is = so .is ∙ ap (λ x. seen last || has w x) (pass-rest s h) ∙ rw (has, q);
+                is = so .is ∙ ap (λ x. seen last || hasMember w x) (pass-rest s h) ∙ rw (hasMember, q);
                 value = so .value ∙ ap (valueOr w (treeOr s last)) (pass-rest s h) ∙ ap (λ x. valueOr w x (membersFrom s (nextMember s p))) (named-no w (treeOr s last) _ q);
                 well = so .well;
                 fine = pass-fine s h (so .fine);

@@ -1,5 +1,6 @@
 -- What the proofs of several functions use.
 pub mod Pushing
+pub mod Units
 pub mod Matching
 pub mod Sizes
 pub mod Words

@@ -17,7 +17,8 @@ use Rattle.model.specs.declared.Found.the-variants.{At, Nothing}
 use Rattle.model.specs.Octets.{eqBytes}
 use Rattle.model.specs.Scan.{byte, between}
 use Rattle.model.specs.Strings.{charBy}
-use Rattle.model.specs.Text.{begins, chars, quoteEnd, quoteFrom}
+use Rattle.model.specs.Text.{begins, chars}
+use Rattle.inner.specs.Positions.{quoteEnd, quoteFrom}
 use Rattle.nav.proofs.FirstByte.{split}
 use Rattle.text.specs.Match.{matched}
 

@@ -13,13 +13,11 @@ use Rattle.model.specs.declared.Read.{Read}
 use Rattle.model.specs.declared.Read.the-variants.{End, Stop, Deep}
 use Rattle.model.specs.declared.Next.{Next}
 use Rattle.model.specs.declared.Next.the-variants.{More, Done}
-use Rattle.model.specs.declared.Half.{Half}
-use Rattle.model.specs.declared.Half.the-variants.{Whole, High, Refused}
 use Rattle.model.specs.declared.Found.{Found}
 use Rattle.model.specs.declared.Found.the-variants.{At, Nothing}
 use Rattle.model.specs.Scan.{byte, between, run}
-use Rattle.model.specs.Strings.{shortOf, hexAt, halfOf, unitBy, escapeBy, charBy, utf8, pairOf, unitOr, unitEnd, lowAt, unitBytes, charBytes, charAdds, charTurn, bodyAt}
-use Rattle.model.specs.Text.{quoteEnd, quoteFrom}
+use Rattle.model.specs.Strings.{shortOf, utf8, escapedAt, going, escapeBy, charBy, charBytes, charAdds, charTurn, bodyAt}
+use Rattle.inner.specs.Positions.{quoteEnd, quoteFrom}
 use Rattle.scan.proofs.Past.{by-test, Past, PastNext, char-past, unit-far}
 use Rattle.nav.proofs.FirstByte.{split}
 
@@ -32,21 +30,12 @@ unfolding utf8 Small
 utf8-small v =
     by-test Small (ltb v 128) (λ t. omega arith) (λ t. by-test Small (ltb v 2048) (λ t. omega arith) (λ t. by-test Small (ltb v 65536) (λ t. omega arith) (λ t. omega arith)))
 
-unit-small : (v w : ℕ) → Small (unitBytes v w)
-unfolding unitBytes Small
-unit-small v w = go (halfOf v) refl
-  where
-    go : (k : Half) → halfOf v ≡ k → Small (unitBytes v w)
-    go Whole h = rw (unitBytes, h) (utf8-small v)
-    go High h = rw (unitBytes, h) (utf8-small (pairOf v w))
-    go Refused h = rw (unitBytes, h) (omega arith)
-
 module _ (s : List ℕ) where
   pub escape-small : (at e b : ℕ) → b ≡ 92 → length (charBytes s at e b) ≤ 4
   unfolding charBytes Small
   escape-small at e b h =
       rw (charBytes, eq-eqb b 92 h)
-      (by-test Small (eqb (byte s (at + 1)) 117) (λ t. let x = hexAt s (at + 2) in unit-small (unitOr x) (unitOr (lowAt s (unitEnd x)))) (λ t. omega arith))
+      (by-test Small (eqb (byte s (at + 1)) 117) (λ t. utf8-small (escapedAt s (at + 2) .tree)) (λ t. omega arith))
 
   between-size : (a e : ℕ) → length (between s a e) ≤ e - a
   between-size a e = omega (arith, length-take (e - a) (drop a s))
@@ -65,7 +54,7 @@ module _ (s : List ℕ) where
           let c = byte s (at + 1) in
           let g : escapeBy s (at + 1) c ≡ More e = sym (ap (charBy s at) b) ∙ h in
           split (eqb c 117)
-          (λ u. let f : unitBy s (hexAt s (at + 1 + 1)) ≡ More e = sym (ap (escapeBy s (at + 1)) (eqb-true c 117 u)) ∙ g in
+          (λ u. let f : going (escapedAt s (at + 1 + 1) .read) ≡ More e = sym (ap (escapeBy s (at + 1)) (eqb-true c 117 u)) ∙ g in
           omega (arith, unit-far s (at + 1 + 1) e f, escape-small at e (byte s at) b))
           (λ u. split (eqb (shortOf c) 0)
           (λ z. absurd (let f : Done (Stop (at + 1)) ≡ More e = rw (escapeBy, z, u) at g in let y : _≡_ {A = ℕ} 0 1 = cc in omega arith))

@@ -14,8 +14,10 @@ use Rattle.model.specs.Octets.{eqBytes}
 use Rattle.model.specs.Scan.{byte, spacesAt, andThen, withinAt}
 use Rattle.model.specs.Strings.{bodyAt, stringAt}
 use Rattle.model.specs.Json.{Json, null, bool, num, str, arr, obj}
-use Rattle.model.specs.Nav.{treeAt, kindOf, isText}
-use Rattle.model.specs.Text.{stringIn, isWord, quoteFrom, isNothing, escaped}
+use Rattle.inner.specs.Positions.{treeAt}
+use Rattle.model.specs.Nav.{kindOf, isText}
+use Rattle.inner.specs.Positions.{wordIn, quoteFrom, isNothing, escaped}
+use Rattle.model.specs.Text.{isWord}
 use Rattle.scan.proofs.Bytes.{inside-byte}
 use Rattle.nav.proofs.FirstByte.{text-is}
 use Rattle.text.specs.declared.Written.{Written}
@@ -56,8 +58,8 @@ text-tree s at h =
     let z : withinAt s 34 34 (End i) ≡ End (i + 1) = rw (withinAt, q .0, q .0) in
     (inside-byte s i 34 (q .0) (lit< tt), q .1 ∙ rw (stringAt, z))
 
-no-string : (j : Json) → isText (kindOf j) ≡ false → stringIn j ≡ []
-unfolding isText kindOf stringIn
+no-string : (j : Json) → isText (kindOf j) ≡ false → wordIn j ≡ []
+unfolding isText kindOf wordIn
 no-string null h = refl
 no-string (bool b) h = refl
 no-string (num t) h = refl
@@ -67,13 +69,13 @@ no-string (obj ms) h = refl
 
 -- where a string is held
 module _ (s : List ℕ) (at : ℕ) where
-  pub none-held : (scratch : List ℕ) → isText (kindOf (treeAt s at)) ≡ false → Held s scratch false 0 0 (escaped s at) (stringIn (treeAt s at))
+  pub none-held : (scratch : List ℕ) → isText (kindOf (treeAt s at)) ≡ false → Held s scratch false 0 0 (escaped s at) (wordIn (treeAt s at))
   unfolding escaped
   none-held scratch t = record { place = rw (escaped, t); fits = omega arith; bytes = sym (no-string (treeAt s at) t) }
 
   module _ (t : isText (kindOf (treeAt s at)) ≡ true) {i : ℕ} (q : i ≡ spacesAt s at) where
-    string-is : stringIn (treeAt s at) ≡ bodyAt s (i + 1) .tree
-    unfolding stringIn
+    string-is : wordIn (treeAt s at) ≡ bodyAt s (i + 1) .tree
+    unfolding wordIn
     string-is = rw (text-tree s at t .1, q)
 
     escaped-is : escaped s at ≡ isNothing (quoteFrom s (length s) (i + 1))
@@ -83,14 +85,14 @@ module _ (s : List ℕ) (at : ℕ) where
     pub plain-from : {e : ℕ} → quoteFrom s (length s) (i + 1) ≡ At e → i + 1 ≤ e
     plain-from {e} h = quote-is s (length s) (i + 1) e h .1
 
-    pub plain-held : (scratch : List ℕ) {e : ℕ} → quoteFrom s (length s) (i + 1) ≡ At e → Held s scratch false (i + 1) (e - (i + 1)) (escaped s at) (stringIn (treeAt s at))
+    pub plain-held : (scratch : List ℕ) {e : ℕ} → quoteFrom s (length s) (i + 1) ≡ At e → Held s scratch false (i + 1) (e - (i + 1)) (escaped s at) (wordIn (treeAt s at))
     unfolding isNothing
     plain-held scratch {e} h =
         let z = quote-is s (length s) (i + 1) e h in
         record { place = sym (escaped-is ∙ ap isNothing h); fits = omega (arith, z .1, z .2); bytes = sym (string-is ∙ z .0) }
 
     pub decoded-held : {scratch after : List ℕ} {r : Written} {n : ℕ} → quoteFrom s (length s) (i + 1) ≡ Nothing → length s ≤ length scratch
-        → Pushed scratch (To 0) (bodyAt s (i + 1) .tree) r after → n ≡ countOf r → Held s after true 0 n (escaped s at) (stringIn (treeAt s at))
+        → Pushed scratch (To 0) (bodyAt s (i + 1) .tree) r after → n ≡ countOf r → Held s after true 0 n (escaped s at) (wordIn (treeAt s at))
     unfolding isNothing
     decoded-held {scratch} {after} {r} {n} h l p e =
         let k = string-size s (length s) (i + 1) in

@@ -1,22 +1,24 @@
 // Strings of a text: decoded, looked up, compared, counted.
 use model::Found;
-use model::Half;
-use model::Hex;
 use model::Next;
 use model::Read;
+use scan::Hex;
 ghost use mathlib.Core.Path.{_≡_};
 ghost use mathlib.Core.List.{[], _∷_};
 ghost use mathlib.Core.Bool.{true, cond};
 ghost use Prim.Native.Nat.{_+_, _-_, _*_, _%_, _≤_, _<_};
 ghost use lib.ListN.{length, take, drop};
 ghost use Rattle.model.specs.Scan.{byte, between, endOr};
-ghost use Rattle.model.specs.Strings.{utf8, unitOr, unitEnd, pairOf, unitBytes, escapeBytes, charBytes, bodyAt};
+ghost use Rattle.model.specs.Strings.{isFirstHalf, utf8, pairOf, charBytes, bodyAt};
 ghost use Rattle.model.specs.Octets.{eqBytes};
 ghost use Rattle.model.specs.Json.{keyAt};
-ghost use Rattle.model.specs.Nav.{Says, treeAt, wellAt};
-ghost use Rattle.model.specs.Text.{stringIn, isWord, begins, chars, quoteEnd, quoteFrom, escaped};
-ghost use Rattle.model.specs.Members.{membersIn, has, valueOf, Means};
+ghost use Rattle.inner.specs.Positions.{Says, treeAt, wellAt};
+ghost use Rattle.inner.specs.Positions.{wordIn, quoteEnd, quoteFrom, escaped};
+ghost use Rattle.model.specs.Text.{isWord, begins, chars};
+ghost use Rattle.model.specs.Members.{membersIn, hasMember, memberValue};
+ghost use Rattle.inner.specs.Positions.{Means};
 ghost use Rattle.text.specs.Push.{Pushed, countOf};
+ghost use Rattle.text.specs.Units.{unitOr, unitEnd, characterOf, escapeBytes};
 ghost use Rattle.text.specs.Match.{matched, Held, orLast};
 ghost use Rattle.text.specs.declared.Written.the-variants.{To};
 
@@ -78,6 +80,7 @@ fn four(out: &mut [u8], w: Written, a: u8, b: u8, c: u8, d: u8) -> Written
 
 // A character in UTF-8.
 fn encode(v: u32, out: &mut [u8], w: Written) -> Written
+    requires { ⌜ v < 1114112 ⌝ }
     ensures { λ r. ⌜ Pushed (now (out .entry)) w (utf8 v) r (now (out .exit)) ⌝ }
 {
     if v < 128 {
@@ -98,7 +101,7 @@ fn encode(v: u32, out: &mut [u8], w: Written) -> Written
     four(
         out,
         w,
-        (240 + v / 262144 % 8) as u8,
+        (240 + v / 262144) as u8,
         (128 + v / 4096 % 64) as u8,
         (128 + v / 64 % 64) as u8,
         (128 + v % 64) as u8,
@@ -130,32 +133,48 @@ fn less(a: u32, b: u32) -> u32
     if a < b { 0 } else { a - b }
 }
 
-fn pair_of(v: u32, w: u32) -> u32
-    ensures { λ r. ⌜ r ≡ pairOf v w ⌝ }
+// Whether a unit is the first half of a surrogate pair.
+fn is_first_half(v: u32) -> bool
+    ensures { λ r. ⌜ r ≡ isFirstHalf v ⌝ }
 {
-    65536 + less(v, 55296) % 1024 * 1024 + less(w, 56320) % 1024
+    if v < 55296 {
+        return false;
+    }
+    v <= 56319
 }
 
-fn unit_bytes(v: u32, u: u32, out: &mut [u8], w: Written) -> Written
-    ensures { λ r. ⌜ Pushed (now (out .entry)) w (unitBytes v u) r (now (out .exit)) ⌝ }
+// The character that two halves stand for.
+fn pair_of(v: u32, w: u32) -> u32
+    requires { ⌜ v ≤ 56319 ⌝ }
+    requires { ⌜ w ≤ 57343 ⌝ }
+    ensures { λ r. ⌜ r ≡ pairOf v w ⌝ }
 {
-    let k = scan::half_of(v);
-    match k {
-        Half::Whole => encode(v, out, w),
-        Half::High => encode(pair_of(v, u), out, w),
-        Half::Refused => w,
+    65536 + less(v, 55296) * 1024 + less(w, 56320)
+}
+
+// The character that the unit v stands for, with the half u after it where it is a first half.
+fn unit_character(v: u32, u: u32) -> u32
+    requires { ⌜ u ≤ 57343 ⌝ }
+    ensures { λ r. ⌜ r ≡ characterOf v u ⌝ }
+{
+    let pair = is_first_half(v);
+    if pair {
+        return pair_of(v, u);
     }
+    v
 }
 
 // What a \u escape stands for, whose digits were read.
 fn escape_bytes(text: &[u8], h: Hex, out: &mut [u8], w: Written) -> Written
+    requires { ⌜ unitOr h < 65536 ⌝ }
     ensures { λ r. ⌜ Pushed (now (out .entry)) w (escapeBytes (now (text .entry)) h) r (now (out .exit)) ⌝ }
 {
     let v = unit_value(h);
     let e = unit_end(h);
     let g = scan::low_half(text, e);
     let u = unit_value(g);
-    unit_bytes(v, u, out, w)
+    let c = unit_character(v, u);
+    encode(c, out, w)
 }
 
 // The bytes of the character that begins at `at` and ends at e.
@@ -245,7 +264,7 @@ pub struct Part {
 // Where the string at `at` is: one without escapes in the text, one with escapes in the scratch area. A value that is no string is an empty part.
 pub fn string_at(text: &[u8], at: usize, scratch: &mut [u8]) -> Part
     requires { ⌜ length (now text) ≤ length (now scratch) ⌝ }
-    ensures { λ r. ⌜ Held (now (text .entry)) (now (scratch .exit)) (r .«in_scratch») (r .start) (r .len) (escaped (now (text .entry)) at) (stringIn (treeAt (now (text .entry)) at)) ⌝ }
+    ensures { λ r. ⌜ Held (now (text .entry)) (now (scratch .exit)) (r .«in_scratch») (r .start) (r .len) (escaped (now (text .entry)) at) (wordIn (treeAt (now (text .entry)) at)) ⌝ }
 {
     let k = nav::kind_at(text, at);
     let t = nav::is_text(k);
@@ -422,7 +441,7 @@ fn or_last(here: bool, p: usize, last: Found) -> Found
 pub fn find(text: &[u8], ends: &[u16], at: usize, word: &[u8]) -> Found
     requires { ⌜ Says (now text) (now ends) ⌝ }
     requires { ⌜ wellAt (now text) at ≡ true ⌝ }
-    ensures { λ r. ⌜ Means (now (text .entry)) r (has (now (word .entry)) (membersIn (treeAt (now (text .entry)) at))) (valueOf (now (word .entry)) (membersIn (treeAt (now (text .entry)) at))) ⌝ }
+    ensures { λ r. ⌜ Means (now (text .entry)) r (hasMember (now (word .entry)) (membersIn (treeAt (now (text .entry)) at))) (memberValue (now (word .entry)) (membersIn (treeAt (now (text .entry)) at))) ⌝ }
 {
     let mut last = Found::Nothing;
     let mut g = nav::first(text, at, 123, 125);

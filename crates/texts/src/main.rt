@@ -8,7 +8,7 @@ ghost use mathlib.Core.Bool.{true};
 ghost use Prim.Native.Nat.{_≤_, _<_};
 ghost use lib.ListN.{length};
 ghost use Rattle.model.specs.Json.{textAt};
-ghost use Rattle.model.specs.Nav.{Says, wellAt};
+ghost use Rattle.inner.specs.Positions.{Says, wellAt};
 
 fn put(s: &[u8]) {
     io::write_all(1, s);

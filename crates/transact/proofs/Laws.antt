@@ -14,11 +14,11 @@ use Rattle.model.specs.Base.{if_then_else_}
 use Rattle.model.specs.Schema.{Schema}
 use Rattle.model.specs.Rows.{Row}
 use Rattle.model.specs.Records.{diff}
-use Rattle.model.specs.Order.{Sorted}
+use Rattle.model.proofs.Order.{Sorted}
 use Rattle.model.specs.Refusals.{isRefusal}
 use Rattle.model.specs.Replies.{Reply}
-use Rattle.model.specs.Packed.{tablesIn, databaseFrom}
-use Rattle.model.specs.Working.{working}
+use Rattle.inner.specs.Packed.{packedTables, databaseFrom}
+use Rattle.inner.specs.Working.{working}
 use Rattle.model.specs.Areas.{Store, textFrom, encodeStore, storeOf}
 use Rattle.model.specs.Calls.{lengthsGood, Transacted, transactRefused, storeAfter, recordsAfter, transactReplied, transactOn, storeTransact}
 use Rattle.model.specs.declared.Answer.{Answer}
@@ -83,7 +83,7 @@ module _ (area request fresh records text : List ℕ) where
 
     module _ (cells : List (List ℕ)) (rows : List (List (List ℕ))) (k : Holding area cells rows) where
       abbrev s : Schema
-      s = tablesIn cells
+      s = packedTables cells
 
       abbrev n : ℕ
       n = rowCount area

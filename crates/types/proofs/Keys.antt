@@ -15,12 +15,13 @@ use Rattle.model.specs.declared.Whole.the-variants.{Plus, Minus}
 use Rattle.model.specs.Base.{all, ascii}
 use Rattle.model.specs.Json.{Json, null, bool, num, str, arr, obj, Named}
 use Rattle.model.specs.Nav.{textIn}
-use Rattle.model.specs.Members.{has, valueOf}
-use Rattle.model.specs.Whole.{wholeOf, intOf}
+use Rattle.model.specs.Members.{hasMember, memberValue}
+use Rattle.model.specs.Whole.{wholeOf, wholeInt}
 use Rattle.model.specs.Text.{isWord}
-use Rattle.model.specs.Schema.{Base, integer, boolean, text, uuid, baseOf, plain, strong, weak}
-use Rattle.model.specs.Packed.{cellName, refersFrom}
-use Rattle.model.specs.SchemaText.{may, isOneOf, isInteger, isId, isBase, baseNumber, sameBase, isLimit, limitOr, least, greatest, lowOf, highOf, numberOf, keyTests, keyMembers, keyBase, keyFits, refersOf}
+use Rattle.model.specs.Schema.{Base, integer, boolean, text, uuid, plain, strong, weak}
+use Rattle.inner.specs.Packed.{baseNumbered}
+use Rattle.inner.specs.Packed.{cellName, refersFrom}
+use Rattle.model.specs.SchemaText.{may, isOneOf, isInteger, isId, isBase, baseNumber, sameBase, isLimit, limitOr, least, greatest, lowOf, highOf, placeOr, keyTests, keyMembers, keyBase, keyFits, refersOf}
 use Rattle.model.specs.SchemaText as ST
 use Rattle.model.proofs.Tests.{split, and-r, parts, bytes-same}
 use Rattle.fields.specs.Fields.{choiceFrom, choice, slotTree, Slots}
@@ -66,8 +67,8 @@ module _ (j : Json) where
       (λ c. rw (choice, choiceFrom, a, choiceFrom, b, choiceFrom, c))
       (λ c. split (isWord (ascii "uuid") j) (λ d. rw (choice, choiceFrom, a, choiceFrom, b, choiceFrom, c, choiceFrom, d)) (λ d. rw (choice, choiceFrom, a, choiceFrom, b, choiceFrom, c, choiceFrom, d)))))
 
-  base-is : baseOf (baseByte (choice baseWords j)) ≡ ST.baseOf j
-  unfolding ST.baseOf choice choiceFrom baseByte baseOf
+  base-is : baseNumbered (baseByte (choice baseWords j)) ≡ ST.baseOf j
+  unfolding ST.baseOf choice choiceFrom baseByte baseNumbered
   base-is =
       split
       (isWord (ascii "integer") j)
@@ -87,8 +88,8 @@ module _ (j : Json) where
       (λ d. rw (choice, choiceFrom, ST.baseOf, a, choiceFrom, b, choiceFrom, c, choiceFrom, d)))))
 
 -- the byte of a base is its number
-byte-number : (n : ℕ) → baseNumber (baseOf (baseByte n)) ≡ baseByte n
-unfolding baseNumber baseOf baseByte
+byte-number : (n : ℕ) → baseNumber (baseNumbered (baseByte n)) ≡ baseByte n
+unfolding baseNumber baseNumbered baseByte
 byte-number n =
     split
     (eqb n 0)
@@ -97,17 +98,17 @@ byte-number n =
 
 -- ── limits ──
 -- the limits of a base, by the test that the code makes
-bound-by : (A : Type 0) (b : ℕ) (x y d : A) (f : Base → A) → f integer ≡ x → f boolean ≡ d → f text ≡ y → f uuid ≡ d → f (baseOf b) ≡ elim (eqb b 0) [ true ↦ x | false ↦ elim (eqb b 2) [ true ↦ y | false ↦ d ] ]
-unfolding baseOf
+bound-by : (A : Type 0) (b : ℕ) (x y d : A) (f : Base → A) → f integer ≡ x → f boolean ≡ d → f text ≡ y → f uuid ≡ d → f (baseNumbered b) ≡ elim (eqb b 0) [ true ↦ x | false ↦ elim (eqb b 2) [ true ↦ y | false ↦ d ] ]
+unfolding baseNumbered
 bound-by A b x y d f i o t u =
     split
     (eqb b 0)
-    (λ e. rw (baseOf, e) i)
+    (λ e. rw (baseNumbered, e) i)
     (λ e.
     split
     (eqb b 1)
-    (λ g. let z : eqb b 2 ≡ false = ne-eqb b 2 (λ h. omega (arith, eqb-true b 1 g)) in rw (baseOf, e, g, z) o)
-    (λ g. split (eqb b 2) (λ h. rw (baseOf, e, g, h) t) (λ h. rw (baseOf, e, g, h) u)))
+    (λ g. let z : eqb b 2 ≡ false = ne-eqb b 2 (λ h. omega (arith, eqb-true b 1 g)) in rw (baseNumbered, e, g, z) o)
+    (λ g. split (eqb b 2) (λ h. rw (baseNumbered, e, g, h) t) (λ h. rw (baseNumbered, e, g, h) u)))
 
 -- ── how a key refers ──
 abbrev pub refWords : List (List ℕ)
@@ -180,7 +181,7 @@ module _ (s : List ℕ) (cells : List (List ℕ)) (j : Json) (f : List ℕ) (k :
   abbrev made : Key
   made = record { fits = keyTold s f n base low high table kind; base = base; how = howByte (slot 5) kind; target = placeByte table; low = low; high = high }
 
-  base-of : baseOf base ≡ keyBase ms
+  base-of : baseNumbered base ≡ keyBase ms
   base-of = base-is (slotTree s (slot 0)) ∙ ap ST.baseOf (sym (k .value 0 (omega arith)))
 
   same-base : (b : Base) (m : ℕ) → baseNumber b ≡ m → sameBase (keyBase ms) b ≡ eqb base m
@@ -190,34 +191,34 @@ module _ (s : List ℕ) (cells : List (List ℕ)) (j : Json) (f : List ℕ) (k :
   limit-told : (i : ℕ) (h : i < 7) (b : Base) (m : ℕ) → baseNumber b ≡ m → may (getD keyWords i []) (isLimit b (keyBase ms)) ms ≡ limitTold s (slot i) (eqb base m)
   limit-told i h b m e = may-slot k i h (isLimit b (keyBase ms)) ∙ ap (λ (x : Bool). eqb (slot i) 0 || (x && isInteger (slotTree s (slot i)))) (same-base b m e)
 
-  limit-is : (i : ℕ) (h : i < 7) (d : Whole) → limitOr (getD keyWords i []) (intOf d) ms ≡ intOf (limitIn s (slot i) d)
+  limit-is : (i : ℕ) (h : i < 7) (d : Whole) → limitOr (getD keyWords i []) (wholeInt d) ms ≡ wholeInt (limitIn s (slot i) d)
   unfolding limitOr limitIn
   limit-is i h d =
       split
       (eqb (slot i) 0)
       (λ e. rw (limitOr, limitIn, k .here i h, e))
-      (λ e. rw (limitOr, limitIn, k .here i h, e) (ap (λ (x : Json). intOf (wholeOf x)) (k .value i h)))
+      (λ e. rw (limitOr, limitIn, k .here i h, e) (ap (λ (x : Json). wholeInt (wholeOf x)) (k .value i h)))
 
   -- the limits, by the base
-  int-by : (x y d : Whole) → elim (eqb base 0) [ true ↦ intOf x | false ↦ elim (eqb base 2) [ true ↦ intOf y | false ↦ intOf d ] ] ≡ intOf (elim (eqb base 0) [ true ↦ x | false ↦ elim (eqb base 2) [ true ↦ y | false ↦ d ] ])
+  int-by : (x y d : Whole) → elim (eqb base 0) [ true ↦ wholeInt x | false ↦ elim (eqb base 2) [ true ↦ wholeInt y | false ↦ wholeInt d ] ] ≡ wholeInt (elim (eqb base 0) [ true ↦ x | false ↦ elim (eqb base 2) [ true ↦ y | false ↦ d ] ])
   int-by x y d = split (eqb base 0) (λ e. rw e) (λ e. rw e (split (eqb base 2) (λ g. rw g) (λ g. rw g)))
 
-  low-is : intOf low ≡ lowOf (keyBase ms) ms
-  unfolding boundIn lowOf intOf
+  low-is : wholeInt low ≡ lowOf (keyBase ms) ms
+  unfolding boundIn lowOf wholeInt
   low-is =
       let d : Whole = Minus 9223372036854775808 in
       sym
       (ap (λ (b : Base). lowOf b ms) (sym base-of)
-      ∙ bound-by ℤ base (intOf (limitIn s (slot 1) d)) (intOf (limitIn s (slot 3) d)) least (λ (b : Base). lowOf b ms) (limit-is 1 (omega arith) d) refl (limit-is 3 (omega arith) d) refl
+      ∙ bound-by ℤ base (wholeInt (limitIn s (slot 1) d)) (wholeInt (limitIn s (slot 3) d)) least (λ (b : Base). lowOf b ms) (limit-is 1 (omega arith) d) refl (limit-is 3 (omega arith) d) refl
       ∙ int-by (limitIn s (slot 1) d) (limitIn s (slot 3) d) d)
 
-  high-is : intOf high ≡ highOf (keyBase ms) ms
-  unfolding boundIn highOf intOf
+  high-is : wholeInt high ≡ highOf (keyBase ms) ms
+  unfolding boundIn highOf wholeInt
   high-is =
       let d : Whole = Plus 9223372036854775807 in
       sym
       (ap (λ (b : Base). highOf b ms) (sym base-of)
-      ∙ bound-by ℤ base (intOf (limitIn s (slot 2) d)) (intOf (limitIn s (slot 4) d)) greatest (λ (b : Base). highOf b ms) (limit-is 2 (omega arith) d) refl (limit-is 4 (omega arith) d) refl
+      ∙ bound-by ℤ base (wholeInt (limitIn s (slot 2) d)) (wholeInt (limitIn s (slot 4) d)) greatest (λ (b : Base). highOf b ms) (limit-is 2 (omega arith) d) refl (limit-is 4 (omega arith) d) refl
       ∙ int-by (limitIn s (slot 2) d) (limitIn s (slot 4) d) d)
 
   -- the table that it refers to is one of the tables
@@ -237,7 +238,7 @@ module _ (s : List ℕ) (cells : List (List ℕ)) (j : Json) (f : List ℕ) (k :
   type-told : may (ascii "refType") (λ (x : Json). isWord (ascii "strong") x || isWord (ascii "weak") x) ms ≡ (eqb (slot 6) 0 || ltb kind 2)
   type-told = may-slot k 6 (omega arith) (λ (x : Json). isWord (ascii "strong") x || isWord (ascii "weak") x) ∙ ap (λ (b : Bool). eqb (slot 6) 0 || b) (kind-told (slotTree s (slot 6)))
 
-  with-told : (has (ascii "refTable") ms || not (has (ascii "refType") ms)) ≡ (not (eqb (slot 5) 0) || eqb (slot 6) 0)
+  with-told : (hasMember (ascii "refTable") ms || not (hasMember (ascii "refType") ms)) ≡ (not (eqb (slot 5) 0) || eqb (slot 6) 0)
   with-told = rw (k .here 5 (omega arith), k .here 6 (omega arith)) (split (eqb (slot 6) 0) (λ e. rw e) (λ e. rw e))
 
   no-base : isBase null ≡ false
@@ -264,7 +265,7 @@ module _ (s : List ℕ) (cells : List (List ℕ)) (j : Json) (f : List ℕ) (k :
       let t = parts (keyTests (map cellName cells) (keyBase ms) ms) (sym fits-is ∙ h) in
       and-r (sameBase (keyBase ms) uuid) _ (or-else (eqb (slot 5) 0) _ (sym (may-slot k 5 (omega arith) q) ∙ t .1 .1 .1 .1 .1 .1 .1 .0) e)
 
-  place-told : keyTold s f n base low high table kind ≡ true → eqb (slot 5) 0 ≡ false → placeByte table ≡ numberOf (textIn (valueOf (ascii "refTable") ms)) (map cellName cells)
+  place-told : keyTold s f n base low high table kind ≡ true → eqb (slot 5) 0 ≡ false → placeByte table ≡ placeOr (textIn (memberValue (ascii "refTable") ms)) (map cellName cells)
   unfolding tableIn cellNamed
   place-told h e = rw (tableIn, e, k .value 5 (omega arith)) (place-is (map cellName cells) ids (slotTree s (slot 5)) (one-told h e) (omega (arith, length-map cells cellName)))
 
@@ -277,17 +278,17 @@ module _ (s : List ℕ) (cells : List (List ℕ)) (j : Json) (f : List ℕ) (k :
       (λ e.
       rw
       (howByte, refersOf, k .here 5 (omega arith), e, place-told h e, k .value 6 (omega arith), kind-weak (slotTree s (slot 6)))
-      (refers-from (eqb kind 1) (numberOf (textIn (valueOf (ascii "refTable") ms)) (map cellName cells))))
+      (refers-from (eqb kind 1) (placeOr (textIn (memberValue (ascii "refTable") ms)) (map cellName cells))))
 
   pub key-read : KeyRead (map cellName cells) j made
   key-read = record { fits = fits-is; base = base-of; refers = refers-is; low = low-is; high = high-is }
 
 -- the tests as the code makes them
 module _ (s f : List ℕ) (n base : ℕ) (low high : Whole) (table : Found) (kind : ℕ) where
-  pub key-told : (a b c d o t : Bool) → a ≡ limitTold s (getD f 1 0) (eqb base 0) → b ≡ limitTold s (getD f 2 0) (eqb base 0) → c ≡ limitTold s (getD f 3 0) (eqb base 2) → d ≡ limitTold s (getD f 4 0) (eqb base 2) → o ≡ leZ (intOf low) (intOf high) → t ≡ isFound table → (eqb (getD f 9 0) 0 && (ltb n 4 && (a && (b && (c && (d && (o && ((eqb (getD f 5 0) 0 || (eqb base 3 && t)) && ((eqb (getD f 6 0) 0 || ltb kind 2) && (not (eqb (getD f 5 0) 0) || eqb (getD f 6 0) 0)))))))))) ≡ keyTold s f n base low high table kind
+  pub key-told : (a b c d o t : Bool) → a ≡ limitTold s (getD f 1 0) (eqb base 0) → b ≡ limitTold s (getD f 2 0) (eqb base 0) → c ≡ limitTold s (getD f 3 0) (eqb base 2) → d ≡ limitTold s (getD f 4 0) (eqb base 2) → o ≡ leZ (wholeInt low) (wholeInt high) → t ≡ isFound table → (eqb (getD f 9 0) 0 && (ltb n 4 && (a && (b && (c && (d && (o && ((eqb (getD f 5 0) 0 || (eqb base 3 && t)) && ((eqb (getD f 6 0) 0 || ltb kind 2) && (not (eqb (getD f 5 0) 0) || eqb (getD f 6 0) 0)))))))))) ≡ keyTold s f n base low high table kind
   unfolding keyTold
   key-told a b c d o t ea eb ec ed eo et =
-      rw (ea, eb, ec, ed, eo, et) (sym (last-of (eqb (getD f 9 0) 0) (ltb n 4) (limitTold s (getD f 1 0) (eqb base 0)) (limitTold s (getD f 2 0) (eqb base 0)) (limitTold s (getD f 3 0) (eqb base 2)) (limitTold s (getD f 4 0) (eqb base 2)) (leZ (intOf low) (intOf high)) (eqb (getD f 5 0) 0 || (eqb base 3 && isFound table)) (eqb (getD f 6 0) 0 || ltb kind 2) (not (eqb (getD f 5 0) 0) || eqb (getD f 6 0) 0)))
+      rw (ea, eb, ec, ed, eo, et) (sym (last-of (eqb (getD f 9 0) 0) (ltb n 4) (limitTold s (getD f 1 0) (eqb base 0)) (limitTold s (getD f 2 0) (eqb base 0)) (limitTold s (getD f 3 0) (eqb base 2)) (limitTold s (getD f 4 0) (eqb base 2)) (leZ (wholeInt low) (wholeInt high)) (eqb (getD f 5 0) 0 || (eqb base 3 && isFound table)) (eqb (getD f 6 0) 0 || ltb kind 2) (not (eqb (getD f 5 0) 0) || eqb (getD f 6 0) 0)))
     where
       last-of : (a b c d e g h i j k : Bool) → (a && (b && (c && (d && (e && (g && (h && (i && (j && (k && true)))))))))) ≡ (a && (b && (c && (d && (e && (g && (h && (i && (j && k)))))))))
       last-of a b c d e g h i j k = ap (λ (x : Bool). a && (b && (c && (d && (e && (g && (h && (i && (j && x))))))))) (last refl)

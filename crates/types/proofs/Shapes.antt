@@ -12,7 +12,7 @@ use Rattle.model.specs.declared.Whole.the-variants.{Other}
 use Rattle.model.specs.Base.{ascii}
 use Rattle.model.specs.Limits.{mostElements}
 use Rattle.model.specs.Json.{Json, Named}
-use Rattle.model.specs.Members.{valueOf}
+use Rattle.model.specs.Members.{memberValue}
 use Rattle.model.specs.Whole.{wholeOf}
 use Rattle.model.specs.Text.{isWord}
 use Rattle.model.specs.SchemaText.{must, may, isWithin, sizeOr, isMax, keyFits, typeMembers, typeFits, minOf, maxOf}
@@ -79,7 +79,7 @@ module _ (s : List ℕ) (tables : List (List ℕ)) (j : Json) (f : List ℕ) (k 
       (both key-told
       (both (may-slot k 1 (omega arith) (λ (x : Json). isWithin 0 1 (wholeOf x))) (both max-told (both (sym (λ i. leb (min-is i) (max-is i))) refl)))))
 
-  key-is : typeTold s f (key .fits) least most ≡ true → KeyRead tables (valueOf (ascii "key") ts) key
+  key-is : typeTold s f (key .fits) least most ≡ true → KeyRead tables (memberValue (ascii "key") ts) key
   unfolding typeTold
   key-is h =
       let g : key .fits ≡ true = and-l (key .fits) _ (and-r (eqb (slot 9) 0) _ h) in

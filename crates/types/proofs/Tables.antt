@@ -12,9 +12,9 @@ use Rattle.model.specs.Octets.{eqBytes}
 use Rattle.model.specs.Base.{all, member, placeOf}
 use Rattle.model.specs.Json.{Json, null, bool, num, str, arr, obj}
 use Rattle.model.specs.Nav.{kindOf, isText, textIn}
-use Rattle.model.specs.Text.{stringIn}
+use Rattle.inner.specs.Positions.{wordIn}
 use Rattle.model.specs.Value.{textOf}
-use Rattle.model.specs.SchemaText.{isOneOf, isId, numberOf}
+use Rattle.model.specs.SchemaText.{isOneOf, isId, placeOr}
 use Rattle.model.proofs.Tests.{split, clash, and-l, and-r, bytes-same}
 use Rattle.model.proofs.Atoms.{textOf-textAtom}
 use Rattle.model.proofs.SchemaLaws.{place-below}
@@ -76,10 +76,10 @@ module _ (ws : List (List ℕ)) (ids : all isId ws ≡ true) where
 
   -- a string that is one of the names, and where it stands
   pub one-of : (j : Json) → isFound (foundAt (placeOf (textOf (nameCell j)) ws)) ≡ isOneOf ws j
-  unfolding nameCell stringIn kindOf isText textIn
-  one-of j = ap (λ (o : Option ℕ). isFound (foundAt o)) (cell-place (stringIn j)) ∙ found-member (stringIn j) ws ∙ go j
+  unfolding nameCell wordIn kindOf isText textIn
+  one-of j = ap (λ (o : Option ℕ). isFound (foundAt o)) (cell-place (wordIn j)) ∙ found-member (wordIn j) ws ∙ go j
     where
-      go : (j : Json) → member (stringIn j) ws ≡ isOneOf ws j
+      go : (j : Json) → member (wordIn j) ws ≡ isOneOf ws j
       go null = none-empty
       go (bool b) = none-empty
       go (num t) = none-empty
@@ -87,13 +87,13 @@ module _ (ws : List (List ℕ)) (ids : all isId ws ≡ true) where
       go (arr xs) = none-empty
       go (obj ms) = none-empty
 
-  pub place-is : (j : Json) → isOneOf ws j ≡ true → length ws ≤ 4 → placeByte (foundAt (placeOf (textOf (nameCell j)) ws)) ≡ numberOf (textIn j) ws
-  unfolding nameCell stringIn kindOf isText textIn placeByte foundAt
+  pub place-is : (j : Json) → isOneOf ws j ≡ true → length ws ≤ 4 → placeByte (foundAt (placeOf (textOf (nameCell j)) ws)) ≡ placeOr (textIn j) ws
+  unfolding nameCell wordIn kindOf isText textIn placeByte foundAt
   place-is null h few = absurd (clash false h refl)
   place-is (bool b) h few = absurd (clash false h refl)
   place-is (num t) h few = absurd (clash false h refl)
   place-is (str t) h few =
       let r : (k : ℕ) × (placeOf t ws ≡ some k) × (k < length ws) = place-below t ws h in
-      rw (cell-place t, numberOf, r .1, placeByte, lt-ltb (r .0) 256 (omega (arith, r .2)))
+      rw (cell-place t, placeOr, r .1, placeByte, lt-ltb (r .0) 256 (omega (arith, r .2)))
   place-is (arr xs) h few = absurd (clash false h refl)
   place-is (obj ms) h few = absurd (clash false h refl)

@@ -12,11 +12,11 @@ use Rattle.model.specs.declared.Whole.{Whole}
 use Rattle.model.specs.Base.{ascii, every}
 use Rattle.model.specs.Limits.{mostElements}
 use Rattle.model.specs.Json.{Json, Named}
-use Rattle.model.specs.Members.{valueOf}
-use Rattle.model.specs.Whole.{wholeOf, intOf}
+use Rattle.model.specs.Members.{memberValue}
+use Rattle.model.specs.Whole.{wholeOf, wholeInt}
 use Rattle.model.specs.Value.{textOf}
-use Rattle.model.specs.Schema.{baseOf}
-use Rattle.model.specs.Packed.{refersFrom}
+use Rattle.inner.specs.Packed.{baseNumbered}
+use Rattle.inner.specs.Packed.{refersFrom}
 use Rattle.model.specs.SchemaText.{isInteger, isWithin, sizeOr, keyMembers, keyBase, keyFits, refersOf, lowOf, highOf, typeMembers, typeFits, minOf, maxOf}
 use Rattle.fields.specs.Fields.{choice, slotTree}
 use Rattle.names.specs.Names.{nameCell, cellNamed}
@@ -65,7 +65,7 @@ keyTold s f n base low high table kind =
     ∷ limitTold s (getD f 2 0) (eqb base 0)
     ∷ limitTold s (getD f 3 0) (eqb base 2)
     ∷ limitTold s (getD f 4 0) (eqb base 2)
-    ∷ leZ (intOf low) (intOf high)
+    ∷ leZ (wholeInt low) (wholeInt high)
     ∷ (eqb (getD f 5 0) 0 || (eqb base 3 && isFound table))
     ∷ (eqb (getD f 6 0) 0 || ltb kind 2)
     ∷ (not (eqb (getD f 5 0) 0) || eqb (getD f 6 0) 0)
@@ -74,10 +74,10 @@ keyTold s f n base low high table kind =
 -- what was read of the key k, where the schema's tables have these names
 pub record KeyRead (tables : List (List ℕ)) (k : Json) (r : Key) : Type 0 where
   pub fits : r .fits ≡ keyFits tables k
-  pub base : baseOf (r .base) ≡ keyBase (keyMembers k)
+  pub base : baseNumbered (r .base) ≡ keyBase (keyMembers k)
   pub refers : r .fits ≡ true → refersFrom (r .how) (r .target) ≡ refersOf tables (keyMembers k)
-  pub low : intOf (r .low) ≡ lowOf (keyBase (keyMembers k)) (keyMembers k)
-  pub high : intOf (r .high) ≡ highOf (keyBase (keyMembers k)) (keyMembers k)
+  pub low : wholeInt (r .low) ≡ lowOf (keyBase (keyMembers k)) (keyMembers k)
+  pub high : wholeInt (r .high) ≡ highOf (keyBase (keyMembers k)) (keyMembers k)
 
 -- the same of the key in a slot
 pub record KeyIn (s : List ℕ) (tables : List (List ℕ)) (p : ℕ) (r : Key) : Type 0 where
@@ -102,6 +102,6 @@ typeTold s f key least most =
 -- and of the type t
 pub record TypeRead (tables : List (List ℕ)) (t : Json) (r : Shape) : Type 0 where
   pub fits : r .fits ≡ typeFits tables t
-  pub key : r .fits ≡ true → KeyRead tables (valueOf (ascii "key") (typeMembers t)) (r .key)
+  pub key : r .fits ≡ true → KeyRead tables (memberValue (ascii "key") (typeMembers t)) (r .key)
   pub min : r .min ≡ minOf (typeMembers t)
   pub max : r .max ≡ maxOf (typeMembers t)

@@ -9,9 +9,9 @@ ghost use lib.Dec.{eqb};
 ghost use lib.ListN.{length};
 ghost use lib.Signed.{leZ};
 ghost use Rattle.model.specs.Base.{all};
-ghost use Rattle.model.specs.Nav.{Says, wellAt, treeAt};
-ghost use Rattle.model.specs.Whole.{intOf, isWhole};
-ghost use Rattle.model.specs.Packed.{cellName};
+ghost use Rattle.inner.specs.Positions.{Says, wellAt, treeAt};
+ghost use Rattle.model.specs.Whole.{wholeInt, isWhole};
+ghost use Rattle.inner.specs.Packed.{cellName};
 ghost use Rattle.model.specs.SchemaText.{isId, isInteger, isWithin, sizeOr, isMax};
 ghost use Rattle.fields.specs.Fields.{slotTree};
 ghost use Rattle.types.specs.Types.{limitIn, boundIn, tableIn, isFound, placeByte, baseByte, howByte, keyTold, KeyRead, KeyIn, maxIn, typeTold, TypeRead};
@@ -73,7 +73,7 @@ pub fn size_or(d: u64, w: Whole) -> u64
 
 // Whether one integer is at most another.
 fn at_most(a: Whole, b: Whole) -> bool
-    ensures { λ r. ⌜ r ≡ leZ (intOf a) (intOf b) ⌝ }
+    ensures { λ r. ⌜ r ≡ leZ (wholeInt a) (wholeInt b) ⌝ }
 {
     match a {
         Whole::Plus(m) => plus_at_most(m, b),
@@ -83,7 +83,7 @@ fn at_most(a: Whole, b: Whole) -> bool
 }
 
 fn plus_at_most(m: u64, b: Whole) -> bool
-    ensures { λ r. ⌜ r ≡ leZ (intOf (Whole.Plus m)) (intOf b) ⌝ }
+    ensures { λ r. ⌜ r ≡ leZ (wholeInt (Whole.Plus m)) (wholeInt b) ⌝ }
 {
     match b {
         Whole::Plus(n) => m <= n,
@@ -98,7 +98,7 @@ fn plus_at_most(m: u64, b: Whole) -> bool
 }
 
 fn minus_at_most(m: u64, b: Whole) -> bool
-    ensures { λ r. ⌜ r ≡ leZ (intOf (Whole.Minus m)) (intOf b) ⌝ }
+    ensures { λ r. ⌜ r ≡ leZ (wholeInt (Whole.Minus m)) (wholeInt b) ⌝ }
 {
     match b {
         Whole::Plus(_) => true,

@@ -4,26 +4,28 @@ use mathlib.Core.Bool.{Bool, true, false}
 use mathlib.Core.List.{List, [], _∷_, _++_, map}
 use mathlib.Core.Option.{Option, none, some}
 use Prim.Native.Nat.{ℕ, zero, suc, _+_, _-_, _*_, _^_, _<_, _≤_}
-use native.Mathlib.Nat.{mod-eq-of-lt, le-of-suc-le-suc, not-suc-le-zero}
+use native.Mathlib.Nat.{le-of-suc-le-suc, not-suc-le-zero}
 use native.Mathlib.Omega.{arith}
 use lib.ListN.{length, take, drop, getD, replicate, length-take, length-drop}
 use lib.Seq.{getD-drop, drop-drop}
-use borrow.Author.Tests.{lt-ltb}
 use Rattle.model.specs.declared.Found.{Found}
 use Rattle.model.specs.declared.Found.the-variants.{At, Nothing}
-use Rattle.model.specs.Octets.{big, value, eqBytes}
+use Rattle.model.specs.Octets.{value, eqBytes}
 use Rattle.model.specs.Base.{all, ascii}
 use Rattle.model.specs.Json.{Json, null, bool, num, str, arr, obj, Named}
-use Rattle.model.specs.Nav.{treeAt, itemsFrom, nextItem, itemsIn, listOf, kindOf, isText}
-use Rattle.model.specs.Members.{membersIn, has, valueOf, Means}
-use Rattle.model.specs.Text.{isWord, stringIn as string}
+use Rattle.inner.specs.Positions.{treeAt, itemsFrom, nextItem}
+use Rattle.model.specs.Nav.{itemsIn, listOf, kindOf, isText}
+use Rattle.model.specs.Members.{membersIn, hasMember, memberValue}
+use Rattle.inner.specs.Positions.{Means}
+use Rattle.model.specs.Text.{isWord}
+use Rattle.inner.specs.Positions.{wordIn as string}
 use Rattle.model.specs.Schema.{uuid}
 use Rattle.model.specs.Value.{pad, uuidAtom}
 use Rattle.model.specs.Written.{Names, stringIn, uuidFrom, uuidBy, uuidItems, uuidIn, atomIn}
 use Rattle.model.specs.Operations.{memberAs}
 use Rattle.model.specs.Transact.{idsFrom, freshIds, insertName, isNamed, namesOf}
-use Rattle.model.proofs.Octets.{octet, length-big, big-octets, value-big, value-lt, value-inj}
-use Rattle.model.proofs.Lists.{all-cons, all-take, all-drop}
+use Rattle.model.proofs.Octets.{octet, octets, big-value}
+use Rattle.model.proofs.Lists.{all-take, all-drop}
 use Rattle.nav.proofs.Walk.{walk-rest, walk-end}
 use Rattle.elements.specs.Elements.{isPair}
 use Rattle.uuids.specs.declared.Id.{Id}
@@ -35,12 +37,12 @@ use Rattle.uuids.proofs.Decoded.{no-string}
 -- ── whether an operation is an insert of a name ──
 module _ {A : Type 0} (read : Json → Option A) (w : List ℕ) (ms : List Named) where
   abbrev lastBy : Bool → Option Json
-  lastBy b = elim b [ true ↦ some (valueOf w ms) | false ↦ none ]
+  lastBy b = elim b [ true ↦ some (memberValue w ms) | false ↦ none ]
 
   abbrev memberBy : Bool → Option A
   memberBy b = elim (lastBy b) [ none ↦ none | some j ↦ read j ]
 
-  member-by : {b : Bool} → has w ms ≡ b → memberAs read w ms ≡ memberBy b
+  member-by : {b : Bool} → hasMember w ms ≡ b → memberAs read w ms ≡ memberBy b
   member-by h = ap memberBy h
 
 byOp : Option (List ℕ) → List Named → Option (List ℕ)
@@ -64,37 +66,37 @@ named-word (str t) w = refl
 named-word (arr xs) w = refl
 named-word (obj ms) w = refl
 
-module _ (s : List ℕ) (ms : List Named) (w : List ℕ) {f : Found} (m : Means s f (has (ascii "op") ms) (valueOf (ascii "op") ms)) where
+module _ (s : List ℕ) (ms : List Named) (w : List ℕ) {f : Found} (m : Means s f (hasMember (ascii "op") ms) (memberValue (ascii "op") ms)) where
   pub no-op : f ≡ Nothing → isNamed (insertName ms) w ≡ false
   unfolding Means byOp
   no-op e =
-      let h : has (ascii "op") ms ≡ false = subst (λ x. Means s x (has (ascii "op") ms) (valueOf (ascii "op") ms)) e m in
+      let h : hasMember (ascii "op") ms ≡ false = subst (λ x. Means s x (hasMember (ascii "op") ms) (memberValue (ascii "op") ms)) e m in
       ap (λ o. isNamed (byOp o ms) w) (member-by stringIn (ascii "op") ms h)
 
   module _ {p : ℕ} (e : f ≡ At p) {i : Bool} (is : i ≡ isWord (ascii "insert") (treeAt s p)) where
     insert-by : {b : Bool} → i ≡ b → insertName ms ≡ elim b [ true ↦ memberAs stringIn (ascii "uuid-name") ms | false ↦ none ]
     unfolding Means byOp
     insert-by {b} t =
-        let k = subst (λ x. Means s x (has (ascii "op") ms) (valueOf (ascii "op") ms)) e m in
-        let q : isWord (ascii "insert") (valueOf (ascii "op") ms) ≡ b = ap (isWord (ascii "insert")) (k .1) ∙ sym is ∙ t in
-        ap (λ o. byOp o ms) (member-by stringIn (ascii "op") ms (k .0)) ∙ by-op (valueOf (ascii "op") ms) ms
+        let k = subst (λ x. Means s x (hasMember (ascii "op") ms) (memberValue (ascii "op") ms)) e m in
+        let q : isWord (ascii "insert") (memberValue (ascii "op") ms) ≡ b = ap (isWord (ascii "insert")) (k .1) ∙ sym is ∙ t in
+        ap (λ o. byOp o ms) (member-by stringIn (ascii "op") ms (k .0)) ∙ by-op (memberValue (ascii "op") ms) ms
         ∙ ap (λ (c : Bool). elim c [ true ↦ memberAs stringIn (ascii "uuid-name") ms | false ↦ none ]) q
 
     pub no-insert : i ≡ false → isNamed (insertName ms) w ≡ false
     no-insert t = ap (λ o. isNamed o w) (insert-by t)
 
-    module _ (t : i ≡ true) {u : Found} (n : Means s u (has (ascii "uuid-name") ms) (valueOf (ascii "uuid-name") ms)) where
+    module _ (t : i ≡ true) {u : Found} (n : Means s u (hasMember (ascii "uuid-name") ms) (memberValue (ascii "uuid-name") ms)) where
       pub no-name : u ≡ Nothing → isNamed (insertName ms) w ≡ false
       unfolding Means
       no-name g =
-          let h : has (ascii "uuid-name") ms ≡ false = subst (λ x. Means s x (has (ascii "uuid-name") ms) (valueOf (ascii "uuid-name") ms)) g n in
+          let h : hasMember (ascii "uuid-name") ms ≡ false = subst (λ x. Means s x (hasMember (ascii "uuid-name") ms) (memberValue (ascii "uuid-name") ms)) g n in
           ap (λ o. isNamed o w) (insert-by t ∙ member-by stringIn (ascii "uuid-name") ms h)
 
       pub some-name : {q : ℕ} → u ≡ At q → isNamed (insertName ms) w ≡ isWord w (treeAt s q)
       unfolding Means
       some-name g =
-          let k = subst (λ x. Means s x (has (ascii "uuid-name") ms) (valueOf (ascii "uuid-name") ms)) g n in
-          ap (λ o. isNamed o w) (insert-by t ∙ member-by stringIn (ascii "uuid-name") ms (k .0)) ∙ named-word (valueOf (ascii "uuid-name") ms) w ∙ ap (isWord w) (k .1)
+          let k = subst (λ x. Means s x (hasMember (ascii "uuid-name") ms) (memberValue (ascii "uuid-name") ms)) g n in
+          ap (λ o. isNamed o w) (insert-by t ∙ member-by stringIn (ascii "uuid-name") ms (k .0)) ∙ named-word (memberValue (ascii "uuid-name") ms) w ∙ ap (isWord w) (k .1)
 
 -- ── the place of the first, one operation after another ──
 names-turn : (ids w : List ℕ) (o : List Named) (os : List (List Named)) {b : Bool} → isNamed (insertName o) w ≡ b
@@ -152,15 +154,6 @@ ids-past zero k b h = refl
 ids-past (suc n) zero b h = absurd (omega arith)
 ids-past (suc n) (suc k) b h = ids-past n k (drop 16 b) (omega arith)
 
-all-octets : (l : List ℕ) → ((i : ℕ) → getD l i 0 < 256) → all octet l ≡ true
-all-octets [] h = refl
-all-octets (b ∷ l) h = all-cons octet b l (lt-ltb b 256 (h 0)) (all-octets l (λ i. h (suc i)))
-
-big-value : (l : List ℕ) → all octet l ≡ true → big (length l) (value l) ≡ l
-big-value l h =
-    value-inj (big (length l) (value l)) l (length-big (length l) (value l)) (big-octets (length l) (value l)) h
-    (value-big (length l) (value l) ∙ mod-eq-of-lt (value-lt l h))
-
 module _ (fresh : List ℕ) (k : ℕ) where
   pub fresh-at : (src zeros : List ℕ) → k < 16 → length fresh ≡ 256 → ((i : ℕ) → getD fresh i 0 < 256) → src ≡ take 16 (drop (16 * k) fresh) → zeros ≡ replicate 25 0
       → src ++ drop (length src) zeros ≡ freshAtom fresh k
@@ -168,9 +161,9 @@ module _ (fresh : List ℕ) (k : ℕ) where
   fresh-at src zeros h n o e z =
       let l = take 16 (drop (16 * k) fresh) in
       let m : length l ≡ 16 = omega (arith, length-take 16 (drop (16 * k) fresh), length-drop (16 * k) fresh) in
-      let q : all octet l ≡ true = all-take octet 16 (drop (16 * k) fresh) (all-drop octet (16 * k) fresh (all-octets fresh o)) in
+      let q : all octet l ≡ true = all-take octet 16 (drop (16 * k) fresh) (all-drop octet (16 * k) fresh (octets fresh o)) in
       ap (λ x. x ++ drop (length x) zeros) e ∙ ap (λ x. l ++ drop (length l) x) z ∙ ap (λ n. l ++ drop n (replicate 25 0)) m
-      ∙ sym (ap uuidAtom (ids-get 16 k fresh h) ∙ ap pad (ap (λ n. big n (value l)) (sym m) ∙ big-value l q) ∙ ap (λ n. l ++ replicate (25 - n) 0) m)
+      ∙ sym (ap uuidAtom (ids-get 16 k fresh h) ∙ ap pad (big-value 16 l m q) ∙ ap (λ n. l ++ replicate (25 - n) 0) m)
 
   pub fresh-past : (zeros : List ℕ) → 16 ≤ k → zeros ≡ replicate 25 0 → zeros ≡ freshAtom fresh k
   unfolding freshAtom

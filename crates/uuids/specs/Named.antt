@@ -9,7 +9,7 @@ use Rattle.model.specs.declared.Found.the-variants.{At, Nothing}
 use lib.ListN.{length, getD}
 use Rattle.model.specs.Json.{Json, Named}
 use Rattle.model.specs.Value.{uuidAtom}
-use Rattle.model.specs.Nav.{Says, itemsFrom, itemsFine}
+use Rattle.inner.specs.Positions.{Says, itemsFrom, itemsFine}
 use Rattle.model.specs.Members.{membersIn}
 use Rattle.model.specs.Written.{Names, stringIn}
 use Rattle.model.specs.Transact.{freshIds, insertName, isNamed, namesOf}

@@ -10,7 +10,7 @@ ghost use lib.ListN.{length};
 ghost use Rattle.model.specs.Octets.{big};
 ghost use Rattle.model.specs.Schema.{uuid};
 ghost use Rattle.model.specs.Value.{pad};
-ghost use Rattle.model.specs.Nav.{Says, wellAt, treeAt, itemsFine};
+ghost use Rattle.inner.specs.Positions.{Says, wellAt, treeAt, itemsFine};
 ghost use Rattle.model.specs.Members.{membersIn};
 ghost use Rattle.model.specs.Written.{isDash, uuidFrom, atomIn};
 ghost use Rattle.model.specs.Transact.{insertName, isNamed};

@@ -1,12 +1,12 @@
 // Sets of at most four atoms, and the canonical form of a value.
 ghost use mathlib.Core.Path.{_≡_};
-ghost use mathlib.Core.Bool.{not, _&&_};
+ghost use mathlib.Core.Bool.{true};
 ghost use mathlib.Core.List.{[], _∷_, _++_};
 ghost use Prim.Native.Nat.{_≤_};
-ghost use lib.Dec.{eqb};
 ghost use lib.ListN.{length, take, drop};
-ghost use Rattle.model.specs.Base.{if_then_else_, any, all, member, distinct, eqLists};
-ghost use Rattle.model.specs.Schema.{Base, baseOf, Column, scalar};
+ghost use Rattle.model.specs.Base.{if_then_else_, all, member, distinct, eqLists};
+ghost use Rattle.model.specs.Schema.{Base, Column, scalar};
+ghost use Rattle.inner.specs.Packed.{baseNumbered};
 ghost use Rattle.model.specs.Value.{zeros, ascending, placed, sorted, wellAtom, byteAtom, canonicalFor, valueOf, union, without};
 ghost use Rattle.value.specs.Places.{placeIn};
 
@@ -55,36 +55,10 @@ pub fn equal(l: &[[u8; 25]], m: &[[u8; 25]]) -> bool
     ok
 }
 
-// Whether all of l are among xs; whether none is.
-pub fn includes(xs: &[[u8; 25]], l: &[[u8; 25]]) -> bool
-    ensures { λ r. ⌜ r ≡ all (λ a. member a (now (xs .entry))) (now (l .entry)) ⌝ }
-{
-    let mut ok = true;
-    let mut i = 0;
-    while i < l.len() {
-        let m = member(&l[i], xs);
-        ok = ok & m;
-        i += 1;
-    }
-    ok
-}
-
-pub fn excludes(xs: &[[u8; 25]], l: &[[u8; 25]]) -> bool
-    ensures { λ r. ⌜ r ≡ not (any (λ a. member a (now (xs .entry))) (now (l .entry))) ⌝ }
-{
-    let mut found = false;
-    let mut i = 0;
-    while i < l.len() {
-        let m = member(&l[i], xs);
-        found = found | m;
-        i += 1;
-    }
-    !found
-}
-
-// Whether all atoms are well formed for a base type; whether all are zero.
+// Whether all atoms are well formed for a base type; whether all are zero. Their type says that they are 25 bytes each.
 fn all_well(kind: u8, l: &[[u8; 25]]) -> bool
-    ensures { λ r. ⌜ r ≡ all (wellAtom (baseOf kind)) (now (l .entry)) ⌝ }
+    ensures { λ r. ⌜ r ≡ all (wellAtom (baseNumbered kind)) (now (l .entry)) ⌝ }
+    ensures { λ r. ⌜ (r ≡ true → all byteAtom (now (l .entry)) ≡ true) ⌝ }
 {
     let mut ok = true;
     let mut i = 0;
@@ -98,6 +72,7 @@ fn all_well(kind: u8, l: &[[u8; 25]]) -> bool
 
 fn all_blank(l: &[[u8; 25]]) -> bool
     ensures { λ r. ⌜ r ≡ all zeros (now (l .entry)) ⌝ }
+    ensures { λ _. ⌜ all byteAtom (now (l .entry)) ≡ true ⌝ }
 {
     let mut ok = true;
     let mut i = 0;
@@ -109,22 +84,9 @@ fn all_blank(l: &[[u8; 25]]) -> bool
     ok
 }
 
-fn all_bytes(l: &[[u8; 25]]) -> bool
-    ensures { λ r. ⌜ r ≡ all byteAtom (now (l .entry)) ⌝ }
-{
-    let mut ok = true;
-    let mut i = 0;
-    while i < l.len() {
-        let b = atom::bytes(&l[i]);
-        ok = ok & b;
-        i += 1;
-    }
-    ok
-}
-
 // Whether each atom is before those after it: before the next one, which is enough.
 pub fn ascending(kind: u8, l: &[[u8; 25]]) -> bool
-    ensures { λ r. ⌜ r ≡ ascending (baseOf kind) (now (l .entry)) ⌝ }
+    ensures { λ r. ⌜ r ≡ ascending (baseNumbered kind) (now (l .entry)) ⌝ }
 {
     let mut ok = true;
     let mut i = 1;
@@ -138,7 +100,7 @@ pub fn ascending(kind: u8, l: &[[u8; 25]]) -> bool
 
 // The place of x among atoms in order: how many stand before the first that x is less than.
 fn place(kind: u8, l: &[[u8; 25]], x: &[u8; 25]) -> usize
-    ensures { λ r. ⌜ r ≡ placeIn (baseOf kind) (now (x .entry)) (now (l .entry)) ⌝ }
+    ensures { λ r. ⌜ r ≡ placeIn (baseNumbered kind) (now (x .entry)) (now (l .entry)) ⌝ }
 {
     let mut i = 0;
     while i < l.len() {
@@ -170,7 +132,7 @@ fn insert_at(atoms: [[u8; 25]; 4], i: usize, x: [u8; 25]) -> [[u8; 25]; 4]
 // The first n atoms are in order: the same with x in its place.
 fn put_in_order(kind: u8, atoms: [[u8; 25]; 4], n: usize, x: [u8; 25]) -> [[u8; 25]; 4]
     requires { ⌜ n ≤ 4 ⌝ }
-    ensures { λ r. ⌜ r ≡ take 4 (placed (baseOf kind) x (take n atoms) ++ drop n atoms) ⌝ }
+    ensures { λ r. ⌜ r ≡ take 4 (placed (baseNumbered kind) x (take n atoms) ++ drop n atoms) ⌝ }
 {
     let p = place(kind, &atoms[..n], &x);
     insert_at(atoms, p, x)
@@ -179,7 +141,7 @@ fn put_in_order(kind: u8, atoms: [[u8; 25]; 4], n: usize, x: [u8; 25]) -> [[u8; 
 // The first n atoms sorted, and zeros.
 pub fn sort(kind: u8, atoms: [[u8; 25]; 4], n: usize) -> [[u8; 25]; 4]
     requires { ⌜ n ≤ 4 ⌝ }
-    ensures { λ r. ⌜ r ≡ valueOf (sorted (baseOf kind) (take n atoms)) .atoms ⌝ }
+    ensures { λ r. ⌜ r ≡ valueOf (sorted (baseNumbered kind) (take n atoms)) .atoms ⌝ }
 {
     let mut s = [[0u8; 25]; 4];
     let mut i = n;
@@ -195,7 +157,7 @@ pub fn sort(kind: u8, atoms: [[u8; 25]; 4], n: usize) -> [[u8; 25]; 4]
 // The first n atoms are a set: the same with x.
 pub fn insert(kind: u8, atoms: [[u8; 25]; 4], n: usize, x: [u8; 25]) -> [[u8; 25]; 4]
     requires { ⌜ n ≤ 4 ⌝ }
-    ensures { λ r. ⌜ r ≡ take 4 (union (baseOf kind) (take n atoms) (x ∷ []) ++ drop n atoms) ⌝ }
+    ensures { λ r. ⌜ r ≡ take 4 (union (baseNumbered kind) (take n atoms) (x ∷ []) ++ drop n atoms) ⌝ }
 {
     if member(&x, &atoms[..n]) {
         return atoms;
@@ -237,18 +199,33 @@ fn one_unless(b: bool) -> usize
     1
 }
 
-// The first n atoms are a set: the same without those of `gone`, and zeros.
-pub fn delete(atoms: [[u8; 25]; 4], n: usize, gone: &[[u8; 25]]) -> [[u8; 25]; 4]
+// The first n atoms, and zeros.
+pub fn first(atoms: [[u8; 25]; 4], n: usize) -> [[u8; 25]; 4]
     requires { ⌜ n ≤ 4 ⌝ }
-    ensures { λ r. ⌜ r ≡ valueOf (without (now (gone .entry)) (take n atoms)) .atoms ⌝ }
+    ensures { λ r. ⌜ r ≡ valueOf (take n atoms) .atoms ⌝ }
+{
+    let mut s = [[0u8; 25]; 4];
+    let mut i = 0;
+    while i < n {
+        let x = atoms[i];
+        s[i] = x;
+        i += 1;
+    }
+    s
+}
+
+// The first n atoms are a set: the same without x, and zeros.
+pub fn delete(atoms: [[u8; 25]; 4], n: usize, x: [u8; 25]) -> [[u8; 25]; 4]
+    requires { ⌜ n ≤ 4 ⌝ }
+    ensures { λ r. ⌜ r ≡ valueOf (without (x ∷ []) (take n atoms)) .atoms ⌝ }
 {
     let mut s = [[0u8; 25]; 4];
     let mut m = 0;
     let mut i = 0;
     while i < n {
-        let x = atoms[i];
-        if !member(&x, gone) {
-            s[m] = x;
+        let a = atoms[i];
+        if !atom::same(&a, &x) {
+            s[m] = a;
             m += 1;
         }
         i += 1;
@@ -256,35 +233,26 @@ pub fn delete(atoms: [[u8; 25]; 4], n: usize, gone: &[[u8; 25]]) -> [[u8; 25]; 4
     s
 }
 
-// How many elements are left without those of `gone`.
-pub fn delete_count(l: &[[u8; 25]], gone: &[[u8; 25]]) -> usize
-    ensures { λ r. ⌜ r ≡ length (without (now (gone .entry)) (now (l .entry))) ⌝ }
+// How many elements the set has without x.
+pub fn delete_count(l: &[[u8; 25]], x: &[u8; 25]) -> usize
+    ensures { λ r. ⌜ r ≡ length (without (now (x .entry) ∷ []) (now (l .entry))) ⌝ }
 {
     let mut n = 0;
     let mut i = 0;
     while i < l.len() {
-        let m = member(&l[i], gone);
+        let m = atom::same(&l[i], x);
         n += one_unless(m);
         i += 1;
     }
     n
 }
 
-// Whether there are four atoms of 25 bytes.
-fn shaped(atoms: &[[u8; 25]]) -> bool
-    ensures { λ r. ⌜ r ≡ (eqb (length (now (atoms .entry))) 4 && all byteAtom (now (atoms .entry))) ⌝ }
-{
-    let b = all_bytes(atoms);
-    (atoms.len() == 4) & b
-}
-
 // Whether `count` elements in four atoms are in canonical form for a base type, of a scalar where `one`.
 pub fn canonical(kind: u8, one: bool, count: u8, atoms: &[[u8; 25]]) -> bool
-    ensures { λ r. ⌜ ((c : Column) → c .base ≡ baseOf kind → scalar c ≡ one → r ≡ canonicalFor c (record { count = count; atoms = now (atoms .entry) })) ⌝ }
+    ensures { λ r. ⌜ ((c : Column) → c .base ≡ baseNumbered kind → scalar c ≡ one → r ≡ canonicalFor c (record { count = count; atoms = now (atoms .entry) })) ⌝ }
 {
     let n = atom::wide(count);
-    let s = shaped(atoms);
-    if !s {
+    if atoms.len() != 4 {
         return false;
     }
     if 4 < n {

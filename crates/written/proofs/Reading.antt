@@ -10,12 +10,14 @@ use lib.ListN.{length, getD, set, drop, replicate, length-append, length-replica
 use borrow.Author.Tests.{le-ltb}
 use Rattle.model.specs.Octets.{big, twos, eqBytes}
 use Rattle.model.specs.Json.{Json, null, bool, num, str, arr, obj}
-use Rattle.model.specs.Nav.{kindOf, isText, isTruth, isTrue}
+use Rattle.model.specs.Nav.{kindOf, isText, isTruth}
+use Rattle.inner.specs.Positions.{isTrue}
 use Rattle.model.specs.Text.{isWord}
-use Rattle.model.specs.Text.{stringIn as string}
+use Rattle.inner.specs.Positions.{wordIn as string}
 use Rattle.model.specs.declared.Whole.{Whole}
-use Rattle.model.specs.Whole.{wholeOf, isWhole, intOf}
-use Rattle.model.specs.Schema.{Base, integer, boolean, text, uuid, baseOf}
+use Rattle.model.specs.Whole.{wholeOf, isWhole, wholeInt}
+use Rattle.model.specs.Schema.{Base, integer, boolean, text, uuid}
+use Rattle.inner.specs.Packed.{baseNumbered}
 use Rattle.model.specs.Value.{pad, blank, intAtom, boolAtom, textAtom, textOf}
 use Rattle.model.specs.Written.{Names, stringIn, boolIn, atomIn, longAtom}
 use Rattle.model.proofs.Tests.{split, clash, bytes-same, bytes-self}
@@ -30,12 +32,12 @@ use Rattle.written.specs.Atoms.{integerIn, booleanIn, TextReads, cellOf,
 
 -- ── integers and truth values ──
 module _ (j : Json) {w : Whole} (e : w ≡ wholeOf j) where
-  integer-by : {b : Bool} → isWhole w ≡ b → integerIn j ≡ elim b [ true ↦ some (intAtom (intOf (wholeOf j))) | false ↦ none ]
+  integer-by : {b : Bool} → isWhole w ≡ b → integerIn j ≡ elim b [ true ↦ some (intAtom (wholeInt (wholeOf j))) | false ↦ none ]
   unfolding integerIn
-  integer-by h = ap (λ (b : Bool). elim b [ true ↦ some (intAtom (intOf (wholeOf j))) | false ↦ none ]) (ap isWhole (sym e) ∙ h)
+  integer-by h = ap (λ (b : Bool). elim b [ true ↦ some (intAtom (wholeInt (wholeOf j))) | false ↦ none ]) (ap isWhole (sym e) ∙ h)
 
-  pub integer-some : isWhole w ≡ true → {x : ℕ} → x ≡ twos 64 (intOf w) → integerIn j ≡ some (pad (big 8 x))
-  integer-some h q = integer-by h ∙ ap (λ z. some (pad (big 8 z))) (ap (λ v. twos 64 (intOf v)) (sym e) ∙ sym q)
+  pub integer-some : isWhole w ≡ true → {x : ℕ} → x ≡ twos 64 (wholeInt w) → integerIn j ≡ some (pad (big 8 x))
+  integer-some h q = integer-by h ∙ ap (λ z. some (pad (big 8 z))) (ap (λ v. twos 64 (wholeInt v)) (sym e) ∙ sym q)
 
   pub integer-none : isWhole w ≡ false → integerIn j ≡ none
   integer-none h = integer-by h
@@ -96,6 +98,13 @@ text-none : (names : Names) (j : Json) → isText (kindOf j) ≡ false → atomI
 text-none names j h = ap stringAtom (no-string j h)
 
 -- ── what was read ──
+-- a blank atom is no long string
+short-blank : (k : Base) → longAtom k blank ≡ false
+short-blank integer = refl
+short-blank boolean = refl
+short-blank text = refl
+short-blank uuid = refl
+
 module _ (names : Names) (j : Json) where
   module _ (k : Base) (cell out : List ℕ) (r : Atom) where
     pub reads-wrong : atomIn names k j ≡ none → Told false cell r out → Reads names k j r out
@@ -129,6 +138,14 @@ module _ (names : Names) (j : Json) where
     pub fits-cell : Reads names k j Fits out → atomAs names k j ≡ out
     unfolding Reads atomAs cellOf
     fits-cell p = ap cellOf (p .0)
+
+    pub wrong-short : Reads names k j Wrong out → longAtom k (atomAs names k j) ≡ false
+    unfolding Reads
+    wrong-short p = ap (longAtom k) (wrong-cell p ∙ p .1) ∙ short-blank k
+
+    pub fits-short : Reads names k j Fits out → longAtom k (atomAs names k j) ≡ false
+    unfolding Reads
+    fits-short p = ap (longAtom k) (fits-cell p) ∙ p .1
 
     pub long-cell : Reads names k j Long out → (atomAs names k j ≡ textAtom (string j)) × (24 < length (string j)) × (k ≡ text)
     unfolding Reads atomAs cellOf

@@ -7,8 +7,8 @@ use mathlib.Core.Option.{Option, none, some}
 use lib.ListN.{length}
 use Rattle.model.specs.Json.{Json}
 use Rattle.model.specs.Nav.{kindOf, isText}
-use Rattle.model.specs.Text.{stringIn}
-use Rattle.model.specs.Whole.{wholeOf, isWhole, intOf}
+use Rattle.inner.specs.Positions.{wordIn}
+use Rattle.model.specs.Whole.{wholeOf, isWhole, wholeInt}
 use Rattle.model.specs.Schema.{Base, text}
 use Rattle.model.specs.Value.{blank, intAtom, boolAtom, textAtom}
 use Rattle.model.specs.Written.{Names, boolIn, atomIn, longAtom}
@@ -17,7 +17,7 @@ use Rattle.written.specs.declared.Atom.the-variants.{Wrong, Long, Fits}
 
 -- an integer's atom, a truth value's
 unfoldable pub integerIn : Json → Option (List ℕ)
-integerIn j = elim (isWhole (wholeOf j)) [ true ↦ some (intAtom (intOf (wholeOf j))) | false ↦ none ]
+integerIn j = elim (isWhole (wholeOf j)) [ true ↦ some (intAtom (wholeInt (wholeOf j))) | false ↦ none ]
 
 unfoldable pub booleanIn : Json → Option (List ℕ)
 booleanIn j = elim (boolIn j) [ none ↦ none | some b ↦ some (boolAtom b) ]
@@ -25,8 +25,8 @@ booleanIn j = elim (boolIn j) [ none ↦ none | some b ↦ some (boolAtom b) ]
 -- what reading a string as an atom says: "a string above our limits" is none that fits
 unfoldable pub TextReads : Json → Atom → List ℕ → Type 0
 TextReads j Wrong out = isText (kindOf j) ≡ false
-TextReads j Fits out = (isText (kindOf j) ≡ true) × (out ≡ textAtom (stringIn j)) × (length (stringIn j) < 25)
-TextReads j Long out = (isText (kindOf j) ≡ true) × (24 < length (stringIn j))
+TextReads j Fits out = (isText (kindOf j) ≡ true) × (out ≡ textAtom (wordIn j)) × (length (wordIn j) < 25)
+TextReads j Long out = (isText (kindOf j) ≡ true) × (24 < length (wordIn j))
 
 -- the atom of an element, and the blank one where it is mistyped
 unfoldable pub cellOf : Option (List ℕ) → List ℕ
@@ -44,7 +44,7 @@ atomsOf names k js = map (atomAs names k) js
 unfoldable pub Reads : Names → Base → Json → Atom → List ℕ → Type 0
 Reads names k j Wrong out = (atomIn names k j ≡ none) × (out ≡ blank)
 Reads names k j Fits out = (atomIn names k j ≡ some out) × (longAtom k out ≡ false)
-Reads names k j Long out = (k ≡ text) × (isText (kindOf j) ≡ true) × (24 < length (stringIn j))
+Reads names k j Long out = (k ≡ text) × (isText (kindOf j) ≡ true) × (24 < length (wordIn j))
 
 -- an atom left as it is where it was read, and a blank one where not
 unfoldable pub Told : Bool → List ℕ → Atom → List ℕ → Type 0

@@ -3,17 +3,19 @@ use model::Found;
 use model::Whole;
 use text::Written;
 ghost use mathlib.Core.Path.{_≡_};
-ghost use mathlib.Core.Bool.{true};
+ghost use mathlib.Core.Bool.{true, false};
 ghost use mathlib.Core.List.{_∷_};
 ghost use Prim.Native.Nat.{_≤_};
 ghost use lib.ListN.{length, drop};
 ghost use Rattle.model.specs.Octets.{big, eqBytes};
 ghost use Rattle.model.specs.Base.{any, member};
-ghost use Rattle.model.specs.Nav.{Says, wellAt, treeAt};
-ghost use Rattle.model.specs.Text.{isWord, chars, stringIn};
+ghost use Rattle.inner.specs.Positions.{Says, wellAt, treeAt};
+ghost use Rattle.model.specs.Text.{isWord, chars};
+ghost use Rattle.inner.specs.Positions.{wordIn};
 ghost use Rattle.model.specs.Whole.{isWhole};
-ghost use Rattle.model.specs.Schema.{baseOf};
+ghost use Rattle.inner.specs.Packed.{baseNumbered};
 ghost use Rattle.model.specs.Value.{pad, boolAtom, textAtom};
+ghost use Rattle.model.specs.Written.{longAtom};
 ghost use Rattle.elements.specs.Elements.{elementsFrom, elementsFine};
 ghost use Rattle.uuids.specs.Named.{namesAt, answered, Running};
 ghost use Rattle.written.specs.Atoms.{integerIn, booleanIn, TextReads, Told, atomAs, atomsOf, Reads};
@@ -146,7 +148,7 @@ pub fn atom_at(
 ) -> Atom
     requires { ⌜ Running (now text) (now ends) ops (now fresh) ⌝ }
     requires { ⌜ wellAt (now text) at ≡ true ⌝ }
-    ensures { λ r. ⌜ Reads (namesAt (now (text .entry)) ops (now (fresh .entry))) (baseOf kind) (treeAt (now (text .entry)) at) r (now (out .exit)) ⌝ }
+    ensures { λ r. ⌜ Reads (namesAt (now (text .entry)) ops (now (fresh .entry))) (baseNumbered kind) (treeAt (now (text .entry)) at) r (now (out .exit)) ⌝ }
 {
     if kind == 0 {
         let ok = integer_at(text, ends, at, out);
@@ -168,7 +170,7 @@ pub fn atom_at(
     told(ok, out)
 }
 
-// Whether the element at `at` is the atom x.
+// Whether the element at `at` is the atom x, which no string above 24 bytes is.
 pub fn same_at(
     text: &[u8],
     ends: &[u16],
@@ -180,7 +182,8 @@ pub fn same_at(
 ) -> bool
     requires { ⌜ Running (now text) (now ends) ops (now fresh) ⌝ }
     requires { ⌜ wellAt (now text) at ≡ true ⌝ }
-    ensures { λ r. ⌜ r ≡ eqBytes (now (x .entry)) (atomAs (namesAt (now (text .entry)) ops (now (fresh .entry))) (baseOf kind) (treeAt (now (text .entry)) at)) ⌝ }
+    ensures { λ r. ⌜ r ≡ eqBytes (now (x .entry)) (atomAs (namesAt (now (text .entry)) ops (now (fresh .entry))) (baseNumbered kind) (treeAt (now (text .entry)) at)) ⌝ }
+    ensures { λ r. ⌜ (r ≡ true → longAtom (baseNumbered kind) (atomAs (namesAt (now (text .entry)) ops (now (fresh .entry))) (baseNumbered kind) (treeAt (now (text .entry)) at)) ≡ false) ⌝ }
 {
     let y = &x[..];
     let mut cell = [0u8; 25];
@@ -195,7 +198,7 @@ pub fn same_at(
 // The length in characters of the string at `at`.
 pub fn long_chars(text: &[u8], at: usize) -> usize
     requires { ⌜ length (now text) ≤ 8192 ⌝ }
-    ensures { λ r. ⌜ r ≡ chars (stringIn (treeAt (now (text .entry)) at)) ⌝ }
+    ensures { λ r. ⌜ r ≡ chars (wordIn (treeAt (now (text .entry)) at)) ⌝ }
 {
     let mut buf = [0u8; 8192];
     let p = text::string_at(text, at, &mut buf);
@@ -226,7 +229,7 @@ fn word_among(text: &[u8], ends: &[u16], set: bool, f: Found, word: &[u8]) -> bo
 pub fn long_among(text: &[u8], ends: &[u16], set: bool, f: Found, at: usize) -> bool
     requires { ⌜ Says (now text) (now ends) ⌝ }
     requires { ⌜ length (now text) ≤ 8192 ⌝ }
-    ensures { λ r. ⌜ r ≡ any (isWord (stringIn (treeAt (now (text .entry)) at))) (elementsFrom (now (text .entry)) set f) ⌝ }
+    ensures { λ r. ⌜ r ≡ any (isWord (wordIn (treeAt (now (text .entry)) at))) (elementsFrom (now (text .entry)) set f) ⌝ }
 {
     let mut buf = [0u8; 8192];
     let p = text::string_at(text, at, &mut buf);
@@ -246,7 +249,7 @@ pub fn cell_among(
 ) -> bool
     requires { ⌜ Running (now text) (now ends) ops (now fresh) ⌝ }
     requires { ⌜ elementsFine (now text) set f ≡ true ⌝ }
-    ensures { λ r. ⌜ r ≡ member (now (x .entry)) (atomsOf (namesAt (now (text .entry)) ops (now (fresh .entry))) (baseOf kind) (elementsFrom (now (text .entry)) set f)) ⌝ }
+    ensures { λ r. ⌜ r ≡ member (now (x .entry)) (atomsOf (namesAt (now (text .entry)) ops (now (fresh .entry))) (baseNumbered kind) (elementsFrom (now (text .entry)) set f)) ⌝ }
 {
     let mut g = f;
     loop {

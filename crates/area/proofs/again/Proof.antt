@@ -5,8 +5,8 @@ use native.Mathlib.Omega.{arith}
 use lib.ListN.{drop}
 use Rattle.model.specs.Schema.{Schema}
 use Rattle.model.specs.Rows.{hasId}
-use Rattle.model.specs.Working.{working, idIn}
-use Rattle.model.proofs.Working.{has-id-here, has-id-on, has-id-end}
+use Rattle.inner.specs.Working.{working, idIn}
+use Rattle.inner.proofs.Working.{has-id-here, has-id-on, has-id-end}
 use Rattle.area.proofs.again.Statement.{statement}
 use Rattle.area.proofs.again.Tie as tie
 

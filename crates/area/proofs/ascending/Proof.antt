@@ -6,7 +6,7 @@ use borrow.Author.Tests.{not-true, not-false}
 use lib.ListN.{drop}
 use Rattle.model.specs.Schema.{Schema}
 use Rattle.model.specs.Areas.{ascends}
-use Rattle.model.specs.Working.{working}
+use Rattle.inner.specs.Working.{working}
 use Rattle.area.proofs.Walks.{ascends-on, ascends-off, ascends-end}
 use Rattle.area.proofs.ascending.Statement.{statement}
 use Rattle.area.proofs.ascending.Tie as tie

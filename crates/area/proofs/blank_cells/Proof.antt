@@ -34,7 +34,7 @@ returns c =
     let a = c .before .before .before .before .before .args in
     let l = c .before .before .before .before .loop in
     let t = c .before .before .before .loop-test .taken in
-    sym (l .inv .1 ∙ all-off zeros [] (a .cells .now) (l .i) t (sym (c .before .blank-from .ensures) ∙ not-true _ (c .if1 .taken)))
+    sym (l .inv .1 ∙ all-off zeros [] (a .cells .now) (l .i) t (sym (c .before .blank-from .ensures .0) ∙ not-true _ (c .if1 .taken)))
 
 add-i : tie.Need-add-i Inv-loop μ-loop
 add-i c = omega arith
@@ -47,7 +47,7 @@ loop-again c =
     let a = c .before .before .before .before .before .args in
     let l = c .before .before .before .before .loop in
     let t = c .before .before .before .loop-test .taken in
-    (omega arith, l .inv .1 ∙ all-on zeros [] (a .cells .now) (l .i) t (sym (c .before .blank-from .ensures) ∙ not-false _ (c .if1 .left)))
+    (omega arith, l .inv .1 ∙ all-on zeros [] (a .cells .now) (l .i) t (sym (c .before .blank-from .ensures .0) ∙ not-false _ (c .if1 .left)))
 
 returns-2 : tie.Need-returns-2 Inv-loop μ-loop
 returns-2 c =

@@ -1,6 +1,6 @@
 -- `area::canonical_column` meets its contract. Assumes nothing.
 use mathlib.Core.Path.{refl, _∙_}
-use Rattle.model.specs.Packed.{columnFrom}
+use Rattle.inner.specs.Packed.{columnFrom}
 use Rattle.model.specs.Value.{canonicalFor}
 use borrow.Author.Needs.{needs}
 use Rattle.area.proofs.canonical_column.Statement.{statement}

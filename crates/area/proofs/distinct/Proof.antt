@@ -5,7 +5,7 @@ use native.Mathlib.Omega.{arith}
 use lib.ListN.{drop}
 use Rattle.model.specs.Schema.{Schema}
 use Rattle.model.specs.Areas.{distinctIds}
-use Rattle.model.specs.Working.{working}
+use Rattle.inner.specs.Working.{working}
 use Rattle.area.proofs.Walks.{distinct-on, distinct-off, distinct-end}
 use Rattle.area.proofs.distinct.Statement.{statement}
 use Rattle.area.proofs.distinct.Tie as tie

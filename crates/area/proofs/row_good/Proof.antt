@@ -5,7 +5,7 @@ use Prim.Native.Nat.{ℕ, _<_}
 use native.Mathlib.Omega.{arith}
 use borrow.Author.Tests.{not-true, not-false}
 use lib.ListN.{length, getD}
-use Rattle.model.specs.Working.{tableIn}
+use Rattle.inner.specs.Working.{tableIn}
 use Rattle.area.specs.Layout.{tidyFrom, canonicalFrom, columnCells}
 use Rattle.area.proofs.Schemas.{no-table, no-id, not-tidy, all-good}
 use borrow.Author.Needs.{needs}

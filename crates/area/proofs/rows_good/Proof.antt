@@ -1,7 +1,7 @@
 -- `area::rows_good` meets its contract. Assumes nothing.
 use mathlib.Core.Path.{sym, _∙_}
 use borrow.Author.Tests.{not-true, not-false}
-use Rattle.model.specs.Packed.{tablesIn}
+use Rattle.inner.specs.Packed.{packedTables}
 use Rattle.area.proofs.Schemas.{rows-no, rows-apart, rows-all}
 use borrow.Author.Needs.{needs}
 use Rattle.area.proofs.rows_good.Statement.{statement}
@@ -21,7 +21,7 @@ ascending-requires c κs = search needs
 returns-2 : tie.Need-returns-2
 returns-2 c =
     let a = c .before .before .before .before .args in
-    sym (rows-apart (a .schema .now) (a .n) (a .rows .now) (sym (c .before .ascending .ensures (tablesIn (a .schema .now))) ∙ not-true _ (c .if2 .taken)))
+    sym (rows-apart (a .schema .now) (a .n) (a .rows .now) (sym (c .before .ascending .ensures (packedTables (a .schema .now))) ∙ not-true _ (c .if2 .taken)))
 
 distinct-requires : tie.Need-distinct-requires
 distinct-requires c κs = search needs
@@ -29,9 +29,9 @@ distinct-requires c κs = search needs
 returns-3 : tie.Need-returns-3
 returns-3 c =
     let a = c .before .before .before .before .before .args in
-    c .distinct .ensures (tablesIn (a .schema .now))
+    c .distinct .ensures (packedTables (a .schema .now))
     ∙ sym (rows-all (a .schema .now) (a .n) (a .rows .now) (sym (c .before .before .before .before .each-good .ensures) ∙ not-false _ (c .before .before .before .if1 .left))
-    (sym (c .before .before .ascending .ensures (tablesIn (a .schema .now))) ∙ not-false _ (c .before .if2 .left)))
+    (sym (c .before .before .ascending .ensures (packedTables (a .schema .now))) ∙ not-false _ (c .before .if2 .left)))
 
 pub rows-good-spec : {M : Type 1} → statement M
 rows-good-spec =

@@ -24,7 +24,7 @@ returns : tie.Need-returns
 unfolding tidyFrom
 returns c =
     let a = c .before .before .before .args in
-    sym (ap (λ (b : Bool). b && all zeros (drop (1 + 4 * a .k) (a .row .now))) (sym (c .before .blank-from .ensures) ∙ not-true _ (c .if1 .taken)))
+    sym (ap (λ (b : Bool). b && all zeros (drop (1 + 4 * a .k) (a .row .now))) (sym (c .before .blank-from .ensures .0) ∙ not-true _ (c .if1 .taken)))
 
 mul-blank-cells : tie.Need-mul-blank-cells
 mul-blank-cells c = search needs
@@ -39,7 +39,7 @@ returns-2 : tie.Need-returns-2
 unfolding tidyFrom
 returns-2 c =
     let a = c .before .before .before .before .before .args in
-    c .blank-cells .ensures ∙ sym (ap (λ (b : Bool). b && all zeros (drop (1 + 4 * a .k) (a .row .now))) (sym (c .before .before .before .blank-from .ensures) ∙ not-false _ (c .before .before .if1 .left)))
+    c .blank-cells .ensures ∙ sym (ap (λ (b : Bool). b && all zeros (drop (1 + 4 * a .k) (a .row .now))) (sym (c .before .before .before .blank-from .ensures .0) ∙ not-false _ (c .before .before .if1 .left)))
 
 pub tidy-row-spec : {M : Type 1} → statement M
 tidy-row-spec =

@@ -5,7 +5,7 @@ use Prim.Native.Nat.{ℕ}
 use lib.ListN.{take}
 use Rattle.model.specs.Octets.{value, part}
 use Rattle.octets.proofs.Rests.{mid-rest}
-use Rattle.area.proofs.Writes.{part-lt}
+use Rattle.model.proofs.Octets.{octets, part-lt}
 use borrow.Author.Needs.{needs}
 use Rattle.area.proofs.word_at.Statement.{statement}
 use Rattle.area.proofs.word_at.Tie as tie
@@ -29,7 +29,7 @@ cast-result : tie.Need-cast-result
 cast-result c =
     let s = c .before .before .before in
     let k = c .before .before .shared-slice-known .given in
-    record { fits = rw (read c) (part-lt (s .args .area .now) (s .args .at) 4 (s .pre) (λ i. k i .fits)) }
+    record { fits = rw (read c) (part-lt (s .args .at) 4 (s .args .area .now) (octets (s .args .area .now) (λ i. k i .fits))) }
 
 returns : tie.Need-returns
 returns c = read c

@@ -5,12 +5,12 @@ use Prim.Native.Nat.{ℕ}
 use native.Mathlib.Omega.{arith}
 use borrow.Author.Needs.{needs}
 use lib.ListN.{length}
-use Rattle.model.proofs.Working.{working-length}
+use Rattle.inner.proofs.Working.{working-length}
 use Rattle.model.specs.Octets.{value}
-use Rattle.model.specs.Packed.{tablesIn}
+use Rattle.inner.specs.Packed.{packedTables}
 use Rattle.model.specs.Records.{known}
 use Rattle.model.specs.Rows.{keyOf, has}
-use Rattle.model.specs.Working.{working}
+use Rattle.inner.specs.Working.{working}
 use Rattle.record.proofs.Listings.{born-size, gone-size, column-size}
 use Rattle.record.specs.Reading.{idIn, arrivalRecord}
 use Rattle.arrival.specs.Steps.{actRecord}
@@ -33,12 +33,12 @@ born-requires c κs =
     let a = s .args in
     let e = k .arrival .given .1 in
     let r = k .arrival .given .0 .0 in
-    let rows = working (tablesIn (a .schema .now)) (a .count) (a .rows .now) in
+    let rows = working (packedTables (a .schema .now)) (a .count) (a .rows .now) in
     let p = c .before .before .id-of .ensures in (
       s .pre .0,
       (
-        (omega (arith, born-room (a .schema .now) (s .pre .0) (a .arrival) (a .bytes .now) rows (s .pre .1 .1 .1) r e, working-length (tablesIn (a .schema .now)) (a .rows .now) (a .count) (omega (arith, s .pre .1 .0))), s .pre .1 .0 .room),
-        ap (λ (l : List ℕ). known (tablesIn (a .schema .now)) (r .table) (value l)) p ∙ born-known (a .schema .now) (s .pre .0) (a .arrival) (a .bytes .now) rows (s .pre .1 .1 .1) r e,
+        (omega (arith, born-room (a .schema .now) (s .pre .0) (a .arrival) (a .bytes .now) rows (s .pre .1 .1 .1) r e, working-length (packedTables (a .schema .now)) (a .rows .now) (a .count) (omega (arith, s .pre .1 .0))), s .pre .1 .0 .room),
+        ap (λ (l : List ℕ). known (packedTables (a .schema .now)) (r .table) (value l)) p ∙ born-known (a .schema .now) (s .pre .0) (a .arrival) (a .bytes .now) rows (s .pre .1 .1 .1) r e,
       ),
     )
 
@@ -61,7 +61,7 @@ sub-result c =
     let k = c .before .before .before .before .before .before in
     let s = k .before .before .before in
     let a = s .args in
-    omega (arith, gone-some (a .schema .now) (s .pre .0) (a .arrival) (a .bytes .now) (working (tablesIn (a .schema .now)) (a .count) (a .rows .now)) (s .pre .1 .1 .1) (k .arrival2 .given .0 .0) (k .arrival2 .given .1), working-length (tablesIn (a .schema .now)) (a .rows .now) (a .count) (omega (arith, s .pre .1 .0)))
+    omega (arith, gone-some (a .schema .now) (s .pre .0) (a .arrival) (a .bytes .now) (working (packedTables (a .schema .now)) (a .count) (a .rows .now)) (s .pre .1 .1 .1) (k .arrival2 .given .0 .0) (k .arrival2 .given .1), working-length (packedTables (a .schema .now)) (a .rows .now) (a .count) (omega (arith, s .pre .1 .0)))
 
 enum-known-arrival-3 : tie.Need-enum-known-arrival-3
 enum-known-arrival-3 c = search needs
@@ -86,7 +86,7 @@ set-requires c κs =
     let a = s .args in
     let e = k .arrival3 .given .1 in
     let r = k .arrival3 .given .0 .0 in
-    let rows = working (tablesIn (a .schema .now)) (a .count) (a .rows .now) in
+    let rows = working (packedTables (a .schema .now)) (a .count) (a .rows .now) in
     let w = s .pre .1 .1 .1 in (
       s .pre .1 .0,
       omega (arith, c .before .wide .ensures, column-here (a .schema .now) (s .pre .0) (a .arrival) (a .bytes .now) rows w r e, narrow (a .schema .now) (s .pre .0) (r .table) (value (idIn (a .bytes .now))) (column-known (a .schema .now) (s .pre .0) (a .arrival) (a .bytes .now) rows w r e)),
@@ -109,7 +109,7 @@ returns c =
     let k = c .before .before .before .before .before .before in
     let s = k .before .before .before in
     let a = s .args in
-    let t = tablesIn (a .schema .now) in
+    let t = packedTables (a .schema .now) in
     let rows = working t (a .count) (a .rows .now) in
     left-as t _ _ (a .count) (a .rows .now) _ (c .before .born .last .1 .0) (acts-born t (a .arrival) (a .bytes .now) rows _ (c .before .before .before .before .id-of .ensures) (k .arrival .given .0 .0) (k .arrival .given .1)) (c .before .born .ensures)
 
@@ -121,7 +121,7 @@ returns-2 c =
     let k = c .before .before .before .before .before .before in
     let s = k .before .before .before in
     let a = s .args in
-    let t = tablesIn (a .schema .now) in
+    let t = packedTables (a .schema .now) in
     let rows = working t (a .count) (a .rows .now) in
     let e = k .arrival2 .given .1 in
     let r = k .arrival2 .given .0 .0 in
@@ -137,7 +137,7 @@ returns-3 c =
     let k = c .before .before .before .before .before .before .before .before .before in
     let s = k .before .before .before in
     let a = s .args in
-    let t = tablesIn (a .schema .now) in
+    let t = packedTables (a .schema .now) in
     let rows = working t (a .count) (a .rows .now) in
     let e = k .arrival3 .given .1 in
     let r = k .arrival3 .given .0 .0 in

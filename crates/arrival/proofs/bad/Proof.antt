@@ -4,8 +4,8 @@ use mathlib.Core.Path.{sym, ap, _∙_}
 use Prim.Native.Nat.{_-_}
 use borrow.Author.Needs.{needs}
 use borrow.Author.Tests.{not-true, not-false}
-use Rattle.model.specs.Packed.{tablesIn}
-use Rattle.model.specs.Working.{working}
+use Rattle.inner.specs.Packed.{packedTables}
+use Rattle.inner.specs.Working.{working}
 use Rattle.record.specs.Reading.{arrivalRecord}
 use Rattle.arrival.specs.declared.Head.{Head}
 use Rattle.arrival.proofs.Answers.{bad-unsound, bad-mark, bad-zero, bad-later, bad-next}
@@ -19,7 +19,7 @@ returns : tie.Need-returns
 returns c =
     let s = c .before .before .before in
     let a = s .args in
-    sym (bad-unsound (tablesIn (a .schema .now)) (a .n) (working (tablesIn (a .schema .now)) (a .count) (a .rows .now)) (arrivalRecord (a .arrival) (a .bytes .now)) (sym (c .before .sound .ensures) ∙ not-true _ (c .if1 .taken)))
+    sym (bad-unsound (packedTables (a .schema .now)) (a .n) (working (packedTables (a .schema .now)) (a .count) (a .rows .now)) (arrivalRecord (a .arrival) (a .bytes .now)) (sym (c .before .sound .ensures) ∙ not-true _ (c .if1 .taken)))
 
 head-of-requires : tie.Need-head-of-requires
 head-of-requires c κs = search needs
@@ -29,7 +29,7 @@ returns-2 c =
     let k = c .before in
     let s = k .before .before .before .before in
     let a = s .args in
-    sym (bad-mark (tablesIn (a .schema .now)) (a .n) (working (tablesIn (a .schema .now)) (a .count) (a .rows .now)) (arrivalRecord (a .arrival) (a .bytes .now)) (sym (ap (λ (h : Head). h .marks) (k .head-of .ensures (a .bytes .now))) ∙ c .if2 .taken))
+    sym (bad-mark (packedTables (a .schema .now)) (a .n) (working (packedTables (a .schema .now)) (a .count) (a .rows .now)) (arrivalRecord (a .arrival) (a .bytes .now)) (sym (ap (λ (h : Head). h .marks) (k .head-of .ensures (a .bytes .now))) ∙ c .if2 .taken))
 
 returns-3 : tie.Need-returns-3
 returns-3 c =
@@ -37,7 +37,7 @@ returns-3 c =
     let s = k .before .before .before .before in
     let a = s .args in
     let e = k .head-of .ensures (a .bytes .now) in
-    sym (bad-zero (tablesIn (a .schema .now)) (a .n) (working (tablesIn (a .schema .now)) (a .count) (a .rows .now)) (arrivalRecord (a .arrival) (a .bytes .now))
+    sym (bad-zero (packedTables (a .schema .now)) (a .n) (working (packedTables (a .schema .now)) (a .count) (a .rows .now)) (arrivalRecord (a .arrival) (a .bytes .now))
     (sym (ap (λ (h : Head). h .marks) e) ∙ c .before .if2 .left) (sym (ap (λ (h : Head). h .number) e) ∙ c .if3 .taken))
 
 sub-if4 : tie.Need-sub-if4
@@ -49,7 +49,7 @@ returns-4 c =
     let s = k .before .before .before .before in
     let a = s .args in
     let e = k .head-of .ensures (a .bytes .now) in
-    sym (bad-later (tablesIn (a .schema .now)) (a .n) (working (tablesIn (a .schema .now)) (a .count) (a .rows .now)) (arrivalRecord (a .arrival) (a .bytes .now))
+    sym (bad-later (packedTables (a .schema .now)) (a .n) (working (packedTables (a .schema .now)) (a .count) (a .rows .now)) (arrivalRecord (a .arrival) (a .bytes .now))
     (sym (k .before .before .sound .ensures) ∙ not-false _ (k .before .if1 .left))
     (sym (ap (λ (h : Head). h .marks) e) ∙ c .before .before .if2 .left)
     (λ z. c .before .if3 .left (ap (λ (h : Head). h .number) e ∙ z))
@@ -64,7 +64,7 @@ returns-5 c =
     let s = k .before .before .before .before in
     let a = s .args in
     let e = k .head-of .ensures (a .bytes .now) in
-    let t = tablesIn (a .schema .now) in
+    let t = packedTables (a .schema .now) in
     ap not (c .fits2 .ensures t)
     ∙ sym (bad-next t (a .n) (working t (a .count) (a .rows .now)) (arrivalRecord (a .arrival) (a .bytes .now))
     (sym (k .before .before .sound .ensures) ∙ not-false _ (k .before .if1 .left))

@@ -4,9 +4,9 @@ use Prim.Native.Nat.{ℕ}
 use native.Mathlib.Omega.{arith}
 use borrow.Author.Needs.{needs}
 use Rattle.model.specs.Octets.{value}
-use Rattle.model.specs.Packed.{tablesIn}
+use Rattle.inner.specs.Packed.{packedTables}
 use Rattle.model.specs.Schema.{columnsOf}
-use Rattle.model.specs.Working.{minimums}
+use Rattle.inner.specs.Working.{minimums}
 use Rattle.arrival.proofs.Doing.{known-here, narrow, added-left}
 use Rattle.arrival.proofs.born.Statement.{statement}
 use Rattle.arrival.proofs.born.Tie as tie
@@ -38,7 +38,7 @@ returns c =
     let k = s .pre .1 .1 in
     let f = narrow x (s .pre .0) (a .table) (value (a .id .now)) k in
     added-left x (s .pre .0) (a .table) (value (a .id .now)) k (a .count) (a .rows .now) (c .before .add .last .0) (n .new-row .result) (omega (arith, s .pre .1 .0))
-    (n .new-row .ensures (columnsOf (tablesIn x) (a .table)) f (m .minimums-of .ensures ∙ ap (λ (t : ℕ). minimums (columnsOf (tablesIn x) t)) (m .before .wide .ensures)))
+    (n .new-row .ensures .0 (columnsOf (packedTables x) (a .table)) f (m .minimums-of .ensures ∙ ap (λ (t : ℕ). minimums (columnsOf (packedTables x) t)) (m .before .wide .ensures)))
     (c .before .add .ensures)
 
 pub born-spec : {M : Type 1} → statement M

@@ -5,7 +5,7 @@ use Prim.Native.Nat.{_+_, _*_}
 use native.Mathlib.Omega.{arith}
 use borrow.Author.Needs.{needs}
 use lib.ListN.{length, getD}
-use Rattle.model.specs.Packed.{columnFrom}
+use Rattle.inner.specs.Packed.{columnFrom}
 use Rattle.model.specs.Value.{canonicalFor}
 use Rattle.record.proofs.Listings.{column-size}
 use Rattle.record.specs.Reading.{arrivalRecord, canonicalIn}

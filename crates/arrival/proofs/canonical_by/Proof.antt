@@ -1,7 +1,7 @@
 -- `arrival::canonical_by` meets its contract. Assumes nothing.
 use mathlib.Core.Path.{refl}
 use borrow.Author.Needs.{needs}
-use Rattle.model.specs.Packed.{columnFrom}
+use Rattle.inner.specs.Packed.{columnFrom}
 use Rattle.arrival.proofs.canonical_by.Statement.{statement}
 use Rattle.arrival.proofs.canonical_by.Tie as tie
 

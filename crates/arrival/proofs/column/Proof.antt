@@ -5,12 +5,12 @@ use Prim.Native.Nat.{ℕ}
 use native.Mathlib.Omega.{arith}
 use borrow.Author.Needs.{needs}
 use lib.ListN.{getD, replicate}
-use Rattle.model.proofs.Places.{place-at, place-none}
-use Rattle.model.proofs.Working.{working-length}
+use Rattle.inner.proofs.Places.{place-at, place-none}
+use Rattle.inner.proofs.Working.{working-length}
 use Rattle.model.specs.Octets.{value}
-use Rattle.model.specs.Packed.{tablesIn}
+use Rattle.inner.specs.Packed.{packedTables}
 use Rattle.model.specs.Rows.{keyOf}
-use Rattle.model.specs.Working.{working}
+use Rattle.inner.specs.Working.{working}
 use Rattle.arrival.specs.Steps.{columnIn}
 use Rattle.arrival.proofs.Changes.{found-column, no-row-column}
 use Rattle.arrival.proofs.column.Statement.{statement}
@@ -58,7 +58,7 @@ returns c =
     let k = c .before .before .before .before .before .before .before in
     let s = k .before .before .before .before .before in
     let a = s .args in
-    let t = tablesIn (a .schema .now) in
+    let t = packedTables (a .schema .now) in
     let i = k .found .given .0 .0 in
     let w = place-at (keyOf (a .table) (value (a .id .now))) (working t (a .count) (a .rows .now)) i (sym (k .before .before .find .ensures t) ∙ k .found .given .1) in
     c .before .before .put-column .ensures
@@ -73,7 +73,7 @@ returns-2 c =
     let k = c .before .before .before .before in
     let s = k .before .before .before .before .before in
     let a = s .args in
-    let t = tablesIn (a .schema .now) in
+    let t = packedTables (a .schema .now) in
     c .before .before .clear .ensures
     ∙ ap (λ (n : ℕ). replicate n 0) (s .pre .1 .1)
     ∙ sym (no-row-column (working t (a .count) (a .rows .now)) (a .table) (value (a .id .now)) (a .c) (place-none (keyOf (a .table) (value (a .id .now))) (working t (a .count) (a .rows .now)) (sym (k .before .before .find .ensures t) ∙ k .enum-told .given .1)))

@@ -7,7 +7,7 @@ use borrow.Author.Needs.{needs}
 use lib.ListN.{length}
 use Rattle.model.specs.Octets.{value}
 use Rattle.model.specs.Rows.{keyOf, has, hasId}
-use Rattle.model.specs.Working.{working}
+use Rattle.inner.specs.Working.{working}
 use Rattle.record.proofs.Listings.{born-size, gone-size, column-size}
 use Rattle.record.specs.Reading.{arrivalRecord}
 use Rattle.arrival.specs.Steps.{fitsRecord}

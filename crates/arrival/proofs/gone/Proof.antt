@@ -3,12 +3,12 @@ use mathlib.Core.List.{[]}
 use mathlib.Core.Path.{sym, _∙_}
 use native.Mathlib.Omega.{arith}
 use borrow.Author.Needs.{needs}
-use Rattle.model.proofs.Places.{place-at, place-none}
+use Rattle.inner.proofs.Places.{place-at, place-none}
 use Rattle.model.proofs.Tests.{clash}
-use Rattle.model.proofs.Working.{working-length}
+use Rattle.inner.proofs.Working.{working-length}
 use Rattle.model.specs.Octets.{value}
 use Rattle.model.specs.Rows.{keyOf, has}
-use Rattle.model.specs.Working.{working}
+use Rattle.inner.specs.Working.{working}
 use Rattle.arrival.proofs.gone.Statement.{statement}
 use Rattle.arrival.proofs.gone.Tie as tie
 

@@ -5,7 +5,7 @@ use Prim.Native.Nat.{ℕ, _+_, _*_, _≤_, _-_}
 use native.Mathlib.Omega.{arith}
 use borrow.Author.Needs.{needs}
 use lib.ListN.{set, getD, take, replicate}
-use Rattle.model.specs.Packed.{tablesIn}
+use Rattle.inner.specs.Packed.{packedTables}
 use Rattle.model.specs.Schema.{Column, columnsOf}
 use Rattle.arrival.proofs.Changes.{fill-more, fill-minimums}
 use Rattle.arrival.proofs.Records.{mins, mins-count, mins-at}
@@ -13,7 +13,7 @@ use Rattle.arrival.proofs.minimums_of.Statement.{statement}
 use Rattle.arrival.proofs.minimums_of.Tie as tie
 
 abbrev Inv-loop : tie.InvT-loop
-Inv-loop schema t k mins₀ c₀ mins c = (c ≤ k) × (mins ≡ take c (map (λ (x : Column). x .min) (columnsOf (tablesIn schema) t)) ++ replicate (6 - c) 0)
+Inv-loop schema t k mins₀ c₀ mins c = (c ≤ k) × (mins ≡ take c (map (λ (x : Column). x .min) (columnsOf (packedTables schema) t)) ++ replicate (6 - c) 0)
 
 abbrev μ-loop : tie.MeasureT-loop
 μ-loop schema t k mins₀ c₀ mins c = k - c
@@ -94,7 +94,7 @@ returns c =
     let s = c .before .before .before .before in
     let x = s .args .schema .now in
     c .before .loop .inv .1
-    ∙ fill-minimums (columnsOf (tablesIn x) (s .args .t)) (c .before .loop .c) (omega (arith, c .before .before .wide .ensures, mins-count x (s .pre .0) (s .args .t) (s .pre .1)))
+    ∙ fill-minimums (columnsOf (packedTables x) (s .args .t)) (c .before .loop .c) (omega (arith, c .before .before .wide .ensures, mins-count x (s .pre .0) (s .args .t) (s .pre .1)))
 
 pub minimums-of-spec : {M : Type 1} → statement M
 minimums-of-spec =

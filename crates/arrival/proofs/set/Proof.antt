@@ -3,12 +3,12 @@ use mathlib.Core.List.{[]}
 use mathlib.Core.Path.{sym, _∙_}
 use native.Mathlib.Omega.{arith}
 use borrow.Author.Needs.{needs}
-use Rattle.model.proofs.Places.{place-at, place-none}
-use Rattle.model.proofs.Working.{working-length}
+use Rattle.inner.proofs.Places.{place-at, place-none}
+use Rattle.inner.proofs.Working.{working-length}
 use Rattle.model.specs.Octets.{value}
 use Rattle.model.specs.Rows.{keyOf}
 use Rattle.model.specs.Value.{Value}
-use Rattle.model.specs.Working.{working}
+use Rattle.inner.specs.Working.{working}
 use Rattle.arrival.proofs.Changes.{set-left}
 use Rattle.arrival.proofs.set.Statement.{statement}
 use Rattle.arrival.proofs.set.Tie as tie

@@ -4,7 +4,7 @@ use native.Mathlib.Omega.{arith}
 use lib.ListN.{drop}
 use lib.Seq.{take-take}
 use Rattle.model.specs.Octets.{value}
-use Rattle.area.proofs.Writes.{part-lt}
+use Rattle.model.proofs.Octets.{octets, part-lt}
 use borrow.Author.Needs.{needs}
 use Rattle.arrivals.proofs.start.Statement.{statement}
 use Rattle.arrivals.proofs.start.Tie as tie
@@ -28,7 +28,7 @@ cast-run : tie.Need-cast-run
 cast-run c =
     let k = c .before .before .before in
     let call = k .before .before .args .call .now in
-    record { fits = rw (c .number .ensures ∙ ap value (take-take 4 4 (drop 1 call) (omega arith))) (part-lt call 1 4 (omega arith) (λ i. k .shared-slice-known .given i .fits)) }
+    record { fits = rw (c .number .ensures ∙ ap value (take-take 4 4 (drop 1 call) (omega arith))) (part-lt 1 4 call (octets call (λ i. k .shared-slice-known .given i .fits))) }
 
 sub-start : tie.Need-sub-start
 sub-start c = search needs

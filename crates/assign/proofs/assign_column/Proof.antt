@@ -1,7 +1,7 @@
 -- `assign::assign_column` meets its contract. Assumes nothing.
-use Rattle.model.specs.Nav.{treeAt}
+use Rattle.inner.specs.Positions.{treeAt}
 use Rattle.model.specs.Members.{membersIn}
-use Rattle.model.specs.Packed.{columnFrom}
+use Rattle.inner.specs.Packed.{columnFrom}
 use Rattle.uuids.specs.Named.{namesAt}
 use native.Mathlib.Omega.{arith}
 use Rattle.judged.proofs.Fits.{row-fits}

@@ -3,9 +3,9 @@ use mathlib.Core.List.{map}
 use Prim.Native.Nat.{_-_, _≤_}
 use native.Mathlib.Omega.{arith}
 use lib.ListN.{length}
-use Rattle.model.specs.Nav.{treeAt}
+use Rattle.inner.specs.Positions.{treeAt}
 use Rattle.model.specs.Members.{membersIn}
-use Rattle.model.specs.Packed.{columnFrom}
+use Rattle.inner.specs.Packed.{columnFrom}
 use Rattle.uuids.specs.Named.{namesAt}
 use Rattle.assign.specs.Assigned.{valuesFor}
 use Rattle.assign.proofs.Values.{values-length, values-at, sound-at}

@@ -1,7 +1,7 @@
 -- `assign::column_fault` meets its contract. Assumes nothing.
-use Rattle.model.specs.Nav.{treeAt}
+use Rattle.inner.specs.Positions.{treeAt}
 use Rattle.model.specs.Members.{membersIn}
-use Rattle.model.specs.Packed.{columnFrom}
+use Rattle.inner.specs.Packed.{columnFrom}
 use Rattle.uuids.specs.Named.{namesAt}
 use Rattle.assign.proofs.Faults.{find-there, find-missing, fault-named, fault-absent}
 use borrow.Author.Needs.{needs}

@@ -5,9 +5,9 @@ use mathlib.Core.List.{map}
 use Prim.Native.Nat.{ℕ, _≤_}
 use native.Mathlib.Omega.{arith}
 use lib.ListN.{length, drop}
-use Rattle.model.specs.Nav.{treeAt}
+use Rattle.inner.specs.Positions.{treeAt}
 use Rattle.model.specs.Members.{membersIn}
-use Rattle.model.specs.Packed.{columnFrom}
+use Rattle.inner.specs.Packed.{columnFrom}
 use Rattle.uuids.specs.Named.{namesAt}
 use Rattle.assign.specs.Assigned.{faultsOf}
 use Rattle.assign.proofs.Faults.{faults-none, faults-more}

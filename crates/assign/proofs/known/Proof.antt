@@ -1,9 +1,9 @@
 -- `assign::known` meets its contract. Assumes nothing.
 use borrow.Author.Needs.{needs}
 use mathlib.Core.List.{map}
-use Rattle.model.specs.Nav.{treeAt, left}
+use Rattle.inner.specs.Positions.{treeAt, left}
 use Rattle.model.specs.Members.{membersIn}
-use Rattle.model.specs.Packed.{columnFrom}
+use Rattle.inner.specs.Packed.{columnFrom}
 use Rattle.nav.proofs.Walk.{pass-less}
 use Rattle.assign.proofs.Faults.{Knows, knows-start, knows-on, knows-not, knows-end}
 use Rattle.assign.proofs.known.Statement.{statement}

@@ -3,15 +3,16 @@ use mathlib.Core.Path.{_≡_, refl, sym, ap, _∙_}
 use Prim.Native.Nat.{ℕ, _+_, _-_, _≤_}
 use native.Mathlib.Omega.{arith}
 use borrow.Author.Tests.{not-true, not-false}
+use mathlib.Core.List.{[]}
 use lib.ListN.{length, drop, getD}
 use Rattle.model.specs.Value.{isUtf8, utf8From}
-use Rattle.atom.specs.Bytes.{lowAfter, highAfter}
+use Rattle.atom.specs.Bytes.{dueRanges, lowAfter, highAfter}
 use Rattle.atom.proofs.Texts.{utf8-on, utf8-off, utf8-end}
 use Rattle.atom.proofs.is_utf8.Statement.{statement}
 use Rattle.atom.proofs.is_utf8.Tie as tie
 
 abbrev Inv-loop : tie.InvT-loop
-Inv-loop t due₀ low₀ high₀ i₀ due low high i = (i ≤ length t) × (utf8From 0 0 0 t ≡ utf8From due low high (drop i t))
+Inv-loop t due₀ low₀ high₀ i₀ due low high i = (i ≤ length t) × (utf8From [] t ≡ utf8From (dueRanges due low high) (drop i t))
 
 abbrev μ-loop : tie.MeasureT-loop
 μ-loop t due₀ low₀ high₀ i₀ due low high i = length t - i
@@ -55,9 +56,9 @@ loop-again c =
     let b = getD t (l .i) 0 in (
       omega arith,
       l .inv .1 ∙ utf8-on t (l .i) (l .due) (l .low) (l .high) (omega arith) (sym (e .before .fits2 .ensures) ∙ not-false _ (e .if1 .left))
-          ∙ ap (λ (n : ℕ). utf8From n (lowAfter (l .due) b) (highAfter (l .due) b) (drop (l .i + 1) t)) (sym (c .due-after .ensures))
-          ∙ ap (λ (n : ℕ). utf8From (c .due-after .result) n (highAfter (l .due) b) (drop (l .i + 1) t)) (sym (c .before .before .low-after .ensures))
-          ∙ ap (λ (n : ℕ). utf8From (c .due-after .result) (c .before .before .low-after .result) n (drop (l .i + 1) t)) (sym (c .before .high-after .ensures)),
+          ∙ ap (λ (n : ℕ). utf8From (dueRanges n (lowAfter (l .due) b) (highAfter (l .due) b)) (drop (l .i + 1) t)) (sym (c .due-after .ensures))
+          ∙ ap (λ (n : ℕ). utf8From (dueRanges (c .due-after .result) n (highAfter (l .due) b)) (drop (l .i + 1) t)) (sym (c .before .before .low-after .ensures))
+          ∙ ap (λ (n : ℕ). utf8From (dueRanges (c .due-after .result) (c .before .before .low-after .result) n) (drop (l .i + 1) t)) (sym (c .before .high-after .ensures)),
     )
 
 returns-2 : tie.Need-returns-2 Inv-loop μ-loop

@@ -1,6 +1,6 @@
 -- `atom::second_high` meets its contract. Assumes nothing.
 use borrow.Author.Tests.{ne-eqb, eq-eqb}
-use Rattle.model.specs.Strings.{secondHigh}
+use Rattle.atom.specs.Bytes.{secondHigh}
 use Rattle.atom.proofs.second_high.Statement.{statement}
 use Rattle.atom.proofs.second_high.Tie as tie
 

@@ -1,6 +1,6 @@
 -- `atom::second_low` meets its contract. Assumes nothing.
 use borrow.Author.Tests.{ne-eqb, eq-eqb}
-use Rattle.model.specs.Strings.{secondLow}
+use Rattle.atom.specs.Bytes.{secondLow}
 use Rattle.atom.proofs.second_low.Statement.{statement}
 use Rattle.atom.proofs.second_low.Tie as tie
 

@@ -3,6 +3,8 @@ use mathlib.Core.Path.{ap}
 use mathlib.Core.Bool.{_&&_}
 use lib.Dec.{ltb}
 use lib.ListN.{getD}
+use native.Mathlib.Omega.{arith}
+use Rattle.atom.proofs.Typed.{typed-atom}
 use borrow.Author.Needs.{needs}
 use Rattle.atom.proofs.well_boolean.Statement.{statement}
 use Rattle.atom.proofs.well_boolean.Tie as tie
@@ -14,7 +16,9 @@ element-copy-out-result : tie.Need-element-copy-out-result
 element-copy-out-result c = search needs
 
 returns : tie.Need-returns
-returns c = ap (λ b. ltb (getD (c .before .before .args .a .now) 0 0) 2 && b) (c .before .blank-from .ensures)
+returns c =
+    let a = c .before .before .args .a .now in
+    (ap (λ b. ltb (getD a 0 0) 2 && b) (c .before .blank-from .ensures .0), λ _. typed-atom 1 a (c .before .blank-from .ensures .1) (omega arith))
 
 pub well-boolean-spec : {M : Type 1} → statement M
 well-boolean-spec = tie.close (tie.spec blank-from-requires element-copy-out-result returns)

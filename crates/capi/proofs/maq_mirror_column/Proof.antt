@@ -28,8 +28,8 @@ returns c =
     let s = k .before .before in
     let a = s .before .before .before .before .args in
     let p =
-    column-by (a .area .now) (a .table) (a .id .now) (a .column) (a .out .now) (s .before .small .result) (s .small2 .result) _ (s .before .small .ensures) (s .small2 .ensures) (k .column .ensures) in
-    (c .number .ensures ∙ ap (λ (q : Contents). numberOf (q .answer)) (sym p), ap (λ (q : Contents). q .out) (sym p))
+    column-by (a .area .now) (a .table) (a .id .now) (a .column) (a .out .now) (s .before .small .result) (s .small2 .result) _ (s .before .small .ensures) (s .small2 .ensures) (k .column .ensures .1) in
+    (c .number .ensures ∙ k .column .ensures .0, (c .number .ensures ∙ ap (λ (q : Contents). numberOf (q .answer)) (sym p), ap (λ (q : Contents). q .out) (sym p)))
 
 pub maq-mirror-column-spec : {M : Type 1} → statement M
 maq-mirror-column-spec =

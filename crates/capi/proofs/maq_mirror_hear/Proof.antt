@@ -18,7 +18,7 @@ same-length c = search needs
 returns : tie.Need-returns
 returns c =
     let p = c .before .before .before .hear .ensures in
-    (c .number .ensures ∙ ap (λ (q : Arrived). numberOf (q .answer)) (sym p), ap (λ (q : Arrived). q .area) (sym p))
+    (c .number .ensures ∙ p .0, (c .number .ensures ∙ ap (λ (q : Arrived). numberOf (q .answer)) (sym (p .1)), ap (λ (q : Arrived). q .area) (sym (p .1))))
 
 pub maq-mirror-hear-spec : {M : Type 1} → statement M
 maq-mirror-hear-spec = tie.close (tie.spec hear-requires number-requires same-length returns)

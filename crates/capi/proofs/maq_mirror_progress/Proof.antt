@@ -6,7 +6,7 @@ use native.Mathlib.Omega.{arith}
 use lib.ListN.{length, length-set}
 use Rattle.model.specs.Octets.{big}
 use Rattle.model.specs.Areas.{bit}
-use Rattle.capi.proofs.Telling.{last-byte, progress-other, progress-told}
+use Rattle.capi.proofs.Telling.{progress-numbered, last-byte, progress-other, progress-told}
 use borrow.Author.Needs.{needs}
 use Rattle.capi.proofs.maq_mirror_progress.Statement.{statement}
 use Rattle.capi.proofs.maq_mirror_progress.Tie as tie
@@ -22,7 +22,7 @@ returns c =
     let k = c .before .before in
     let t = k .before .before in
     let a = t .before .before .before .args in
-    progress-other (a .area .now) (a .out .now) (k .clear .last .0) (t .if1 .taken) (k .clear .ensures)
+    progress-numbered (a .area .now) (a .out .now) (progress-other (a .area .now) (a .out .now) (k .clear .last .0) (t .if1 .taken) (k .clear .ensures))
 
 progress-requires : tie.Need-progress-requires
 progress-requires c κs = search needs
@@ -64,7 +64,7 @@ returns-2 c =
     let p = c .before .before .before .before .before .before .before in
     let e = p .before in
     let a = e .before .before .before .args in
-    progress-told (a .area .now) (a .out .now) _ _ (c .number .result) (p .progress .ensures) (e .if1 .left) (c .number .ensures) (bytes-are c)
+    progress-numbered (a .area .now) (a .out .now) (progress-told (a .area .now) (a .out .now) _ _ (c .number .result) (p .progress .ensures .1) (e .if1 .left) (c .number .ensures) (bytes-are c))
 
 pub maq-mirror-progress-spec : {M : Type 1} → statement M
 maq-mirror-progress-spec =

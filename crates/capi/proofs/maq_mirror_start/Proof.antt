@@ -18,7 +18,7 @@ same-length c = search needs
 returns : tie.Need-returns
 returns c =
     let p = c .before .before .before .start .ensures in
-    (c .number .ensures ∙ ap (λ (q : Started). numberOf (q .answer)) (sym p), ap (λ (q : Started). q .area) (sym p))
+    (c .number .ensures ∙ p .0, (c .number .ensures ∙ ap (λ (q : Started). numberOf (q .answer)) (sym (p .1)), ap (λ (q : Started). q .area) (sym (p .1))))
 
 pub maq-mirror-start-spec : {M : Type 1} → statement M
 maq-mirror-start-spec = tie.close (tie.spec start-requires number-requires same-length returns)

@@ -23,7 +23,7 @@ same-length-3 c = search needs
 returns : tie.Need-returns
 returns c =
     let p = c .before .before .before .before .before .before .before .transact .ensures in
-    (c .number .ensures ∙ ap numberOf (p .0), p .1)
+    (c .number .ensures ∙ p .0, (c .number .ensures ∙ ap numberOf (p .1 .0), p .1 .1))
 
 pub maq-store-transact-spec : {M : Type 1} → statement M
 maq-store-transact-spec =

@@ -4,7 +4,7 @@ use mathlib.Core.List.{_++_, append-nil}
 use Prim.Native.Nat.{ℕ}
 use lib.ListN.{drop, replicate}
 use Rattle.model.specs.Octets.{value}
-use Rattle.model.specs.Working.{idIn}
+use Rattle.inner.specs.Working.{idIn}
 use borrow.Author.Needs.{needs}
 use Rattle.changes.proofs.id_at.Statement.{statement}
 use Rattle.changes.proofs.id_at.Tie as tie

@@ -1,7 +1,7 @@
 -- `changes::is_left` meets its contract. Assumes nothing.
 use mathlib.Core.Path.{sym, ap, _∙_}
 use mathlib.Core.Bool.{Bool}
-use Rattle.model.specs.Working.{valueIn}
+use Rattle.inner.specs.Working.{valueIn}
 use Rattle.changes.specs.Walk.{skips}
 use borrow.Author.Needs.{needs}
 use Rattle.changes.proofs.is_left.Statement.{statement}

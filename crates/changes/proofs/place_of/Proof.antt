@@ -1,7 +1,7 @@
 -- `changes::place_of` meets its contract. Assumes nothing.
 use mathlib.Core.Path.{_∙_}
 use Rattle.model.specs.Rows.{keyOf}
-use Rattle.model.specs.Working.{working, keyIn, place}
+use Rattle.inner.specs.Working.{working, keyIn, place}
 use borrow.Author.Needs.{needs}
 use Rattle.changes.proofs.place_of.Statement.{statement}
 use Rattle.changes.proofs.place_of.Tie as tie

@@ -3,7 +3,7 @@ use mathlib.Core.Path.{_≡_, ap, _∙_}
 use native.Mathlib.Omega.{arith}
 use Rattle.model.specs.Octets.{value}
 use Rattle.model.specs.Records.{born, numbered}
-use Rattle.model.specs.Working.{tableIn, idIn}
+use Rattle.inner.specs.Working.{tableIn, idIn}
 use Rattle.record.specs.Kinds.{bornRecord}
 use Rattle.record.specs.declared.Born.{Born}
 use Rattle.record.proofs.Laws.{wrote-as}

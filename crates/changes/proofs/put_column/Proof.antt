@@ -3,7 +3,7 @@ use mathlib.Core.Path.{_≡_, ap, _∙_}
 use native.Mathlib.Omega.{arith}
 use Rattle.model.specs.Octets.{value}
 use Rattle.model.specs.Records.{column, numbered}
-use Rattle.model.specs.Working.{tableIn, idIn, valueIn}
+use Rattle.inner.specs.Working.{tableIn, idIn, valueIn}
 use Rattle.record.specs.Kinds.{columnRecord}
 use Rattle.record.specs.declared.Column.{Column}
 use Rattle.record.proofs.Laws.{wrote-as}

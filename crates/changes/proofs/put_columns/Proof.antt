@@ -6,8 +6,8 @@ use native.Mathlib.Omega.{arith}
 use borrow.Author.Tests.{not-true, not-false}
 use lib.ListN.{length}
 use Rattle.model.specs.Schema.{columnsOf}
-use Rattle.model.specs.Packed.{tablesIn}
-use Rattle.model.specs.Working.{tableIn, idIn}
+use Rattle.inner.specs.Packed.{packedTables}
+use Rattle.inner.specs.Working.{tableIn, idIn}
 use Rattle.references.proofs.Packs.{few-columns}
 use Rattle.changes.specs.Walk.{skips}
 use Rattle.changes.proofs.Writing.{Along, along-all, along-is, along-next, along-end}
@@ -16,7 +16,7 @@ use Rattle.changes.proofs.put_columns.Statement.{statement}
 use Rattle.changes.proofs.put_columns.Tie as tie
 
 abbrev Inv-loop : tie.InvT-loop
-Inv-loop schema fresh old row run number records₀ w to₀ c₀ records to c = (c ≤ w) × Along run number (columnsLeft (skips fresh) (tablesIn schema) old row (tableIn row) (idIn row) 0 0) (128 * c) to₀ records₀ to records (columnsLeft (skips fresh) (tablesIn schema) old row (tableIn row) (idIn row) 0 c)
+Inv-loop schema fresh old row run number records₀ w to₀ c₀ records to c = (c ≤ w) × Along run number (columnsLeft (skips fresh) (packedTables schema) old row (tableIn row) (idIn row) 0 0) (128 * c) to₀ records₀ to records (columnsLeft (skips fresh) (packedTables schema) old row (tableIn row) (idIn row) 0 c)
 
 abbrev μ-loop : tie.MeasureT-loop
 μ-loop schema fresh old row run number records₀ w to₀ c₀ records to c = w - c
@@ -27,7 +27,7 @@ width-of-requires c κs = c .before .pre .0
 loop-holds : tie.Need-loop-holds Inv-loop μ-loop
 loop-holds c =
     let s = c .before .before in
-    (omega arith, along-is (along-all (s .args .run) (s .args .number) (columnsLeft (skips (s .args .fresh)) (tablesIn (s .args .schema .now)) (s .args .old .now) (s .args .row .now) (tableIn (s .args .row .now)) (idIn (s .args .row .now)) 0 0) (s .args .start) (s .args .records .now) (s .pre .1 .few)) refl (128 * 0) (omega arith))
+    (omega arith, along-is (along-all (s .args .run) (s .args .number) (columnsLeft (skips (s .args .fresh)) (packedTables (s .args .schema .now)) (s .args .old .now) (s .args .row .now) (tableIn (s .args .row .now)) (idIn (s .args .row .now)) 0 0) (s .args .start) (s .args .records .now) (s .pre .1 .few)) refl (128 * 0) (omega arith))
 
 -- a column that both rows have is one of six
 six : (c : tie.In-loop Inv-loop μ-loop) → c .before .loop .c < 6
@@ -58,7 +58,7 @@ loop-again c =
     let k = c .before in
     let l = k .before .before .loop in
     let s = k .before .before .before .before .before in
-    let S = tablesIn (s .args .schema .now) in
+    let S = packedTables (s .args .schema .now) in
     let g : l .c < length (columnsOf S (tableIn (s .args .old .now))) = omega (arith, k .before .loop-test .taken, k .before .before .before .width-of .ensures) in
     let h : l .c < length (columnsOf S (tableIn (s .args .row .now))) = omega (arith, k .before .loop-test .taken, k .before .before .before .width-of .ensures) in
     ⊎-elim
@@ -80,7 +80,7 @@ returns c =
     let l = c .before .loop in
     let v = c .before .before .width-of .ensures in
     let s = c .before .before .before .before in
-    let S = tablesIn (s .args .schema .now) in
+    let S = packedTables (s .args .schema .now) in
     let h : 128 * l .c ≤ 768 = omega (arith, l .inv .0, v, few-columns (s .args .schema .now) (s .pre .0) (tableIn (s .args .row .now))) in
     along-end (along-is (l .inv .1) (columns-end (skips (s .args .fresh)) S (s .args .old .now) (s .args .row .now) (tableIn (s .args .row .now)) (idIn (s .args .row .now)) (l .c) (omega (arith, v, c .loop-test .left))) (128 * l .c) (omega arith)) 768 h
 

@@ -1,7 +1,7 @@
 -- `changes::put_row` meets its contract. Assumes nothing.
 use mathlib.Core.Path.{sym, _∙_}
 use native.Mathlib.Omega.{arith}
-use Rattle.model.specs.Packed.{tablesIn}
+use Rattle.inner.specs.Packed.{packedTables}
 use Rattle.changes.specs.Walk.{rowMost}
 use Rattle.changes.proofs.Writing.{recorded-none, recorded-is, recorded-then}
 use Rattle.changes.proofs.Rows.{most-gone, most-other, found-within, row-kept, row-gone, row-new, row-changed}
@@ -20,7 +20,7 @@ returns c =
     let f = c .before .before in
     let p = f .before .before in
     let s = p .before .before in
-    let S = tablesIn (s .args .schema .now) in
+    let S = packedTables (s .args .schema .now) in
     recorded-is (recorded-none (s .args .run) (s .args .number) (s .args .to) (s .args .records .now) (s .pre .1 .1 .few)) (row-kept S (s .args .others .now) (s .args .k) (s .pre .1 .0) (s .args .row .now) (s .args .gone) _ (sym (p .place-of .ensures S) ∙ f .found .given .1) (c .if1 .taken)) (rowMost (s .args .gone)) (omega arith)
 
 mul-put-columns : tie.Need-mul-put-columns
@@ -28,7 +28,7 @@ mul-put-columns c =
     let f = c .before .before in
     let p = f .before .before in
     let s = p .before .before in
-    let S = tablesIn (s .args .schema .now) in
+    let S = packedTables (s .args .schema .now) in
     omega (arith, s .good, s .pre .1 .0, found-within S (s .args .others .now) (s .args .k) (s .pre .1 .0) (s .args .row .now) (s .args .gone) _ (sym (p .place-of .ensures S) ∙ f .found .given .1))
 
 shared-slice-element-put-columns : tie.Need-shared-slice-element-put-columns
@@ -36,7 +36,7 @@ shared-slice-element-put-columns c =
     let f = c .before .before in
     let p = f .before .before in
     let s = p .before .before in
-    let S = tablesIn (s .args .schema .now) in
+    let S = packedTables (s .args .schema .now) in
     omega (arith, s .pre .1 .0, found-within S (s .args .others .now) (s .args .k) (s .pre .1 .0) (s .args .row .now) (s .args .gone) _ (sym (p .place-of .ensures S) ∙ f .found .given .1))
 
 put-columns-requires : tie.Need-put-columns-requires
@@ -65,7 +65,7 @@ returns-2 c =
     let t = q .before .before in
     let f = t .before in let p = f .before .before in
     let s = p .before .before in
-    let S = tablesIn (s .args .schema .now) in
+    let S = packedTables (s .args .schema .now) in
     recorded-is (q .put-gone .ensures) (row-gone S (s .args .others .now) (s .args .k) (s .pre .1 .0) (s .args .row .now) (s .args .gone) (sym (p .place-of .ensures S) ∙ f .enum-told .given .1) (t .if2 .taken)) (rowMost (s .args .gone)) (omega (arith, most-gone (s .args .gone) (t .if2 .taken)))
 
 put-born-requires : tie.Need-put-born-requires
@@ -93,7 +93,7 @@ returns-3 c =
     let e = k .before .before .before in
     let f = e .before .before in let p = f .before .before in
     let s = p .before .before in
-    let S = tablesIn (s .args .schema .now) in
+    let S = packedTables (s .args .schema .now) in
     recorded-is (k .put-columns .ensures) (row-changed S (s .args .others .now) (s .args .k) (s .pre .1 .0) (s .args .row .now) (s .args .gone) _ (sym (p .place-of .ensures S) ∙ f .found .given .1) (e .if1 .left)) (rowMost (s .args .gone)) (omega (arith, most-other (s .args .gone) (e .if1 .left)))
 
 same-length-3 : tie.Need-same-length-3
@@ -106,7 +106,7 @@ returns-4 c =
     let e = b .before .before in
     let f = e .before in let p = f .before .before in
     let s = p .before .before in
-    let S = tablesIn (s .args .schema .now) in
+    let S = packedTables (s .args .schema .now) in
     recorded-is (recorded-then (b .put-born .ensures) (k .put-columns2 .ensures)) (row-new S (s .args .others .now) (s .args .k) (s .pre .1 .0) (s .args .row .now) (s .args .gone) (sym (p .place-of .ensures S) ∙ f .enum-told .given .1) (e .if2 .left)) (rowMost (s .args .gone)) (omega (arith, most-other (s .args .gone) (e .if2 .left)))
 
 pub put-row-spec : {M : Type 1} → statement M

@@ -4,8 +4,8 @@ use Prim.Native.Nat.{ℕ, _+_, _*_, _-_, _≤_}
 use native.Mathlib.Nat.{mul-le-mul-left}
 use native.Mathlib.Omega.{arith}
 use lib.ListN.{drop}
-use Rattle.model.specs.Packed.{tablesIn}
-use Rattle.model.specs.Working.{working}
+use Rattle.inner.specs.Packed.{packedTables}
+use Rattle.inner.specs.Working.{working}
 use Rattle.changes.specs.Walk.{rowMost, pass}
 use Rattle.changes.proofs.Writing.{Along, along-all, along-is, along-next, along-end}
 use Rattle.changes.proofs.Rows.{row-more, row-room, pass-on, pass-end}
@@ -13,7 +13,7 @@ use Rattle.changes.proofs.put_rows.Statement.{statement}
 use Rattle.changes.proofs.put_rows.Tie as tie
 
 abbrev Inv-loop : tie.InvT-loop
-Inv-loop gone schema rows n others k run number records₀ to₀ i₀ records to i = (i ≤ n) × Along run number (pass gone (tablesIn schema) (working (tablesIn schema) k others) (working (tablesIn schema) n rows)) (rowMost gone * i) to₀ records₀ to records (pass gone (tablesIn schema) (working (tablesIn schema) k others) (drop i (working (tablesIn schema) n rows)))
+Inv-loop gone schema rows n others k run number records₀ to₀ i₀ records to i = (i ≤ n) × Along run number (pass gone (packedTables schema) (working (packedTables schema) k others) (working (packedTables schema) n rows)) (rowMost gone * i) to₀ records₀ to records (pass gone (packedTables schema) (working (packedTables schema) k others) (drop i (working (packedTables schema) n rows)))
 
 abbrev μ-loop : tie.MeasureT-loop
 μ-loop gone schema rows n others k run number records₀ to₀ i₀ records to i = n - i
@@ -21,7 +21,7 @@ abbrev μ-loop : tie.MeasureT-loop
 loop-holds : tie.Need-loop-holds Inv-loop μ-loop
 loop-holds c =
     let s = c .before in
-    let S = tablesIn (s .args .schema .now) in
+    let S = packedTables (s .args .schema .now) in
     (omega arith, along-is (along-all (s .args .run) (s .args .number) (pass (s .args .gone) S (working S (s .args .k) (s .args .others .now)) (working S (s .args .n) (s .args .rows .now))) (s .args .start) (s .args .records .now) (s .pre .1 .1 .few)) refl (rowMost (s .args .gone) * 0) (omega arith))
 
 mul-put-row : tie.Need-mul-put-row Inv-loop μ-loop
@@ -51,7 +51,7 @@ loop-again c =
     let k = c .before .before .before .before .before in
     let l = k .before .loop in
     let s = k .before .before .before in
-    let S = tablesIn (s .args .schema .now) in
+    let S = packedTables (s .args .schema .now) in
     let each : ℕ = rowMost (s .args .gone) in (
       omega (arith, k .loop-test .taken),
       along-is (along-next (along-is (l .inv .1) (pass-on (s .args .gone) S (working S (s .args .k) (s .args .others .now)) (s .args .rows .now) (s .args .n) (s .pre .1 .0 .0) (l .i) (k .loop-test .taken)) (each * l .i) (omega arith)) (q .ensures) (q .kept .1 .1 .1 .1 .1 .1 .1 .1 .0)) refl (each * (l .i + 1)) (omega (arith, row-more each (l .i))),
@@ -64,7 +64,7 @@ returns : tie.Need-returns Inv-loop μ-loop
 returns c =
     let l = c .before .loop in
     let s = c .before .before .before in
-    let S = tablesIn (s .args .schema .now) in
+    let S = packedTables (s .args .schema .now) in
     let each : ℕ = rowMost (s .args .gone) in
     along-end (along-is (l .inv .1) (pass-end (s .args .gone) S (working S (s .args .k) (s .args .others .now)) (s .args .rows .now) (s .args .n) (s .pre .1 .0 .0) (l .i) (c .loop-test .left)) (each * l .i) (omega arith)) (each * s .args .n) (mul-le-mul-left each (l .inv .0))
 

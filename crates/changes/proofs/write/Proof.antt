@@ -5,10 +5,10 @@ use mathlib.Core.List.{List, _++_}
 use Prim.Native.Nat.{ℕ, _+_, _*_}
 use native.Mathlib.Omega.{arith}
 use lib.ListN.{length, replicate}
-use Rattle.model.specs.Packed.{tablesIn}
+use Rattle.inner.specs.Packed.{packedTables}
 use Rattle.model.specs.Rows.{Row}
 use Rattle.model.specs.Records.{Change, gones, walk, closed}
-use Rattle.model.specs.Working.{working}
+use Rattle.inner.specs.Working.{working}
 use Rattle.changes.specs.Walk.{Recorded, rowMost, pass}
 use Rattle.changes.proofs.Writing.{recorded-is, recorded-then, finished-count, finished-bytes}
 use Rattle.changes.proofs.Rows.{passes, closed-none, closed-some}
@@ -43,13 +43,13 @@ module _ (k : tie.After-put-rows2) where
   start = k .before .before .before .before .before .before .before .before .before .before .before
 
   abbrev before : List Row
-  before = working (tablesIn (start .args .schema .now)) (start .args .m) (start .args .before .now)
+  before = working (packedTables (start .args .schema .now)) (start .args .m) (start .args .before .now)
 
   abbrev after : List Row
-  after = working (tablesIn (start .args .schema .now)) (start .args .n) (start .args .after .now)
+  after = working (packedTables (start .args .schema .now)) (start .args .n) (start .args .after .now)
 
   abbrev changed : List Change
-  changed = pass true (tablesIn (start .args .schema .now)) after before ++ pass false (tablesIn (start .args .schema .now)) before after
+  changed = pass true (packedTables (start .args .schema .now)) after before ++ pass false (packedTables (start .args .schema .now)) before after
 
   abbrev most : ℕ
   most = rowMost true * start .args .m + rowMost false * start .args .n
@@ -57,8 +57,8 @@ module _ (k : tie.After-put-rows2) where
   whole : Recorded (start .args .run) (start .args .number) changed most (record { count = 0; at = 0 }) (k .before .before .before .before .before .before .before .before .clear .last .0) (k .put-rows2 .result) (k .put-rows2 .last .1 .1 .1 .1 .1 .1 .1 .1 .1 .0)
   whole = recorded-then (k .before .before .before .before .put-rows .ensures) (k .put-rows2 .ensures)
 
-  halves : changed ≡ gones after before ++ walk (tablesIn (start .args .schema .now)) before after
-  halves = passes (tablesIn (start .args .schema .now)) before after
+  halves : changed ≡ gones after before ++ walk (packedTables (start .args .schema .now)) before after
+  halves = passes (packedTables (start .args .schema .now)) before after
 
   cleared : k .before .before .before .before .before .before .before .before .clear .last .0 ≡ replicate (length (start .args .records .now)) 0
   cleared = k .before .before .before .before .before .before .before .before .clear .ensures

@@ -1,11 +1,12 @@
-use Rattle.model.specs.Nav.{membersFrom}
-use Rattle.model.specs.Members.{has}
+use Rattle.inner.specs.Positions.{membersFrom}
+use Rattle.model.specs.Members.{hasMember}
 use Rattle.model.specs.Value.{textOf}
 use Rattle.model.specs.SchemaText.{isId}
 use borrow.Author.Needs.{needs}
 use mathlib.Core.Path.{sym, ap, _∙_}
 use native.Mathlib.Omega.{arith}
-use Rattle.model.specs.Nav.{treeAt, left, isObject}
+use Rattle.inner.specs.Positions.{treeAt, left}
+use Rattle.model.specs.Nav.{isObject}
 use Rattle.nav.proofs.Walk.{pass-less, pass-fine}
 use Rattle.columns.proofs.Gathering.{Gathered, not-object, gather-start, gather-end, name-bad, too-many, gather-again, gather-more, below-six}
 use Rattle.columns.proofs.collect.Statement.{statement}
@@ -99,7 +100,7 @@ returns c =
     let wq = to .text-of .ensures ∙ ap textOf (na .name-at .ensures) in
     let id = sym (ii .is-id .ensures ∙ ap isId wq) in
     let hf = c .before .before in
-    let hs = sym (hf .has-from .ensures ∙ (λ i. has (wq i) (membersFrom s (nm .next-member .ensures i)))) in
+    let hs = sym (hf .has-from .ensures ∙ (λ i. hasMember (wq i) (membersFrom s (nm .next-member .ensures i)))) in
     too-many s (st .args .most) (st .pre .1 .1 .0) (st .args .at) o (l .loop .inv) (gg .g .given .1) (id ∙ hf .before .if2 .taken) (hs ∙ c .before .if3 .left) (c .if4 .taken)
 
 mul-places : tie.Need-mul-places Inv-loop μ-loop
@@ -213,7 +214,7 @@ loop-again c =
     let wq = to .text-of .ensures ∙ ap textOf (na .name-at .ensures) in
     let id = sym (ii .is-id .ensures ∙ ap isId wq) in
     let hf = c .before in
-    let hs = sym (hf .has-from .ensures ∙ (λ i. has (wq i) (membersFrom s (nm .next-member .ensures i)))) in
+    let hs = sym (hf .has-from .ensures ∙ (λ i. hasMember (wq i) (membersFrom s (nm .next-member .ensures i)))) in
     rw (nm .next-member .ensures) (gather-again s (st .args .most) (st .pre .1 .1 .0) (st .args .at) o (l .loop .inv) (gg .g .given .1) (id ∙ hf .before .if2 .taken) (hs ∙ c .if3 .taken))
 
 loop-less-2 : tie.Need-loop-less-2 Inv-loop μ-loop
@@ -251,7 +252,7 @@ loop-again-2 c =
     let wq = to .text-of .ensures ∙ ap textOf (na .name-at .ensures) in
     let id = sym (ii .is-id .ensures ∙ ap isId wq) in
     let hf = c .before .before in
-    let hs = sym (hf .has-from .ensures ∙ (λ i. has (wq i) (membersFrom s (nm .next-member .ensures i)))) in
+    let hs = sym (hf .has-from .ensures ∙ (λ i. hasMember (wq i) (membersFrom s (nm .next-member .ensures i)))) in
     rw (nm .next-member .ensures) (gather-more s (st .args .most) (st .pre .1 .1 .0) (st .args .at) o (l .loop .inv) (gg .g .given .1) (id ∙ hf .before .if2 .taken) (hs ∙ c .before .if3 .left) (c .if4 .left))
 
 enum-told : tie.Need-enum-told Inv-loop μ-loop

@@ -1,8 +1,8 @@
 use borrow.Author.Needs.{needs}
 use mathlib.Core.Path.{_≡_, refl, sym, _∙_}
 use mathlib.Core.Bool.{true}
-use Rattle.model.specs.Nav.{membersFrom, membersFine, left}
-use Rattle.model.specs.Members.{has}
+use Rattle.inner.specs.Positions.{membersFrom, membersFine, left}
+use Rattle.model.specs.Members.{hasMember}
 use Rattle.nav.proofs.Walk.{pass-less, pass-fine}
 use Rattle.columns.proofs.Walk.{has-end, has-here, has-next}
 use Rattle.columns.proofs.has_from.Statement.{statement}
@@ -13,7 +13,7 @@ use Rattle.nav.proofs.next_member.Reads as next-member-reads
 use Rattle.text.proofs.is_word.Reads as is-word-reads
 
 abbrev Inv-loop : tie.InvT-loop
-Inv-loop text ends word h₀ h = (has word (membersFrom text h₀) ≡ has word (membersFrom text h)) × (membersFine text h ≡ true)
+Inv-loop text ends word h₀ h = (hasMember word (membersFrom text h₀) ≡ hasMember word (membersFrom text h)) × (membersFine text h ≡ true)
 
 abbrev μ-loop : tie.MeasureT-loop
 μ-loop text ends word h₀ h = left text h

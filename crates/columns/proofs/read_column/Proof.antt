@@ -6,10 +6,10 @@ use mathlib.Core.List.{List, _++_, map}
 use native.Mathlib.Omega.{arith}
 use lib.ListN.{length, getD, drop, replicate}
 use Rattle.model.specs.Json.{Json}
-use Rattle.model.specs.Nav.{treeAt}
+use Rattle.inner.specs.Positions.{treeAt}
 use Rattle.model.specs.Members.{membersIn}
 use Rattle.model.specs.Value.{textOf}
-use Rattle.model.specs.Packed.{cellName}
+use Rattle.inner.specs.Packed.{cellName}
 use Rattle.model.specs.SchemaText.{truthOr}
 use Rattle.fields.specs.Fields.{wordsFrom, wordsOf, slotTree, Slots}
 use Rattle.columns.specs.Parts.{memberOf}

@@ -5,8 +5,8 @@ use native.Mathlib.Omega.{arith}
 use borrow.Author.Tests.{not-true, not-false}
 use lib.ListN.{drop}
 use Rattle.model.specs.Base.{all}
-use Rattle.model.specs.Packed.{tablesIn}
-use Rattle.model.specs.Working.{working}
+use Rattle.inner.specs.Packed.{packedTables}
+use Rattle.inner.specs.Working.{working}
 use Rattle.references.specs.Links.{referred}
 use Rattle.references.proofs.Walks.{all-row-here, all-row-on, all-row-end}
 use Rattle.commit.proofs.all_found.Statement.{statement}
@@ -14,7 +14,7 @@ use Rattle.commit.proofs.all_found.Tie as tie
 
 abbrev Inv-loop : tie.InvT-loop
 Inv-loop schema how rows n i₀ i =
-    let s = tablesIn schema in
+    let s = packedTables schema in
     let q = referred s how (working s n rows) in
     (i ≤ n) × (all q (working s n rows) ≡ all q (drop i (working s n rows)))
 
@@ -37,7 +37,7 @@ returns : tie.Need-returns Inv-loop μ-loop
 returns c =
     let a = c .before .before .before .before .before in
     let l = c .before .before .before .before .loop in
-    let s = tablesIn (a .args .schema .now) in
+    let s = packedTables (a .args .schema .now) in
     sym (l .inv .1 ∙ all-row-here s (a .args .rows .now) (a .args .n) (a .pre .1) (l .i) (referred s (a .args .how) (working s (a .args .n) (a .args .rows .now))) (c .before .before .before .loop-test .taken) (sym (c .before .row-found .ensures) ∙ not-true _ (c .if1 .taken)))
 
 add-i : tie.Need-add-i Inv-loop μ-loop
@@ -50,14 +50,14 @@ loop-again : tie.Need-loop-again Inv-loop μ-loop
 loop-again c =
     let a = c .before .before .before .before .before in
     let l = c .before .before .before .before .loop in
-    let s = tablesIn (a .args .schema .now) in
+    let s = packedTables (a .args .schema .now) in
     (omega arith, l .inv .1 ∙ all-row-on s (a .args .rows .now) (a .args .n) (a .pre .1) (l .i) (referred s (a .args .how) (working s (a .args .n) (a .args .rows .now))) (c .before .before .before .loop-test .taken) (sym (c .before .row-found .ensures) ∙ not-false _ (c .if1 .left)))
 
 returns-2 : tie.Need-returns-2 Inv-loop μ-loop
 returns-2 c =
     let a = c .before .before in
     let l = c .before .loop in
-    let s = tablesIn (a .args .schema .now) in
+    let s = packedTables (a .args .schema .now) in
     sym (l .inv .1 ∙ all-row-end s (a .args .rows .now) (a .args .n) (a .pre .1) (l .i) (referred s (a .args .how) (working s (a .args .n) (a .args .rows .now))) (c .loop-test .left))
 
 pub all-found-spec : {M : Type 1} → statement M

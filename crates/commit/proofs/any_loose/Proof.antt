@@ -5,15 +5,15 @@ use native.Mathlib.Omega.{arith}
 use lib.ListN.{drop}
 use Rattle.model.specs.Base.{any}
 use Rattle.model.specs.Commit.{loose}
-use Rattle.model.specs.Packed.{tablesIn}
-use Rattle.model.specs.Working.{working}
+use Rattle.inner.specs.Packed.{packedTables}
+use Rattle.inner.specs.Working.{working}
 use Rattle.references.proofs.Walks.{any-row-here, any-row-on, any-row-end}
 use Rattle.commit.proofs.any_loose.Statement.{statement}
 use Rattle.commit.proofs.any_loose.Tie as tie
 
 abbrev Inv-loop : tie.InvT-loop
 Inv-loop schema rows n i₀ i =
-    let s = tablesIn schema in
+    let s = packedTables schema in
     let q = loose s (working s n rows) in
     (i ≤ n) × (any q (working s n rows) ≡ any q (drop i (working s n rows)))
 
@@ -36,7 +36,7 @@ returns : tie.Need-returns Inv-loop μ-loop
 returns c =
     let a = c .before .before .before .before .before in
     let l = c .before .before .before .before .loop in
-    let s = tablesIn (a .args .schema .now) in
+    let s = packedTables (a .args .schema .now) in
     sym (l .inv .1 ∙ any-row-here s (a .args .rows .now) (a .args .n) (a .pre .1) (l .i) (loose s (working s (a .args .n) (a .args .rows .now))) (c .before .before .before .loop-test .taken) (sym (c .before .is-loose .ensures) ∙ c .if1 .taken))
 
 add-i : tie.Need-add-i Inv-loop μ-loop
@@ -49,14 +49,14 @@ loop-again : tie.Need-loop-again Inv-loop μ-loop
 loop-again c =
     let a = c .before .before .before .before .before in
     let l = c .before .before .before .before .loop in
-    let s = tablesIn (a .args .schema .now) in
+    let s = packedTables (a .args .schema .now) in
     (omega arith, l .inv .1 ∙ any-row-on s (a .args .rows .now) (a .args .n) (a .pre .1) (l .i) (loose s (working s (a .args .n) (a .args .rows .now))) (c .before .before .before .loop-test .taken) (sym (c .before .is-loose .ensures) ∙ c .if1 .left))
 
 returns-2 : tie.Need-returns-2 Inv-loop μ-loop
 returns-2 c =
     let a = c .before .before in
     let l = c .before .loop in
-    let s = tablesIn (a .args .schema .now) in
+    let s = packedTables (a .args .schema .now) in
     sym (l .inv .1 ∙ any-row-end s (a .args .rows .now) (a .args .n) (a .pre .1) (l .i) (loose s (working s (a .args .n) (a .args .rows .now))) (c .loop-test .left))
 
 pub any-loose-spec : {M : Type 1} → statement M

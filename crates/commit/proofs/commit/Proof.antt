@@ -2,7 +2,7 @@
 use mathlib.Core.Path.{sym, _∙_}
 use borrow.Author.Needs.{needs}
 use borrow.Author.Tests.{not-true, not-false}
-use Rattle.model.specs.Packed.{tablesIn}
+use Rattle.inner.specs.Packed.{packedTables}
 use Rattle.commit.proofs.Laws.{commit-missing, commit-few, commit-over, commit-fine}
 use Rattle.commit.proofs.commit.Statement.{statement}
 use Rattle.commit.proofs.commit.Tie as tie
@@ -16,7 +16,7 @@ same-length c = search needs
 returns : tie.Need-returns
 returns c =
     let a = c .before .before .before in
-    commit-missing (tablesIn (a .args .schema .now)) (a .args .n) (a .args .rows .now) (sym (c .before .all-found .ensures) ∙ not-true _ (c .if1 .taken))
+    commit-missing (packedTables (a .args .schema .now)) (a .args .n) (a .args .rows .now) (sym (c .before .all-found .ensures) ∙ not-true _ (c .if1 .taken))
 
 collect-requires : tie.Need-collect-requires
 collect-requires c κs = search needs
@@ -35,7 +35,7 @@ returns-2 c =
     let a = c .before .before .before .before .before .before .before .before .before .before .before .before in
     let m = c .before .before .before .before .before .before .before .collect in
     let w = c .before .before .before .before .weaken in
-    commit-few (tablesIn (a .args .schema .now)) (a .args .n) (a .args .rows .now) (m .result) (m .last .1 .0) (w .last .1 .0) (a .pre .1)
+    commit-few (packedTables (a .args .schema .now)) (a .args .n) (a .args .rows .now) (m .result) (m .last .1 .0) (w .last .1 .0) (a .pre .1)
     (sym (c .before .before .before .before .before .before .before .before .before .before .all-found .ensures) ∙ not-false _ (c .before .before .before .before .before .before .before .before .before .if1 .left))
     (m .ensures) (w .ensures)
     (sym (c .before .all-enough .ensures) ∙ not-true _ (c .if2 .taken))
@@ -51,7 +51,7 @@ returns-3 c =
     let a = c .before .before .before .before .before .before .before .before .before .before .before .before .before .before .before in
     let m = c .before .before .before .before .before .before .before .before .before .before .collect in
     let w = c .before .before .before .before .before .before .before .weaken in
-    commit-over (tablesIn (a .args .schema .now)) (a .args .n) (a .args .rows .now) (m .result) (m .last .1 .0) (w .last .1 .0) (a .pre .1)
+    commit-over (packedTables (a .args .schema .now)) (a .args .n) (a .args .rows .now) (m .result) (m .last .1 .0) (w .last .1 .0) (a .pre .1)
     (sym (c .before .before .before .before .before .before .before .before .before .before .before .before .before .all-found .ensures) ∙ not-false _ (c .before .before .before .before .before .before .before .before .before .before .before .before .if1 .left))
     (m .ensures) (w .ensures)
     (sym (c .before .before .before .before .all-enough .ensures) ∙ not-false _ (c .before .before .before .if2 .left))
@@ -65,7 +65,7 @@ returns-4 c =
     let a = c .before .before .before .before .before .before .before .before .before .before .before .before .before .before .before in
     let m = c .before .before .before .before .before .before .before .before .before .before .collect in
     let w = c .before .before .before .before .before .before .before .weaken in
-    commit-fine (tablesIn (a .args .schema .now)) (a .args .n) (a .args .rows .now) (m .result) (m .last .1 .0) (w .last .1 .0) (a .pre .1)
+    commit-fine (packedTables (a .args .schema .now)) (a .args .n) (a .args .rows .now) (m .result) (m .last .1 .0) (w .last .1 .0) (a .pre .1)
     (sym (c .before .before .before .before .before .before .before .before .before .before .before .before .before .all-found .ensures) ∙ not-false _ (c .before .before .before .before .before .before .before .before .before .before .before .before .if1 .left))
     (m .ensures) (w .ensures)
     (sym (c .before .before .before .before .all-enough .ensures) ∙ not-false _ (c .before .before .before .if2 .left))

@@ -2,8 +2,8 @@
 use mathlib.Core.Path.{sym, _∙_}
 use borrow.Author.Needs.{needs}
 use borrow.Author.Tests.{not-true, not-false}
-use Rattle.model.specs.Packed.{tablesIn}
-use Rattle.model.specs.Working.{working}
+use Rattle.inner.specs.Packed.{packedTables}
+use Rattle.inner.specs.Working.{working}
 use Rattle.commit.proofs.Laws.{lawful-strong, lawful-loose, lawful-weak, lawful-few, lawful-rest}
 use Rattle.commit.proofs.lawful.Statement.{statement}
 use Rattle.commit.proofs.lawful.Tie as tie
@@ -14,7 +14,7 @@ all-found-requires c κs = search needs
 returns : tie.Need-returns
 returns c =
     let a = c .before .before in
-    let s = tablesIn (a .args .schema .now) in
+    let s = packedTables (a .args .schema .now) in
     lawful-strong s (working s (a .args .n) (a .args .rows .now))
     (sym (c .before .all-found .ensures) ∙ not-true _ (c .if1 .taken))
 
@@ -24,7 +24,7 @@ any-loose-requires c κs = search needs
 returns-2 : tie.Need-returns-2
 returns-2 c =
     let a = c .before .before .before .before in
-    let s = tablesIn (a .args .schema .now) in
+    let s = packedTables (a .args .schema .now) in
     lawful-loose s (working s (a .args .n) (a .args .rows .now))
     (sym (c .before .before .before .all-found .ensures) ∙ not-false _ (c .before .before .if1 .left))
     (sym (c .before .any-loose .ensures) ∙ c .if2 .taken)
@@ -35,7 +35,7 @@ all-found-requires-2 c κs = search needs
 returns-3 : tie.Need-returns-3
 returns-3 c =
     let a = c .before .before .before .before .before .before in
-    let s = tablesIn (a .args .schema .now) in
+    let s = packedTables (a .args .schema .now) in
     lawful-weak s (working s (a .args .n) (a .args .rows .now))
     (sym (c .before .before .before .before .before .all-found .ensures) ∙ not-false _ (c .before .before .before .before .if1 .left))
     (sym (c .before .before .before .any-loose .ensures) ∙ c .before .before .if2 .left)
@@ -47,7 +47,7 @@ all-enough-requires c κs = search needs
 returns-4 : tie.Need-returns-4
 returns-4 c =
     let a = c .before .before .before .before .before .before .before .before in
-    let s = tablesIn (a .args .schema .now) in
+    let s = packedTables (a .args .schema .now) in
     lawful-few s (working s (a .args .n) (a .args .rows .now))
     (sym (c .before .before .before .before .before .before .before .all-found .ensures) ∙ not-false _ (c .before .before .before .before .before .before .if1 .left))
     (sym (c .before .before .before .before .before .any-loose .ensures) ∙ c .before .before .before .before .if2 .left)
@@ -60,7 +60,7 @@ tables-good-requires c κs = search needs
 returns-5 : tie.Need-returns-5
 returns-5 c =
     let a = c .before .before .before .before .before .before .before .before .before in
-    let s = tablesIn (a .args .schema .now) in
+    let s = packedTables (a .args .schema .now) in
     lawful-rest s (working s (a .args .n) (a .args .rows .now))
     (sym (c .before .before .before .before .before .before .before .before .all-found .ensures) ∙ not-false _ (c .before .before .before .before .before .before .before .if1 .left))
     (sym (c .before .before .before .before .before .before .any-loose .ensures) ∙ c .before .before .before .before .before .if2 .left)

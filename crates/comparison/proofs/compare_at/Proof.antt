@@ -1,8 +1,8 @@
 -- `comparison::compare_at` meets its contract. Assumes nothing.
 use mathlib.Core.Path.{sym, ap, _∙_}
 use mathlib.Core.Bool.{not}
-use Rattle.model.specs.Nav.{treeAt}
-use Rattle.model.specs.Schema.{baseOf}
+use Rattle.inner.specs.Positions.{treeAt}
+use Rattle.inner.specs.Packed.{baseNumbered}
 use Rattle.model.specs.Conditions.{orders, firstInt, compare}
 use Rattle.uuids.specs.Named.{namesAt}
 use Rattle.judged.specs.Weights.{atomsAs}
@@ -83,7 +83,7 @@ returns c =
     let a = st .args in
     let n = namesAt (a .text .now) (a .ops) (a .fresh .now) in
     let j = treeAt (a .text .now) (a .at) in
-    let k = baseOf (a .kind) in
+    let k = baseNumbered (a .kind) in
     let o = ap orders (t .enum-told .given .1) in
     c .ordered-at .ensures ∙ ap (λ k. order (a .f) (firstInt (a .xs .now)) (firstInt (atomsAs n k j))) (sym (st .pre .1 .1 .0 .ordered o)) ∙ order-compare (a .f) k (a .xs .now) (atomsAs n k j) o
 
@@ -94,7 +94,7 @@ returns-2 c =
     let a = st .args in
     let n = namesAt (a .text .now) (a .ops) (a .fresh .now) in
     let j = treeAt (a .text .now) (a .at) in
-    let k = baseOf (a .kind) in
+    let k = baseNumbered (a .kind) in
     let o = ap orders (t .enum-told2 .given .1) in
     c .ordered-at2 .ensures ∙ ap (λ k. order (a .f) (firstInt (a .xs .now)) (firstInt (atomsAs n k j))) (sym (st .pre .1 .1 .0 .ordered o)) ∙ order-compare (a .f) k (a .xs .now) (atomsAs n k j) o
 
@@ -104,7 +104,7 @@ returns-3 c =
     let a = t .before .before .before .before .before .args in
     let n = namesAt (a .text .now) (a .ops) (a .fresh .now) in
     let j = treeAt (a .text .now) (a .at) in
-    c .equal-at .ensures ∙ ap (λ f. compare f (baseOf (a .kind)) (a .xs .now) (atomsAs n (baseOf (a .kind)) j)) (sym (t .enum-told3 .given .1))
+    c .equal-at .ensures ∙ ap (λ f. compare f (baseNumbered (a .kind)) (a .xs .now) (atomsAs n (baseNumbered (a .kind)) j)) (sym (t .enum-told3 .given .1))
 
 returns-4 : tie.Need-returns-4
 returns-4 c =
@@ -112,7 +112,7 @@ returns-4 c =
     let a = t .before .before .before .before .before .args in
     let n = namesAt (a .text .now) (a .ops) (a .fresh .now) in
     let j = treeAt (a .text .now) (a .at) in
-    ap not (c .equal-at2 .ensures) ∙ ap (λ f. compare f (baseOf (a .kind)) (a .xs .now) (atomsAs n (baseOf (a .kind)) j)) (sym (t .enum-told4 .given .1))
+    ap not (c .equal-at2 .ensures) ∙ ap (λ f. compare f (baseNumbered (a .kind)) (a .xs .now) (atomsAs n (baseNumbered (a .kind)) j)) (sym (t .enum-told4 .given .1))
 
 returns-5 : tie.Need-returns-5
 returns-5 c =
@@ -121,7 +121,7 @@ returns-5 c =
     let a = st .args in
     let n = namesAt (a .text .now) (a .ops) (a .fresh .now) in
     let j = treeAt (a .text .now) (a .at) in
-    let k = baseOf (a .kind) in
+    let k = baseNumbered (a .kind) in
     let o = ap orders (t .enum-told5 .given .1) in
     c .ordered-at3 .ensures ∙ ap (λ k. order (a .f) (firstInt (a .xs .now)) (firstInt (atomsAs n k j))) (sym (st .pre .1 .1 .0 .ordered o)) ∙ order-compare (a .f) k (a .xs .now) (atomsAs n k j) o
 
@@ -132,7 +132,7 @@ returns-6 c =
     let a = st .args in
     let n = namesAt (a .text .now) (a .ops) (a .fresh .now) in
     let j = treeAt (a .text .now) (a .at) in
-    let k = baseOf (a .kind) in
+    let k = baseNumbered (a .kind) in
     let o = ap orders (t .enum-told6 .given .1) in
     c .ordered-at4 .ensures ∙ ap (λ k. order (a .f) (firstInt (a .xs .now)) (firstInt (atomsAs n k j))) (sym (st .pre .1 .1 .0 .ordered o)) ∙ order-compare (a .f) k (a .xs .now) (atomsAs n k j) o
 
@@ -143,7 +143,7 @@ returns-7 c =
     let a = t .before .before .before .before .before .args in
     let n = namesAt (a .text .now) (a .ops) (a .fresh .now) in
     let j = treeAt (a .text .now) (a .at) in
-    c .stored-at .ensures ∙ ap (λ f. compare f (baseOf (a .kind)) (a .xs .now) (atomsAs n (baseOf (a .kind)) j)) (sym (t .enum-told7 .given .1))
+    c .stored-at .ensures ∙ ap (λ f. compare f (baseNumbered (a .kind)) (a .xs .now) (atomsAs n (baseNumbered (a .kind)) j)) (sym (t .enum-told7 .given .1))
 
 returns-8 : tie.Need-returns-8
 unfolding stored
@@ -152,7 +152,7 @@ returns-8 c =
     let a = t .before .before .before .before .before .args in
     let n = namesAt (a .text .now) (a .ops) (a .fresh .now) in
     let j = treeAt (a .text .now) (a .at) in
-    ap not (c .stored-at2 .ensures) ∙ ap (λ f. compare f (baseOf (a .kind)) (a .xs .now) (atomsAs n (baseOf (a .kind)) j)) (sym (t .enum-told8 .given .1))
+    ap not (c .stored-at2 .ensures) ∙ ap (λ f. compare f (baseNumbered (a .kind)) (a .xs .now) (atomsAs n (baseNumbered (a .kind)) j)) (sym (t .enum-told8 .given .1))
 
 pub compare-at-spec : {M : Type 1} → statement M
 compare-at-spec =

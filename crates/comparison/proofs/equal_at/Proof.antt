@@ -1,14 +1,14 @@
 -- `comparison::equal_at` meets its contract. Assumes nothing.
 use mathlib.Core.Path.{sym, ap, _∙_}
-use mathlib.Core.Bool.{not}
+use borrow.Author.Tests.{not-true, not-false}
 use native.Mathlib.Omega.{arith}
-use Rattle.model.specs.Base.{any, eqLists}
-use Rattle.model.specs.Nav.{treeAt}
-use Rattle.model.specs.Schema.{baseOf}
+use Rattle.model.specs.Base.{any, all, member, eqLists}
+use Rattle.inner.specs.Positions.{treeAt}
+use Rattle.inner.specs.Packed.{baseNumbered}
 use Rattle.model.specs.Written.{longAtom}
 use Rattle.uuids.specs.Named.{namesAt}
 use Rattle.comparison.proofs.Stored.{begun}
-use Rattle.comparison.proofs.Compared.{equal-length, equal-long, fitting, sorted-back, sorted-count}
+use Rattle.comparison.proofs.Compared.{equal-length, equal-stored, fitting, sorted-back, sorted-count}
 use Rattle.comparison.proofs.equal_at.Statement.{statement}
 use Rattle.comparison.proofs.equal_at.Tie as tie
 
@@ -18,26 +18,23 @@ count-at-requires c κs = (c .before .before .before .pre .0 .says, c .before .b
 returns : tie.Need-returns
 returns c =
     let a = c .before .before .before .before .before .args in
-    sym (equal-length (namesAt (a .text .now) (a .ops) (a .fresh .now)) (baseOf (a .kind)) (treeAt (a .text .now) (a .at)) (a .xs .now) (c .before .count-at .ensures) (c .if1 .taken))
+    sym (equal-length (namesAt (a .text .now) (a .ops) (a .fresh .now)) (baseNumbered (a .kind)) (treeAt (a .text .now) (a .at)) (a .xs .now) (c .before .count-at .ensures) (c .if1 .taken))
 
 elements-at-requires : tie.Need-elements-at-requires
 elements-at-requires c κs = (c .before .before .before .before .before .pre .0 .says, c .before .before .before .before .before .pre .1 .0)
 
-some-long-requires : tie.Need-some-long-requires
-some-long-requires c κs = (c .before .before .before .before .before .before .pre .0, c .elements-at .ensures .fine)
-
-all-sized-requires : tie.Need-all-sized-requires
-all-sized-requires c κs = tt
+each-stored-requires : tie.Need-each-stored-requires
+each-stored-requires c κs = (c .before .before .before .before .before .before .pre .0, c .elements-at .ensures .fine)
 
 returns-2 : tie.Need-returns-2
 returns-2 c =
-    let s = c .before .before in
+    let s = c .before in
     let e = s .before .elements-at in
     let a = s .before .before .before .before .before .before .before .args in
     let n = namesAt (a .text .now) (a .ops) (a .fresh .now) in
     let j = treeAt (a .text .now) (a .at) in
-    let k = baseOf (a .kind) in
-    ap not (c .all-sized .ensures .0) ∙ sym (equal-long n k j (a .xs .now) (ap (any (longAtom k)) (sym (begun n k (a .text .now) (e .result .set) (e .result .first) j (e .ensures))) ∙ sym (s .some-long .ensures) ∙ c .before .if2 .taken) (c .all-sized .ensures .1))
+    let k = baseNumbered (a .kind) in
+    sym (equal-stored n k j (a .xs .now) (ap (all (λ x. member x (a .xs .now))) (sym (begun n k (a .text .now) (e .result .set) (e .result .first) j (e .ensures))) ∙ sym (s .each-stored .ensures .0) ∙ not-true _ (c .if2 .taken)))
 
 atoms-at-requires : tie.Need-atoms-at-requires
 atoms-at-requires c κs =
@@ -47,8 +44,8 @@ atoms-at-requires c κs =
     let a = st .args in
     let n = namesAt (a .text .now) (a .ops) (a .fresh .now) in
     let j = treeAt (a .text .now) (a .at) in
-    let k = baseOf (a .kind) in
-    (st .pre .0, (st .pre .1 .0, fitting n k j (st .pre .1 .1 .0) (omega (arith, s .before .before .before .count-at .ensures, s .before .before .if1 .left, st .pre .1 .1 .1)) (ap (any (longAtom k)) (sym (begun n k (a .text .now) (e .result .set) (e .result .first) j (e .ensures))) ∙ sym (s .some-long .ensures) ∙ c .if2 .left)))
+    let k = baseNumbered (a .kind) in
+    (st .pre .0, (st .pre .1 .0, fitting n k j (st .pre .1 .1 .0) (omega (arith, s .before .before .before .count-at .ensures, s .before .before .if1 .left, st .pre .1 .1 .1)) (ap (any (longAtom k)) (sym (begun n k (a .text .now) (e .result .set) (e .result .first) j (e .ensures))) ∙ s .each-stored .ensures .1 (not-false _ (c .if2 .left)))))
 
 sort-requires : tie.Need-sort-requires
 sort-requires c κs =
@@ -68,7 +65,7 @@ slice-aggregate-equal c =
     let t = s .before in
     let k = t .before .before .before .before in
     let a = k .before .before .before .before .before .args in
-    sorted-count (namesAt (a .text .now) (a .ops) (a .fresh .now)) (baseOf (a .kind)) (treeAt (a .text .now) (a .at)) (k .before .count-at .ensures) (t .atoms-at .ensures) (s .sort .ensures)
+    sorted-count (namesAt (a .text .now) (a .ops) (a .fresh .now)) (baseNumbered (a .kind)) (treeAt (a .text .now) (a .at)) (k .before .count-at .ensures) (t .atoms-at .ensures) (s .sort .ensures)
 
 equal-requires : tie.Need-equal-requires
 equal-requires c κs = tt
@@ -79,7 +76,7 @@ returns-3 c =
     let t = s .before in
     let k = t .before .before .before .before in
     let a = k .before .before .before .before .before .args in
-    c .equal .ensures ∙ ap (eqLists (a .xs .now)) (sorted-back (namesAt (a .text .now) (a .ops) (a .fresh .now)) (baseOf (a .kind)) (treeAt (a .text .now) (a .at)) (k .before .count-at .ensures) (t .atoms-at .ensures) (s .sort .ensures))
+    c .equal .ensures ∙ ap (eqLists (a .xs .now)) (sorted-back (namesAt (a .text .now) (a .ops) (a .fresh .now)) (baseNumbered (a .kind)) (treeAt (a .text .now) (a .at)) (k .before .count-at .ensures) (t .atoms-at .ensures) (s .sort .ensures))
 
 pub equal-at-spec : {M : Type 1} → statement M
 equal-at-spec =
@@ -88,8 +85,7 @@ equal-at-spec =
     count-at-requires
     returns
     elements-at-requires
-    some-long-requires
-    all-sized-requires
+    each-stored-requires
     returns-2
     atoms-at-requires
     sort-requires

@@ -1,7 +1,7 @@
 -- `comparison::first_at` meets its contract. Assumes nothing.
 use mathlib.Core.Path.{_≡_, ap, subst, _∙_}
 use mathlib.Core.Bool.{true}
-use Rattle.model.specs.Nav.{treeAt}
+use Rattle.inner.specs.Positions.{treeAt}
 use Rattle.elements.proofs.Walk.{elements-fine}
 use Rattle.elements.specs.Elements.{elementsFine}
 use Rattle.number.specs.Ints.{asInt}

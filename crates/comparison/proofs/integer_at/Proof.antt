@@ -1,6 +1,6 @@
 -- `comparison::integer_at` meets its contract. Assumes nothing.
-use Rattle.model.specs.Nav.{treeAt}
-use Rattle.model.specs.Schema.{baseOf}
+use Rattle.inner.specs.Positions.{treeAt}
+use Rattle.inner.specs.Packed.{baseNumbered}
 use Rattle.uuids.specs.Named.{namesAt}
 use Rattle.comparison.proofs.Compared.{reads-integer}
 use borrow.Author.Needs.{needs}
@@ -11,7 +11,7 @@ atom-at-requires : tie.Need-atom-at-requires
 atom-at-requires c κs = search needs
 
 returns : tie.Need-returns
-unfolding baseOf
+unfolding baseNumbered
 returns c =
     let a = c .before .before .before .before .before .args in
     let i = c .atom-at in

@@ -1,7 +1,7 @@
 -- `comparison::ordered_at` meets its contract. Assumes nothing.
 use mathlib.Core.Path.{sym, ap, _∙_}
 use lib.Signed.{ltZ, leZ}
-use Rattle.model.specs.Nav.{treeAt}
+use Rattle.inner.specs.Positions.{treeAt}
 use Rattle.model.specs.Schema.{integer}
 use Rattle.model.specs.Conditions.{firstInt}
 use Rattle.uuids.specs.Named.{namesAt}

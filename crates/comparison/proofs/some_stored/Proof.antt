@@ -2,9 +2,9 @@
 use mathlib.Core.Path.{_≡_, refl, sym, _∙_}
 use mathlib.Core.Bool.{Bool, true}
 use Rattle.model.specs.Json.{Json}
-use Rattle.model.specs.Nav.{left}
+use Rattle.inner.specs.Positions.{left}
 use Rattle.model.specs.Base.{any, member}
-use Rattle.model.specs.Schema.{baseOf}
+use Rattle.inner.specs.Packed.{baseNumbered}
 use Rattle.elements.specs.Elements.{elementsFrom, elementsFine}
 use Rattle.elements.proofs.Walk.{walk-less, walk-fine}
 use Rattle.uuids.specs.Named.{namesAt}
@@ -16,7 +16,7 @@ use Rattle.comparison.proofs.some_stored.Statement.{statement}
 use Rattle.comparison.proofs.some_stored.Tie as tie
 
 abbrev Inv-loop : tie.InvT-loop
-Inv-loop text ends ops fresh kind set xs g₀ g = (any (λ j. member (atomAs (namesAt text ops fresh) (baseOf kind) j) xs) (elementsFrom text set g₀) ≡ any (λ j. member (atomAs (namesAt text ops fresh) (baseOf kind) j) xs) (elementsFrom text set g)) × (elementsFine text set g ≡ true)
+Inv-loop text ends ops fresh kind set xs g₀ g = (any (λ j. member (atomAs (namesAt text ops fresh) (baseNumbered kind) j) xs) (elementsFrom text set g₀) ≡ any (λ j. member (atomAs (namesAt text ops fresh) (baseNumbered kind) j) xs) (elementsFrom text set g)) × (elementsFine text set g ≡ true)
 
 abbrev μ-loop : tie.MeasureT-loop
 μ-loop text ends ops fresh kind set xs g₀ g = left text g
@@ -37,8 +37,8 @@ returns : tie.Need-returns Inv-loop μ-loop
 returns c =
     let l = c .before .before .before .before .before in
     let a = l .before .before .before .before .args in
-    let q : Json → Bool = λ j. member (atomAs (namesAt (a .text .now) (a .ops) (a .fresh .now)) (baseOf (a .kind)) j) (a .xs .now) in
-    sym (any-atoms (namesAt (a .text .now) (a .ops) (a .fresh .now)) (baseOf (a .kind)) (λ x. member x (a .xs .now)) _ ∙ l .loop .inv .0 ∙ any-here (a .text .now) (a .set) q (c .before .before .before .g .given .1) (sym (c .before .is-stored .ensures) ∙ c .if1 .taken))
+    let q : Json → Bool = λ j. member (atomAs (namesAt (a .text .now) (a .ops) (a .fresh .now)) (baseNumbered (a .kind)) j) (a .xs .now) in
+    sym (any-atoms (namesAt (a .text .now) (a .ops) (a .fresh .now)) (baseNumbered (a .kind)) (λ x. member x (a .xs .now)) _ ∙ l .loop .inv .0 ∙ any-here (a .text .now) (a .set) q (c .before .before .before .g .given .1) (sym (c .before .is-stored .ensures .0) ∙ c .if1 .taken))
 
 next-element-requires : tie.Need-next-element-requires Inv-loop μ-loop
 next-element-requires c κs = c .before .before .before .before .before .before .before .before .before .pre .0 .says
@@ -53,9 +53,9 @@ loop-again : tie.Need-loop-again Inv-loop μ-loop
 loop-again c =
     let l = c .before .before .before .before .before .before in
     let a = l .before .before .before .before .args in
-    let q : Json → Bool = λ j. member (atomAs (namesAt (a .text .now) (a .ops) (a .fresh .now)) (baseOf (a .kind)) j) (a .xs .now) in
+    let q : Json → Bool = λ j. member (atomAs (namesAt (a .text .now) (a .ops) (a .fresh .now)) (baseNumbered (a .kind)) j) (a .xs .now) in
     rw (c .next-element .ensures)
-    (l .loop .inv .0 ∙ any-on (a .text .now) (a .set) q (c .before .before .before .before .g .given .1) (sym (c .before .before .is-stored .ensures) ∙ c .before .if1 .left), walk-fine (a .text .now) (a .set) (c .before .before .before .before .g .given .1) (l .loop .inv .1) .1)
+    (l .loop .inv .0 ∙ any-on (a .text .now) (a .set) q (c .before .before .before .before .g .given .1) (sym (c .before .before .is-stored .ensures .0) ∙ c .before .if1 .left), walk-fine (a .text .now) (a .set) (c .before .before .before .before .g .given .1) (l .loop .inv .1) .1)
 
 enum-told : tie.Need-enum-told Inv-loop μ-loop
 enum-told c = search needs
@@ -64,8 +64,8 @@ returns-2 : tie.Need-returns-2 Inv-loop μ-loop
 returns-2 c =
     let l = c .before .before in
     let a = l .before .before .before .before .args in
-    let q : Json → Bool = λ j. member (atomAs (namesAt (a .text .now) (a .ops) (a .fresh .now)) (baseOf (a .kind)) j) (a .xs .now) in
-    sym (any-atoms (namesAt (a .text .now) (a .ops) (a .fresh .now)) (baseOf (a .kind)) (λ x. member x (a .xs .now)) _ ∙ l .loop .inv .0 ∙ any-end (a .text .now) (a .set) q (c .enum-told .given .1))
+    let q : Json → Bool = λ j. member (atomAs (namesAt (a .text .now) (a .ops) (a .fresh .now)) (baseNumbered (a .kind)) j) (a .xs .now) in
+    sym (any-atoms (namesAt (a .text .now) (a .ops) (a .fresh .now)) (baseNumbered (a .kind)) (λ x. member x (a .xs .now)) _ ∙ l .loop .inv .0 ∙ any-end (a .text .now) (a .set) q (c .enum-told .given .1))
 
 pub some-stored-spec : {M : Type 1} → statement M
 some-stored-spec =

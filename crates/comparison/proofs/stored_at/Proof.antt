@@ -1,8 +1,8 @@
 -- `comparison::stored_at` meets its contract. Assumes nothing.
 use mathlib.Core.Path.{sym, ap, _∙_}
 use Rattle.model.specs.Base.{any, all, member}
-use Rattle.model.specs.Nav.{treeAt}
-use Rattle.model.specs.Schema.{baseOf}
+use Rattle.inner.specs.Positions.{treeAt}
+use Rattle.inner.specs.Packed.{baseNumbered}
 use Rattle.uuids.specs.Named.{namesAt}
 use Rattle.judged.specs.Weights.{atomsAs}
 use Rattle.comparison.specs.Comparing.{stored}
@@ -21,8 +21,8 @@ unfolding stored
 returns c =
     let e = c .before .before .elements-at in
     let a = c .before .before .before .before .before .before .args in
-    let l = atomsAs (namesAt (a .text .now) (a .ops) (a .fresh .now)) (baseOf (a .kind)) (treeAt (a .text .now) (a .at)) in
-    c .each-stored .ensures ∙ ap (all (λ x. member x (a .xs .now))) (begun (namesAt (a .text .now) (a .ops) (a .fresh .now)) (baseOf (a .kind)) (a .text .now) (e .result .set) (e .result .first) (treeAt (a .text .now) (a .at)) (e .ensures)) ∙ ap (λ b. stored b (a .xs .now) l) (sym (c .before .if1 .taken))
+    let l = atomsAs (namesAt (a .text .now) (a .ops) (a .fresh .now)) (baseNumbered (a .kind)) (treeAt (a .text .now) (a .at)) in
+    c .each-stored .ensures .0 ∙ ap (all (λ x. member x (a .xs .now))) (begun (namesAt (a .text .now) (a .ops) (a .fresh .now)) (baseNumbered (a .kind)) (a .text .now) (e .result .set) (e .result .first) (treeAt (a .text .now) (a .at)) (e .ensures)) ∙ ap (λ b. stored b (a .xs .now) l) (sym (c .before .if1 .taken))
 
 some-stored-requires : tie.Need-some-stored-requires
 some-stored-requires c κs = (c .before .before .before .before .before .pre .0, c .before .elements-at .ensures .fine)
@@ -32,8 +32,8 @@ unfolding stored
 returns-2 c =
     let e = c .before .before .elements-at in
     let a = c .before .before .before .before .before .before .args in
-    let l = atomsAs (namesAt (a .text .now) (a .ops) (a .fresh .now)) (baseOf (a .kind)) (treeAt (a .text .now) (a .at)) in
-    c .some-stored .ensures ∙ ap (any (λ x. member x (a .xs .now))) (begun (namesAt (a .text .now) (a .ops) (a .fresh .now)) (baseOf (a .kind)) (a .text .now) (e .result .set) (e .result .first) (treeAt (a .text .now) (a .at)) (e .ensures)) ∙ ap (λ b. stored b (a .xs .now) l) (sym (c .before .if1 .left))
+    let l = atomsAs (namesAt (a .text .now) (a .ops) (a .fresh .now)) (baseNumbered (a .kind)) (treeAt (a .text .now) (a .at)) in
+    c .some-stored .ensures ∙ ap (any (λ x. member x (a .xs .now))) (begun (namesAt (a .text .now) (a .ops) (a .fresh .now)) (baseNumbered (a .kind)) (a .text .now) (e .result .set) (e .result .first) (treeAt (a .text .now) (a .at)) (e .ensures)) ∙ ap (λ b. stored b (a .xs .now) l) (sym (c .before .if1 .left))
 
 pub stored-at-spec : {M : Type 1} → statement M
 stored-at-spec =

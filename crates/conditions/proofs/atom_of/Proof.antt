@@ -1,7 +1,7 @@
 -- `conditions::atom_of` meets its contract. Assumes nothing.
 use mathlib.Core.Path.{_∙_}
 use native.Mathlib.Omega.{arith}
-use Rattle.model.proofs.Working.{octets-of}
+use Rattle.model.proofs.Octets.{octets}
 use Rattle.conditions.proofs.Holding.{id-atom}
 use borrow.Author.Needs.{needs}
 use Rattle.conditions.proofs.atom_of.Statement.{statement}
@@ -17,7 +17,7 @@ returns : tie.Need-returns
 returns c =
     let k = c .before .before .before in
     let st = k .before in
-    c .before .put-bytes .ensures ∙ id-atom (st .args .id .now) (st .pre) (octets-of (st .args .id .now) (λ i _. k .shared-slice-known .given i .fits))
+    c .before .put-bytes .ensures ∙ id-atom (st .args .id .now) (st .pre) (octets (st .args .id .now) (λ i. k .shared-slice-known .given i .fits))
 
 pub atom-of-spec : {M : Type 1} → statement M
 atom-of-spec =

@@ -2,10 +2,10 @@
 use mathlib.Core.Path.{ap, _∙_}
 use Prim.Native.Nat.{min}
 use native.Mathlib.Omega.{arith}
-use Rattle.model.specs.Nav.{treeAt}
-use Rattle.model.specs.Schema.{baseOf}
+use Rattle.inner.specs.Positions.{treeAt}
+use Rattle.inner.specs.Packed.{baseNumbered}
 use Rattle.model.specs.Conditions.{compare}
-use Rattle.model.specs.Working.{valueIn}
+use Rattle.inner.specs.Working.{valueIn}
 use Rattle.uuids.specs.Named.{namesAt}
 use Rattle.judged.specs.Weights.{atomsAs}
 use Rattle.conditions.proofs.Holding.{elements-min}
@@ -39,7 +39,7 @@ returns : tie.Need-returns
 returns c =
     let s = c .before .before in
     let a = s .before .before .before .before .before .before .args in
-    c .compare-at .ensures ∙ ap (λ l. compare (a .f) (baseOf (a .kind)) l (atomsAs (namesAt (a .text .now) (a .ops) (a .fresh .now)) (baseOf (a .kind)) (treeAt (a .text .now) (a .at)))) (elements-min (valueIn (a .c) (a .row .now)) (s .before .before .atoms-in .ensures .0) (s .before .before .atoms-in .ensures .1) (s .size .ensures ∙ ap (λ x. min x 4) (s .before .count-of .ensures)) .0)
+    c .compare-at .ensures ∙ ap (λ l. compare (a .f) (baseNumbered (a .kind)) l (atomsAs (namesAt (a .text .now) (a .ops) (a .fresh .now)) (baseNumbered (a .kind)) (treeAt (a .text .now) (a .at)))) (elements-min (valueIn (a .c) (a .row .now)) (s .before .before .atoms-in .ensures .0) (s .before .before .atoms-in .ensures .1) (s .size .ensures ∙ ap (λ x. min x 4) (s .before .count-of .ensures)) .0)
 
 pub column-holds-spec : {M : Type 1} → statement M
 column-holds-spec =

@@ -8,8 +8,8 @@ use lib.ListN.{drop}
 use Rattle.model.specs.Base.{count}
 use Rattle.model.specs.Schema.{Schema, columnsOf}
 use Rattle.model.specs.Conditions.{matches}
-use Rattle.model.specs.Packed.{columnFrom}
-use Rattle.model.specs.Working.{working}
+use Rattle.inner.specs.Packed.{columnFrom}
+use Rattle.inner.specs.Working.{working}
 use Rattle.conditions.specs.Tests.{testsAt}
 use Rattle.conditions.proofs.Picking.{counted-yes, counted-no, counted-end}
 use Rattle.conditions.proofs.count_rows.Statement.{statement}

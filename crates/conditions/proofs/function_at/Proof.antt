@@ -1,6 +1,6 @@
 -- `conditions::function_at` meets its contract. Assumes nothing.
 use mathlib.Core.Path.{sym, ap, _∙_}
-use Rattle.model.specs.Nav.{treeAt}
+use Rattle.inner.specs.Positions.{treeAt}
 use Rattle.conditions.specs.Tests.{chosen, functionBy}
 use Rattle.conditions.proofs.Naming.{function-words}
 use borrow.Author.Needs.{needs}

@@ -1,7 +1,7 @@
 -- `conditions::id_column` meets its contract. Assumes nothing.
 use mathlib.Core.Path.{refl}
-use Rattle.model.specs.Schema.{baseOf}
-use Rattle.model.specs.Packed.{refersFrom}
+use Rattle.inner.specs.Packed.{baseNumbered}
+use Rattle.inner.specs.Packed.{refersFrom}
 use borrow.Author.Needs.{needs}
 use Rattle.conditions.proofs.id_column.Statement.{statement}
 use Rattle.conditions.proofs.id_column.Tie as tie
@@ -34,7 +34,7 @@ array-write-cell-9 : tie.Need-array-write-cell-9
 array-write-cell-9 c = search needs
 
 returns : tie.Need-returns
-unfolding baseOf refersFrom
+unfolding baseNumbered refersFrom
 returns c = refl
 
 pub id-column-spec : {M : Type 1} → statement M

@@ -3,11 +3,12 @@ use mathlib.Core.Path.{ap, _∙_}
 use mathlib.Core.List.{[], _∷_}
 use native.Mathlib.Omega.{arith}
 use Rattle.model.specs.Octets.{value}
-use Rattle.model.specs.Nav.{treeAt}
-use Rattle.model.specs.Schema.{uuid, baseOf}
+use Rattle.inner.specs.Positions.{treeAt}
+use Rattle.model.specs.Schema.{uuid}
+use Rattle.inner.specs.Packed.{baseNumbered}
 use Rattle.model.specs.Value.{uuidAtom}
 use Rattle.model.specs.Conditions.{compare}
-use Rattle.model.specs.Working.{idIn}
+use Rattle.inner.specs.Working.{idIn}
 use Rattle.uuids.specs.Named.{namesAt}
 use Rattle.judged.specs.Weights.{atomsAs}
 use borrow.Author.Needs.{needs}
@@ -24,13 +25,13 @@ slice-aggregate-compare-at : tie.Need-slice-aggregate-compare-at
 slice-aggregate-compare-at c = search needs
 
 compare-at-requires : tie.Need-compare-at-requires
-unfolding baseOf
+unfolding baseNumbered
 compare-at-requires c κs =
     let st = c .before .before .before .before .before .before in
     (st .pre .0, (st .pre .1 .0, (st .pre .1 .1, omega arith)))
 
 returns : tie.Need-returns
-unfolding baseOf idIn
+unfolding baseNumbered idIn
 returns c =
     let x = c .before .before in
     let i = x .before in

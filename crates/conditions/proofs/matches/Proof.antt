@@ -1,7 +1,7 @@
 -- `conditions::matches` meets its contract. Assumes nothing.
 use mathlib.Core.Path.{sym, _∙_}
 use mathlib.Core.List.{map}
-use Rattle.model.specs.Packed.{columnFrom}
+use Rattle.inner.specs.Packed.{columnFrom}
 use Rattle.conditions.specs.Tests.{testsAt}
 use Rattle.conditions.proofs.Holding.{other-table, same-table}
 use Rattle.conditions.proofs.matches.Statement.{statement}

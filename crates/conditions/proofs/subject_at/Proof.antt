@@ -1,6 +1,6 @@
 -- `conditions::subject_at` meets its contract. Assumes nothing.
 use mathlib.Core.Path.{sym, _∙_}
-use Rattle.model.specs.Nav.{treeAt}
+use Rattle.inner.specs.Positions.{treeAt}
 use Rattle.conditions.proofs.Naming.{about-id, about-column, about-none}
 use borrow.Author.Needs.{needs}
 use Rattle.conditions.proofs.subject_at.Statement.{statement}

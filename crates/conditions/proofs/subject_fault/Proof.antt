@@ -1,7 +1,7 @@
 -- `conditions::subject_fault` meets its contract. Assumes nothing.
 use mathlib.Core.Path.{sym, ap, _∙_}
 use native.Mathlib.Omega.{arith}
-use Rattle.model.specs.Nav.{treeAt}
+use Rattle.inner.specs.Positions.{treeAt}
 use Rattle.uuids.specs.Named.{namesAt}
 use Rattle.conditions.specs.Tests.{columnFault}
 use Rattle.conditions.proofs.Faulty.{column-judged, column-place, id-judged, subject-none}

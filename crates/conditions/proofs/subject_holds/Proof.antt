@@ -1,6 +1,6 @@
 -- `conditions::subject_holds` meets its contract. Assumes nothing.
 use native.Mathlib.Omega.{arith}
-use Rattle.model.specs.Nav.{treeAt}
+use Rattle.inner.specs.Positions.{treeAt}
 use Rattle.uuids.specs.Named.{namesAt}
 use Rattle.conditions.proofs.Holding.{column-comparable, column-within, column-says, id-comparable, id-says, none-says}
 use borrow.Author.Needs.{needs}

@@ -3,13 +3,13 @@ use mathlib.Core.Path.{_≡_, refl, sym, _∙_}
 use mathlib.Core.Bool.{true}
 use mathlib.Core.List.{map}
 use Rattle.model.specs.Base.{all}
-use Rattle.model.specs.Nav.{left, itemsFine}
+use Rattle.inner.specs.Positions.{left, itemsFine}
 use Rattle.model.specs.Schema.{Schema, columnsOf}
 use Rattle.model.specs.Faults.{isFine}
 use Rattle.model.specs.Conditions.{holds}
 use Rattle.model.specs.Areas.{rowFrom}
-use Rattle.model.specs.Packed.{columnFrom}
-use Rattle.model.specs.Working.{tableIn}
+use Rattle.inner.specs.Packed.{columnFrom}
+use Rattle.inner.specs.Working.{tableIn}
 use Rattle.nav.proofs.Walk.{walk-fine, walk-less}
 use Rattle.conditions.specs.Tests.{testsAt, HoldAll}
 use Rattle.conditions.proofs.Holding.{fine-on, hold-on, hold-off, hold-end}

@@ -1,8 +1,8 @@
 -- `conditions::triple_fault` meets its contract. Assumes nothing.
 use mathlib.Core.Path.{sym, ap, _∙_}
 use mathlib.Core.List.{map}
-use Rattle.model.specs.Nav.{treeAt}
-use Rattle.model.specs.Packed.{columnFrom}
+use Rattle.inner.specs.Positions.{treeAt}
+use Rattle.inner.specs.Packed.{columnFrom}
 use Rattle.uuids.specs.Named.{namesAt}
 use Rattle.conditions.specs.Tests.{chosen, testAs}
 use Rattle.conditions.proofs.Faulty.{function-none}

@@ -2,9 +2,9 @@
 use mathlib.Core.Path.{refl, sym, ap, subst, _∙_}
 use mathlib.Core.Bool.{false}
 use mathlib.Core.List.{map}
-use Rattle.model.specs.Nav.{treeAt}
+use Rattle.inner.specs.Positions.{treeAt}
 use Rattle.model.specs.Faults.{isFine}
-use Rattle.model.specs.Packed.{columnFrom}
+use Rattle.inner.specs.Packed.{columnFrom}
 use Rattle.model.proofs.Tests.{clash}
 use Rattle.uuids.specs.Named.{namesAt}
 use Rattle.conditions.specs.Tests.{chosen, testAs, Holds}

@@ -5,7 +5,7 @@ use mathlib.Core.Path.{_≡_, sym, _∙_}
 use native.Mathlib.Omega.{arith}
 use native.Mathlib.Nat.{sub-zero}
 use lib.ListN.{length, drop}
-use Rattle.model.specs.Nav.{treeAt}
+use Rattle.inner.specs.Positions.{treeAt}
 use Rattle.fields.specs.Fields.{wordsFrom, wordsOf, choiceFrom, choice}
 use Rattle.fields.proofs.Choices.{words-end, words-spent, words-short, words-here, words-next}
 use Rattle.fields.proofs.choose.Statement.{statement}

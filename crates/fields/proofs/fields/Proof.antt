@@ -8,7 +8,7 @@ use mathlib.Core.Bool.{true}
 use native.Mathlib.Omega.{arith}
 use lib.ListN.{set, replicate}
 use lib.Seq.{set-out}
-use Rattle.model.specs.Nav.{treeAt, membersFrom, membersFine, left}
+use Rattle.inner.specs.Positions.{treeAt, membersFrom, membersFine, left}
 use Rattle.model.specs.Members.{membersIn}
 use Rattle.nav.proofs.Walk.{members-in, pass-end, pass-less, pass-fine}
 use Rattle.fields.specs.Fields.{wordsOf}

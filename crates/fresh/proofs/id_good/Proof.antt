@@ -8,7 +8,7 @@ use lib.ListN.{replicate}
 use Rattle.model.specs.Octets.{value}
 use Rattle.model.specs.Base.{any}
 use Rattle.model.specs.Rows.{hasId}
-use Rattle.model.specs.Working.{working}
+use Rattle.inner.specs.Working.{working}
 use Rattle.fresh.specs.Fresh.{freshFrom, freshAt}
 use Rattle.fresh.proofs.Ids.{blank-value, copied, good-is}
 use borrow.Author.Needs.{needs}

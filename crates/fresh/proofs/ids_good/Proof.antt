@@ -3,7 +3,7 @@ use Prim.Native.Nat.{_-_, _≤_}
 use mathlib.Core.Path.{_≡_, refl, sym, ap, _∙_}
 use native.Mathlib.Omega.{arith}
 use Rattle.model.specs.Schema.{Schema}
-use Rattle.model.specs.Working.{working}
+use Rattle.inner.specs.Working.{working}
 use Rattle.fresh.specs.Fresh.{freshGood}
 use Rattle.fresh.proofs.Ids.{goodFrom, good-first, good-on, good-not, good-end}
 use Rattle.fresh.proofs.ids_good.Statement.{statement}

@@ -3,7 +3,7 @@ use mathlib.Core.Path.{_≡_, sym, _∙_}
 use native.Mathlib.Omega.{arith}
 use borrow.Author.Needs.{needs}
 use borrow.Author.Tests.{not-true, not-false}
-use Rattle.area.proofs.Writes.{octets}
+use Rattle.model.proofs.Octets.{octets}
 use Rattle.holding.proofs.Laws.{cells-accepted, rows-few, held-part, held-types, held-rules}
 use Rattle.holding.proofs.rows_held.Statement.{statement}
 use Rattle.holding.proofs.rows_held.Tie as tie

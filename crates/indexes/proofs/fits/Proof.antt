@@ -1,7 +1,8 @@
 -- `indexes::fits` meets its contract. Assumes nothing.
 use Rattle.indexes.proofs.Judged.{fits-array, fits-not}
 use Rattle.model.specs.Members.{membersIn}
-use Rattle.model.specs.Nav.{treeAt, isArray}
+use Rattle.inner.specs.Positions.{treeAt}
+use Rattle.model.specs.Nav.{isArray}
 use mathlib.Core.Path.{sym, ap, _∙_}
 use borrow.Author.Needs.{needs}
 use Rattle.indexes.proofs.fits.Statement.{statement}

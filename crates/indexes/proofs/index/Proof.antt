@@ -1,8 +1,8 @@
 -- `indexes::index` meets its contract. Assumes nothing.
 use Rattle.indexes.proofs.Numbers.{Filled, filled-start, filled-end, filled-more, filled-short, filled-on}
 use Rattle.nav.proofs.Walk.{walk-less}
-use Rattle.model.specs.Packed.{cellName}
-use Rattle.model.specs.Nav.{treeAt, left}
+use Rattle.inner.specs.Packed.{cellName}
+use Rattle.inner.specs.Positions.{treeAt, left}
 use mathlib.Core.List.{map}
 use native.Mathlib.Omega.{arith}
 use borrow.Author.Needs.{needs}

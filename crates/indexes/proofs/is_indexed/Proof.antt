@@ -2,7 +2,8 @@
 use Rattle.indexes.proofs.Shorts.{found-well, indexed-not, indexed-at, indexed-none}
 use Rattle.model.specs.Value.{textOf}
 use Rattle.model.specs.Members.{membersIn}
-use Rattle.model.specs.Nav.{treeAt, isText}
+use Rattle.inner.specs.Positions.{treeAt}
+use Rattle.model.specs.Nav.{isText}
 use mathlib.Core.Path.{sym, ap, _∙_}
 use borrow.Author.Needs.{needs}
 use Rattle.indexes.proofs.is_indexed.Statement.{statement}

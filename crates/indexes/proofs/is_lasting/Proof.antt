@@ -1,6 +1,6 @@
 -- `indexes::is_lasting` meets its contract. Assumes nothing.
 use Rattle.indexes.proofs.Shorts.{lasting-at, lasting-none}
-use Rattle.model.specs.Nav.{treeAt}
+use Rattle.inner.specs.Positions.{treeAt}
 use mathlib.Core.Bool.{not}
 use mathlib.Core.Path.{ap, _∙_}
 use borrow.Author.Needs.{needs}

@@ -1,7 +1,7 @@
 -- `indexes::number` meets its contract. Assumes nothing.
 use Rattle.indexes.proofs.Numbers.{number-at, number-none}
 use Rattle.model.specs.Value.{textOf}
-use Rattle.model.specs.Nav.{treeAt}
+use Rattle.inner.specs.Positions.{treeAt}
 use mathlib.Core.Path.{ap, _∙_}
 use native.Mathlib.Omega.{arith}
 use borrow.Author.Needs.{needs}

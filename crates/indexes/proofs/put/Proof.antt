@@ -1,6 +1,6 @@
 -- `indexes::put` meets its contract. Assumes nothing.
 use Rattle.indexes.proofs.Cells.{first-well, first-short, second-well, second-short, put-none, put-one, put-two}
-use Rattle.model.specs.Packed.{cellName}
+use Rattle.inner.specs.Packed.{cellName}
 use mathlib.Core.List.{map}
 use borrow.Author.Needs.{needs}
 use Rattle.indexes.proofs.put.Statement.{statement}

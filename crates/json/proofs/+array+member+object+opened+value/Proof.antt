@@ -13,7 +13,7 @@ use Rattle.scan.proofs.Bytes.{inside-byte, inside-open}
 use Rattle.scan.proofs.Items.{turn, done, spent}
 use Rattle.scan.proofs.Values.{nested, nested-is, value-is}
 use Rattle.scan.proofs.Ends.{then-not}
-use Rattle.model.specs.Nav.{Says}
+use Rattle.inner.specs.Positions.{Says}
 use Rattle.json.proofs.Told.{says-level}
 use borrow.Fn.Kinds.{In}
 use borrow.Fn.PlainCycle.{Measures, is, falls, and}

@@ -2,7 +2,7 @@
 use mathlib.Core.Path.{_≡_, sym, ap, _∙_}
 use native.Mathlib.Omega.{arith}
 use lib.ListN.{length}
-use Rattle.model.specs.Schema.{baseOf}
+use Rattle.inner.specs.Packed.{baseNumbered}
 use Rattle.model.specs.Value.{valueOf}
 use Rattle.uuids.specs.Named.{namesAt}
 use Rattle.written.specs.Atoms.{atomsOf}
@@ -21,13 +21,13 @@ gather-requires c κs =
     let n = namesAt (a .text .now) (a .ops) (a .fresh .now) in
     let e = c .elements-at .ensures in
     let f = c .before .before .before .before .pre .1 .1 in
-    (c .before .before .before .before .pre .0, (e .fine, (ap (allShort n (baseOf (a .kind))) (sym (e .all)) ∙ f .short, omega (arith, f .few, ap length (e .all)))))
+    (c .before .before .before .before .pre .0, (e .fine, (ap (allShort n (baseNumbered (a .kind))) (sym (e .all)) ∙ f .short, omega (arith, f .few, ap length (e .all)))))
 
 returns : tie.Need-returns
 unfolding atomsAs
 returns c =
     let a = c .before .before .before .before .before .args in
-    c .gather .ensures ∙ ap (λ l. valueOf (atomsOf (namesAt (a .text .now) (a .ops) (a .fresh .now)) (baseOf (a .kind)) l) .atoms) (sym (c .before .elements-at .ensures .all))
+    c .gather .ensures ∙ ap (λ l. valueOf (atomsOf (namesAt (a .text .now) (a .ops) (a .fresh .now)) (baseNumbered (a .kind)) l) .atoms) (sym (c .before .elements-at .ensures .all))
 
 pub atoms-at-spec : {M : Type 1} → statement M
 atoms-at-spec =

@@ -3,7 +3,7 @@ use Prim.Native.Nat.{_+_, _≤_}
 use mathlib.Core.Path.{_≡_, ap}
 use native.Mathlib.Omega.{arith}
 use lib.ListN.{length}
-use Rattle.model.specs.Nav.{left}
+use Rattle.inner.specs.Positions.{left}
 use Rattle.elements.specs.Elements.{elementsFrom}
 use Rattle.elements.proofs.Walk.{walk-rest, walk-end, walk-less, left-le}
 use borrow.Author.Needs.{needs}

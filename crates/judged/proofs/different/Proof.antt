@@ -1,7 +1,7 @@
 -- `judged::different` meets its contract. Assumes nothing.
 use mathlib.Core.Path.{sym}
 use native.Mathlib.Omega.{arith}
-use Rattle.model.specs.Schema.{baseOf}
+use Rattle.inner.specs.Packed.{baseNumbered}
 use Rattle.elements.specs.Elements.{elementsFrom}
 use Rattle.uuids.specs.Named.{namesAt}
 use Rattle.written.specs.Atoms.{atomsOf}
@@ -15,7 +15,7 @@ returns c =
     let a = c .before .before .before .before .args in
     let n = namesAt (a .text .now) (a .ops) (a .fresh .now) in
     let js = elementsFrom (a .text .now) (a .set) (a .f) in
-    sym (one-distinct (atomsOf n (baseOf (a .kind)) js) (omega (arith, c .if1 .taken, c .before .before .before .before .pre .1 .1, atoms-length n (baseOf (a .kind)) js)))
+    sym (one-distinct (atomsOf n (baseNumbered (a .kind)) js) (omega (arith, c .if1 .taken, c .before .before .before .before .pre .1 .1, atoms-length n (baseNumbered (a .kind)) js)))
 
 distinct-from-requires : tie.Need-distinct-from-requires
 distinct-from-requires c κs = (c .before .before .before .before .pre .0, c .before .before .before .before .pre .1 .0)

@@ -1,14 +1,14 @@
 -- `judged::operand_at` meets its contract. Assumes nothing.
-use Rattle.model.specs.Nav.{treeAt}
+use Rattle.inner.specs.Positions.{treeAt}
 use Rattle.uuids.specs.Named.{namesAt}
-use Rattle.model.specs.Schema.{baseOf}
+use Rattle.inner.specs.Packed.{baseNumbered}
 use Rattle.judged.proofs.Fits.{operand-fits, operand-one}
 use borrow.Author.Needs.{needs}
 use Rattle.judged.proofs.operand_at.Statement.{statement}
 use Rattle.judged.proofs.operand_at.Tie as tie
 
 atoms-at-requires : tie.Need-atoms-at-requires
-unfolding baseOf
+unfolding baseNumbered
 atoms-at-requires c κs =
     let a = c .before .before .before .args in
     (c .before .before .before .pre .0, (c .before .before .before .pre .1 .0, operand-fits (namesAt (a .text .now) (a .ops) (a .fresh .now)) (treeAt (a .text .now) (a .at)) (c .before .before .before .pre .1 .1)))
@@ -17,7 +17,7 @@ array-copy-out-result : tie.Need-array-copy-out-result
 array-copy-out-result c = search needs
 
 returns : tie.Need-returns
-unfolding baseOf
+unfolding baseNumbered
 returns c =
     let a = c .before .before .before .before .before .args in
     operand-one (namesAt (a .text .now) (a .ops) (a .fresh .now)) (treeAt (a .text .now) (a .at)) (c .before .before .before .before .before .pre .1 .1) (c .before .atoms-at .ensures)

@@ -4,7 +4,7 @@ use mathlib.Core.Bool.{Bool}
 use lib.Dec.{eqb}
 use Rattle.model.specs.Base.{if_then_else_}
 use Rattle.model.specs.Written.{setCount}
-use Rattle.model.specs.Packed.{columnFrom}
+use Rattle.inner.specs.Packed.{columnFrom}
 use Rattle.judged.proofs.Judging.{scalar-is}
 use borrow.Author.Needs.{needs}
 use Rattle.judged.proofs.test_count.Statement.{statement}

@@ -1,6 +1,6 @@
 -- `judged::weigh` meets its contract. Assumes nothing.
-use Rattle.model.specs.Nav.{treeAt}
-use Rattle.model.specs.Packed.{columnFrom}
+use Rattle.inner.specs.Positions.{treeAt}
+use Rattle.inner.specs.Packed.{columnFrom}
 use Rattle.uuids.specs.Named.{namesAt}
 use Rattle.judged.proofs.Judging.{weighed}
 use borrow.Author.Needs.{needs}

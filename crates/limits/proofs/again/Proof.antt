@@ -8,7 +8,7 @@ use mathlib.Core.Logic.{⊎-elim}
 use Prim.Native.Nat.{ℕ, _+_, _-_, _≤_, _<_}
 use lib.ListN.{getD, drop, take}
 use Rattle.model.specs.Base.{any, keep}
-use Rattle.model.specs.Packed.{indexFrom}
+use Rattle.inner.specs.Packed.{indexFrom}
 use Rattle.limits.specs.Alike.{ofT, sameCells}
 use Rattle.limits.proofs.Kept.{any-kept-here, any-kept-on, any-kept-no, keep-end}
 use Rattle.limits.proofs.again.Statement.{statement}

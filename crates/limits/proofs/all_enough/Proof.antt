@@ -6,15 +6,15 @@ use borrow.Author.Tests.{not-true, not-false}
 use lib.ListN.{drop}
 use Rattle.model.specs.Base.{all}
 use Rattle.model.specs.Commit.{allEnough}
-use Rattle.model.specs.Packed.{tablesIn}
-use Rattle.model.specs.Working.{working}
+use Rattle.inner.specs.Packed.{packedTables}
+use Rattle.inner.specs.Working.{working}
 use Rattle.references.proofs.Walks.{all-row-here, all-row-on, all-row-end}
 use Rattle.limits.specs.Alike.{rowEnough}
 use Rattle.limits.proofs.all_enough.Statement.{statement}
 use Rattle.limits.proofs.all_enough.Tie as tie
 
 abbrev Inv-loop : tie.InvT-loop
-Inv-loop schema rows n i₀ i = (i ≤ n) × (allEnough (tablesIn schema) (working (tablesIn schema) n rows) ≡ all (rowEnough (tablesIn schema)) (drop i (working (tablesIn schema) n rows)))
+Inv-loop schema rows n i₀ i = (i ≤ n) × (allEnough (packedTables schema) (working (packedTables schema) n rows) ≡ all (rowEnough (packedTables schema)) (drop i (working (packedTables schema) n rows)))
 
 abbrev μ-loop : tie.MeasureT-loop
 μ-loop schema rows n i₀ i = n - i
@@ -36,7 +36,7 @@ returns : tie.Need-returns Inv-loop μ-loop
 returns c =
     let s = c .before .before .before .before .before in
     let l = c .before .before .before .before .loop in
-    sym (l .inv .1 ∙ all-row-here (tablesIn (s .args .schema .now)) (s .args .rows .now) (s .args .n) (s .pre .1) (l .i) (rowEnough (tablesIn (s .args .schema .now))) (c .before .before .before .loop-test .taken) (sym (c .before .row-enough .ensures) ∙ not-true _ (c .if1 .taken)))
+    sym (l .inv .1 ∙ all-row-here (packedTables (s .args .schema .now)) (s .args .rows .now) (s .args .n) (s .pre .1) (l .i) (rowEnough (packedTables (s .args .schema .now))) (c .before .before .before .loop-test .taken) (sym (c .before .row-enough .ensures) ∙ not-true _ (c .if1 .taken)))
 
 add-i : tie.Need-add-i Inv-loop μ-loop
 add-i c = omega arith
@@ -48,13 +48,13 @@ loop-again : tie.Need-loop-again Inv-loop μ-loop
 loop-again c =
     let s = c .before .before .before .before .before in
     let l = c .before .before .before .before .loop in
-    (omega arith, l .inv .1 ∙ all-row-on (tablesIn (s .args .schema .now)) (s .args .rows .now) (s .args .n) (s .pre .1) (l .i) (rowEnough (tablesIn (s .args .schema .now))) (c .before .before .before .loop-test .taken) (sym (c .before .row-enough .ensures) ∙ not-false _ (c .if1 .left)))
+    (omega arith, l .inv .1 ∙ all-row-on (packedTables (s .args .schema .now)) (s .args .rows .now) (s .args .n) (s .pre .1) (l .i) (rowEnough (packedTables (s .args .schema .now))) (c .before .before .before .loop-test .taken) (sym (c .before .row-enough .ensures) ∙ not-false _ (c .if1 .left)))
 
 returns-2 : tie.Need-returns-2 Inv-loop μ-loop
 returns-2 c =
     let s = c .before .before in
     let l = c .before .loop in
-    sym (l .inv .1 ∙ all-row-end (tablesIn (s .args .schema .now)) (s .args .rows .now) (s .args .n) (s .pre .1) (l .i) (rowEnough (tablesIn (s .args .schema .now))) (c .loop-test .left))
+    sym (l .inv .1 ∙ all-row-end (packedTables (s .args .schema .now)) (s .args .rows .now) (s .args .n) (s .pre .1) (l .i) (rowEnough (packedTables (s .args .schema .now))) (c .loop-test .left))
 
 pub all-enough-spec : {M : Type 1} → statement M
 all-enough-spec =

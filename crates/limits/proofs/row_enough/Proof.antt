@@ -7,8 +7,8 @@ use lib.ListN.{length, getD}
 use Rattle.model.specs.Schema.{columnsOf}
 use Rattle.model.specs.Areas.{rowFrom}
 use mathlib.Core.List.{[]}
-use Rattle.model.specs.Packed.{tablesIn, columnFrom, columnCell}
-use Rattle.model.specs.Working.{tableIn}
+use Rattle.inner.specs.Packed.{packedTables, columnFrom, columnCell}
+use Rattle.inner.specs.Working.{tableIn}
 use Rattle.references.proofs.Packs.{few-columns}
 use Rattle.limits.specs.Alike.{rowEnough}
 use Rattle.limits.proofs.Enough.{enoughFrom, least, enough-all, enough-end, enough-here, enough-on}
@@ -16,7 +16,7 @@ use Rattle.limits.proofs.row_enough.Statement.{statement}
 use Rattle.limits.proofs.row_enough.Tie as tie
 
 abbrev Inv-loop : tie.InvT-loop
-Inv-loop row schema table w c₀ c = (c ≤ w) × (rowEnough (tablesIn schema) (rowFrom (tablesIn schema) row) ≡ enoughFrom schema row c)
+Inv-loop row schema table w c₀ c = (c ≤ w) × (rowEnough (packedTables schema) (rowFrom (packedTables schema) row) ≡ enoughFrom schema row c)
 
 abbrev μ-loop : tie.MeasureT-loop
 μ-loop row schema table w c₀ c = w - c
@@ -49,8 +49,8 @@ module _ (c : tie.After-minimum Inv-loop μ-loop) where
   table : c .before .before .before .before .before .table-of .result ≡ tableIn (start .args .row .now)
   table = c .before .before .before .before .before .table-of .ensures
 
-  within : at < length (columnsOf (tablesIn (start .args .schema .now)) (tableIn (start .args .row .now)))
-  within = omega (arith, c .before .before .loop-test .taken, c .before .before .before .before .width .ensures, ap (λ (t : ℕ). length (columnsOf (tablesIn (start .args .schema .now)) t)) table)
+  within : at < length (columnsOf (packedTables (start .args .schema .now)) (tableIn (start .args .row .now)))
+  within = omega (arith, c .before .before .loop-test .taken, c .before .before .before .before .width .ensures, ap (λ (t : ℕ). length (columnsOf (packedTables (start .args .schema .now)) t)) table)
 
   low : c .minimum .result ≡ least (start .args .schema .now) (start .args .row .now) (start .pre) at within
   low = c .minimum .ensures ∙ ap (λ (t : ℕ). columnFrom (getD (start .args .schema .now) (columnCell t at) []) .min) table
@@ -81,7 +81,7 @@ returns-2 : tie.Need-returns-2 Inv-loop μ-loop
 returns-2 c =
     let s = c .before .before .before .before in
     let l = c .before .loop in
-    let w = c .before .before .width .ensures ∙ ap (λ (t : ℕ). length (columnsOf (tablesIn (s .args .schema .now)) t)) (c .before .before .before .table-of .ensures) in
+    let w = c .before .before .width .ensures ∙ ap (λ (t : ℕ). length (columnsOf (packedTables (s .args .schema .now)) t)) (c .before .before .before .table-of .ensures) in
     sym (l .inv .1 ∙ enough-end (s .args .schema .now) (s .args .row .now) (l .c) (omega (arith, w, c .loop-test .left)))
 
 pub row-enough-spec : {M : Type 1} → statement M

@@ -10,8 +10,8 @@ use lib.ListN.{length, getD, drop, length-drop}
 use lib.Seq.{getD-drop}
 use Rattle.model.specs.Base.{all}
 use Rattle.model.specs.Value.{sameValue}
-use Rattle.model.specs.Packed.{indexFrom}
-use Rattle.model.specs.Working.{valueIn}
+use Rattle.inner.specs.Packed.{indexFrom}
+use Rattle.inner.specs.Working.{valueIn}
 use Rattle.references.proofs.Walks.{all-here, all-on, all-end}
 use Rattle.limits.specs.Alike.{sameCells}
 use Rattle.limits.proofs.same_at.Statement.{statement}

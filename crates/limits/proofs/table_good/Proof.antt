@@ -6,7 +6,7 @@ use Prim.Native.Nat.{ℕ, _+_, _<_}
 use borrow.Author.Tests.{not-true, not-false}
 use lib.ListN.{length, getD}
 use Rattle.model.specs.Commit.{notOver}
-use Rattle.model.specs.Packed.{maxRowsFrom, indexFrom}
+use Rattle.inner.specs.Packed.{maxRowsFrom, indexFrom}
 use Rattle.references.proofs.Packs.{tableCount, tables-length, few-tables}
 use Rattle.limits.specs.Alike.{uniqueCells, IndexFits}
 use Rattle.limits.proofs.Sanely.{cellAt, widthAt, Below, fits-first, fits-second}

@@ -5,15 +5,15 @@ use borrow.Author.Needs.{needs}
 use Prim.Native.Nat.{_-_, _≤_}
 use borrow.Author.Tests.{not-true, not-false}
 use Rattle.model.specs.Commit.{tablesGood}
-use Rattle.model.specs.Packed.{tablesIn}
-use Rattle.model.specs.Working.{working}
+use Rattle.inner.specs.Packed.{packedTables}
+use Rattle.inner.specs.Working.{working}
 use Rattle.references.proofs.Packs.{tableCount, tables-length, few-tables}
 use Rattle.limits.proofs.Tables.{goodFrom, tables-here, tables-next, tables-last}
 use Rattle.limits.proofs.tables_good.Statement.{statement}
 use Rattle.limits.proofs.tables_good.Tie as tie
 
 abbrev Inv-loop : tie.InvT-loop
-Inv-loop schema rows n k t₀ t = (t ≤ k) × (tablesGood 0 (tablesIn schema) (working (tablesIn schema) n rows) ≡ goodFrom schema n rows 0 t)
+Inv-loop schema rows n k t₀ t = (t ≤ k) × (tablesGood 0 (packedTables schema) (working (packedTables schema) n rows) ≡ goodFrom schema n rows 0 t)
 
 abbrev μ-loop : tie.MeasureT-loop
 μ-loop schema rows n k t₀ t = k - t

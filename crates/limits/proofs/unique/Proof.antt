@@ -7,7 +7,7 @@ use mathlib.Core.Logic.{⊎-elim}
 use Prim.Native.Nat.{_+_, _-_, _≤_}
 use lib.ListN.{getD, drop, take}
 use Rattle.model.specs.Base.{keep}
-use Rattle.model.specs.Packed.{indexFrom}
+use Rattle.inner.specs.Packed.{indexFrom}
 use Rattle.limits.specs.Alike.{ofT, uniqueCells}
 use Rattle.limits.proofs.Kept.{keep-yes, keep-no, keep-end}
 use Rattle.limits.proofs.Indexed.{unique-here, unique-on}

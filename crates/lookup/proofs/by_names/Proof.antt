@@ -2,7 +2,8 @@
 use mathlib.Core.Path.{_≡_, refl, sym, ap, _∙_}
 use mathlib.Core.Bool.{Bool, true, false, _&&_}
 use Prim.Native.Nat.{ℕ}
-use Rattle.model.specs.Nav.{treeAt, kindOf, isText}
+use Rattle.inner.specs.Positions.{treeAt}
+use Rattle.model.specs.Nav.{kindOf, isText}
 use Rattle.lookup.specs.declared.Triple.the-variants.{Of, Other}
 use Rattle.lookup.specs.Lookup.{byNames}
 use borrow.Author.Needs.{needs}

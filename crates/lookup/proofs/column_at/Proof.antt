@@ -5,9 +5,9 @@ use mathlib.Core.List.{map}
 use Prim.Native.Nat.{_≤_, _-_}
 use native.Mathlib.Omega.{arith}
 use lib.ListN.{length}
-use Rattle.model.specs.Nav.{treeAt}
+use Rattle.inner.specs.Positions.{treeAt}
 use Rattle.model.specs.Text.{isWord}
-use Rattle.model.specs.Packed.{columnFrom}
+use Rattle.inner.specs.Packed.{columnFrom}
 use Rattle.names.specs.Names.{foundAt}
 use Rattle.lookup.specs.Lookup.{columnIn}
 use Rattle.lookup.proofs.Columns.{columnFound, column-start, column-here, column-next, column-end}

@@ -4,7 +4,7 @@ use native.Mathlib.Omega.{arith}
 use lib.IntN.{pos}
 use mathlib.Core.List.{List}
 use Prim.Native.Nat.{ℕ}
-use Rattle.model.specs.Packed.{columnFrom}
+use Rattle.inner.specs.Packed.{columnFrom}
 use Rattle.model.specs.Text.{chars}
 use Rattle.model.specs.Value.{inLimits}
 use Rattle.meets.proofs.Laws.{at-integer, at-text, at-other}

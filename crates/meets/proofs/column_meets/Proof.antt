@@ -7,8 +7,8 @@ use native.Mathlib.Omega.{arith}
 use borrow.Author.Tests.{not-true, not-false}
 use lib.Dec.{leb}
 use lib.ListN.{getD, take}
-use Rattle.model.specs.Packed.{columnFrom}
-use Rattle.model.specs.Working.{valueIn}
+use Rattle.inner.specs.Packed.{columnFrom}
+use Rattle.inner.specs.Working.{valueIn}
 use Rattle.meets.specs.Met.{allMet}
 use Rattle.meets.proofs.Laws.{met-many, met-count, met-all}
 use borrow.Author.Needs.{needs}

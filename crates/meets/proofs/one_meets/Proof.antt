@@ -6,7 +6,7 @@ use Prim.Native.Nat.{ℕ, _<_}
 use native.Mathlib.Omega.{arith}
 use borrow.Author.Tests.{lt-ltb, le-ltb}
 use lib.ListN.{getD}
-use Rattle.model.specs.Working.{tableIn}
+use Rattle.inner.specs.Working.{tableIn}
 use Rattle.area.specs.Layout.{columnCells}
 use Rattle.meets.specs.Met.{metFrom, rowMeets}
 use borrow.Author.Needs.{needs}

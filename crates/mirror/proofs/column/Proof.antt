@@ -6,6 +6,7 @@ use lib.ListN.{length}
 use Rattle.model.specs.Calls.{noContents, contentsOf}
 use Rattle.mirror.proofs.Opening.{state-bad, state-good}
 use Rattle.mirror.proofs.Asking.{contents-are, ask-bad, ask-good, column-other, column-asked, both-sized}
+use Rattle.mirror.proofs.Numbered.{column-numbered}
 use borrow.Author.Needs.{needs}
 use Rattle.mirror.proofs.column.Statement.{statement}
 use Rattle.mirror.proofs.column.Tie as tie
@@ -22,7 +23,7 @@ returns c =
     let t = q .before .before in
     let a = t .before .before .before .args in
     let z = q .no-contents .ensures in
-    column-other (a .area .now) (a .table) (a .id .now) (a .column) (a .out .now) (t .if1 .taken) ∙ (λ j. record { answer = sym (z .0) j; out = sym (z .1) j })
+    column-numbered (a .area .now) (a .table) (a .id .now) (a .column) (a .out .now) (column-other (a .area .now) (a .table) (a .id .now) (a .column) (a .out .now) (t .if1 .taken) ∙ (λ j. record { answer = sym (z .0) j; out = sym (z .1) j }))
 
 slice-aggregate-opened : tie.Need-slice-aggregate-opened
 slice-aggregate-opened c = search needs
@@ -48,9 +49,9 @@ returns-2 c =
     let a = e .before .before .before .args in
     let l = both-sized (length (a .out .now)) (length (a .area .now)) (e .if1 .left) in
     let z = q .no-contents2 .ensures in
-    column-asked (a .area .now) (a .table) (a .id .now) (a .column) (a .out .now) (l .0)
+    column-numbered (a .area .now) (a .table) (a .id .now) (a .column) (a .out .now) (column-asked (a .area .now) (a .table) (a .id .now) (a .column) (a .out .now) (l .0)
     ∙ ask-bad (a .area .now) (noContents (a .out .now)) (contentsOf (a .table) (a .id .now) (a .column)) (l .1) (state-bad (o .opened .ensures) (not-true _ (t .if2 .taken)))
-    ∙ (λ j. record { answer = sym (z .0) j; out = sym (z .1) j })
+    ∙ (λ j. record { answer = sym (z .0) j; out = sym (z .1) j }))
 
 row-count-requires : tie.Need-row-count-requires
 row-count-requires c κs =
@@ -84,9 +85,9 @@ returns-3 c =
     let a = e .before .before .before .args in
     let l = both-sized (length (a .out .now)) (length (a .area .now)) (e .if1 .left) in
     let b = not-false _ (f .if2 .left) in
-    column-asked (a .area .now) (a .table) (a .id .now) (a .column) (a .out .now) (l .0)
+    column-numbered (a .area .now) (a .table) (a .id .now) (a .column) (a .out .now) (column-asked (a .area .now) (a .table) (a .id .now) (a .column) (a .out .now) (l .0)
     ∙ ask-good (a .area .now) (noContents (a .out .now)) (contentsOf (a .table) (a .id .now) (a .column)) (l .1) (state-good (o .opened .ensures) b)
-    ∙ contents-are (o .opened .ensures .held b) (k .row-count .result) (k .row-count .ensures) (a .table) (a .id .now) (a .column) _ (q .column .ensures)
+    ∙ contents-are (o .opened .ensures .held b) (k .row-count .result) (k .row-count .ensures) (a .table) (a .id .now) (a .column) _ (q .column .ensures))
 
 pub column-spec : {M : Type 1} → statement M
 column-spec =

@@ -2,10 +2,11 @@
 use mathlib.Core.Path.{sym, ap, _∙_}
 use native.Mathlib.Omega.{arith}
 use borrow.Author.Tests.{not-true, not-false}
-use Rattle.model.specs.Packed.{tablesIn}
+use Rattle.inner.specs.Packed.{packedTables}
 use Rattle.model.specs.Calls.{noPresence, presenceOf, mirrorHasRow}
 use Rattle.mirror.proofs.Opening.{state-bad, state-good}
 use Rattle.mirror.proofs.Asking.{presenceIn, there-is, ask-other, ask-bad, ask-good}
+use Rattle.mirror.proofs.Numbered.{row-numbered}
 use borrow.Author.Needs.{needs}
 use Rattle.mirror.proofs.has_row.Statement.{statement}
 use Rattle.mirror.proofs.has_row.Tie as tie
@@ -18,7 +19,7 @@ unfolding mirrorHasRow
 returns c =
     let t = c .before in
     let a = t .before .before .args in
-    ask-other (a .area .now) noPresence (presenceOf (a .table) (a .id .now)) (t .if1 .taken) ∙ ap presenceIn (sym (c .no-presence .ensures))
+    row-numbered (a .area .now) (a .table) (a .id .now) (ask-other (a .area .now) noPresence (presenceOf (a .table) (a .id .now)) (t .if1 .taken) ∙ ap presenceIn (sym (c .no-presence .ensures)))
 
 slice-aggregate-opened : tie.Need-slice-aggregate-opened
 slice-aggregate-opened c = search needs
@@ -36,7 +37,7 @@ returns-2 c =
     let o = t .before .before in
     let e = o .before .before .before in
     let a = e .before .before .args in
-    ask-bad (a .area .now) noPresence (presenceOf (a .table) (a .id .now)) (e .if1 .left) (state-bad (o .opened .ensures) (not-true _ (t .if2 .taken))) ∙ ap presenceIn (sym (c .no-presence2 .ensures))
+    row-numbered (a .area .now) (a .table) (a .id .now) (ask-bad (a .area .now) noPresence (presenceOf (a .table) (a .id .now)) (e .if1 .left) (state-bad (o .opened .ensures) (not-true _ (t .if2 .taken))) ∙ ap presenceIn (sym (c .no-presence2 .ensures)))
 
 row-count-requires : tie.Need-row-count-requires
 row-count-requires c κs = search needs
@@ -60,8 +61,8 @@ returns-3 c =
     let e = o .before .before .before in
     let a = e .before .before .args in
     let b = not-false _ (f .if2 .left) in
-    ask-good (a .area .now) noPresence (presenceOf (a .table) (a .id .now)) (e .if1 .left) (state-good (o .opened .ensures) b)
-    ∙ there-is (o .opened .ensures .held b) (k .row-count .result) (k .row-count .ensures) (a .table) (a .id .now) (c .has-row .result) (c .has-row .ensures (tablesIn (o .opened .last .1 .0)))
+    row-numbered (a .area .now) (a .table) (a .id .now) (ask-good (a .area .now) noPresence (presenceOf (a .table) (a .id .now)) (e .if1 .left) (state-good (o .opened .ensures) b)
+    ∙ there-is (o .opened .ensures .held b) (k .row-count .result) (k .row-count .ensures) (a .table) (a .id .now) (c .has-row .result) (c .has-row .ensures (packedTables (o .opened .last .1 .0))))
 
 pub has-row-spec : {M : Type 1} → statement M
 has-row-spec =

@@ -1,9 +1,10 @@
 -- `mirror::hear` meets its contract. Assumes nothing.
 use native.Mathlib.Omega.{arith}
 use borrow.Author.Tests.{not-true, not-false}
-use Rattle.area.proofs.Writes.{octets}
+use Rattle.model.proofs.Octets.{octets}
 use Rattle.mirror.proofs.Opening.{state-bad, state-good}
 use Rattle.mirror.proofs.Hearing.{hear-other, hear-bad, hear-got}
+use Rattle.mirror.proofs.Numbered.{hear-numbered}
 use borrow.Author.Needs.{needs}
 use Rattle.mirror.proofs.hear.Statement.{statement}
 use Rattle.mirror.proofs.hear.Tie as tie
@@ -11,7 +12,7 @@ use Rattle.mirror.proofs.hear.Tie as tie
 returns : tie.Need-returns
 returns c =
     let a = c .before .before .before .args in
-    hear-other (a .area .now) (a .bytes .now) (c .if1 .taken)
+    hear-numbered (a .area .now) (a .bytes .now) (hear-other (a .area .now) (a .bytes .now) (c .if1 .taken))
 
 slice-aggregate-opened : tie.Need-slice-aggregate-opened
 slice-aggregate-opened c = search needs
@@ -27,7 +28,7 @@ returns-2 c =
     let o = c .before .before in
     let e = o .before .before .before .before in
     let a = e .before .before .before .args in
-    hear-bad (a .area .now) (a .bytes .now) (e .if1 .left) (state-bad (o .opened .ensures) (not-true _ (c .if2 .taken)))
+    hear-numbered (a .area .now) (a .bytes .now) (hear-bad (a .area .now) (a .bytes .now) (e .if1 .left) (state-bad (o .opened .ensures) (not-true _ (c .if2 .taken))))
 
 numbers-of-requires : tie.Need-numbers-of-requires
 numbers-of-requires c κs = search needs
@@ -69,8 +70,9 @@ returns-3 c =
     let x = e .before in
     let a = x .before .before .args in
     let b = not-false _ (f .if2 .left) in
-    hear-got (a .area .now) (a .bytes .now) _ _ _ (t .step .result) (u .run-of .result) (m .numbers-of .result) (k .row-count .result) (u .run-of .ensures) (m .numbers-of .ensures) (k .row-count .ensures)
-    (state-good (o .opened .ensures) b) (o .opened .ensures .held b) (t .step .ensures) (octets (a .bytes .now) (λ i. x .shared-slice-known .given i .fits)) (search needs) _ (c .before .before .rewrite .ensures)
+    hear-numbered (a .area .now) (a .bytes .now)
+    (hear-got (a .area .now) (a .bytes .now) _ _ _ (t .step .result) (u .run-of .result) (m .numbers-of .result) (k .row-count .result) (u .run-of .ensures) (m .numbers-of .ensures) (k .row-count .ensures)
+    (state-good (o .opened .ensures) b) (o .opened .ensures .held b) (t .step .ensures) (octets (a .bytes .now) (λ i. x .shared-slice-known .given i .fits)) (search needs) _ (c .before .before .rewrite .ensures))
 
 pub hear-spec : {M : Type 1} → statement M
 hear-spec =

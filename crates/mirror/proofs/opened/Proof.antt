@@ -2,7 +2,7 @@
 use mathlib.Core.Path.{sym, _∙_}
 use native.Mathlib.Omega.{arith}
 use borrow.Author.Tests.{not-true, not-false}
-use Rattle.area.proofs.Writes.{octets}
+use Rattle.model.proofs.Octets.{octets}
 use Rattle.mirror.proofs.Opening.{text-is, open-long, open-refused, open-bad, open-good}
 use borrow.Author.Needs.{needs}
 use Rattle.mirror.proofs.opened.Statement.{statement}

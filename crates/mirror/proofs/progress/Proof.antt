@@ -4,6 +4,7 @@ use borrow.Author.Tests.{not-true, not-false}
 use Rattle.model.specs.Calls.{noProgress, progressOf, mirrorProgress}
 use Rattle.mirror.proofs.Opening.{state-bad, state-good}
 use Rattle.mirror.proofs.Asking.{progress-is, progressIn, ask-other, ask-bad, ask-good}
+use Rattle.mirror.proofs.Numbered.{progress-numbered}
 use borrow.Author.Needs.{needs}
 use Rattle.mirror.proofs.progress.Statement.{statement}
 use Rattle.mirror.proofs.progress.Tie as tie
@@ -14,7 +15,7 @@ no-standing-requires c κs = search needs
 returns : tie.Need-returns
 unfolding mirrorProgress
 returns c =
-    ask-other (c .before .before .before .args .area .now) noProgress progressOf (c .before .if1 .taken) ∙ ap progressIn (sym (c .no-standing .ensures))
+    progress-numbered (c .before .before .before .args .area .now) (ask-other (c .before .before .before .args .area .now) noProgress progressOf (c .before .if1 .taken) ∙ ap progressIn (sym (c .no-standing .ensures)))
 
 slice-aggregate-opened : tie.Need-slice-aggregate-opened
 slice-aggregate-opened c = search needs
@@ -31,7 +32,7 @@ returns-2 c =
     let t = c .before in
     let o = t .before .before in
     let e = o .before .before .before in
-    ask-bad (e .before .before .args .area .now) noProgress progressOf (e .if1 .left) (state-bad (o .opened .ensures) (not-true _ (t .if2 .taken))) ∙ ap progressIn (sym (c .no-standing2 .ensures))
+    progress-numbered (e .before .before .args .area .now) (ask-bad (e .before .before .args .area .now) noProgress progressOf (e .if1 .left) (state-bad (o .opened .ensures) (not-true _ (t .if2 .taken))) ∙ ap progressIn (sym (c .no-standing2 .ensures)))
 
 numbers-of-requires : tie.Need-numbers-of-requires
 numbers-of-requires c κs = search needs
@@ -47,7 +48,7 @@ returns-3 c =
     let o = f .before .before in
     let e = o .before .before .before in
     let a = e .before .before .args .area .now in
-    ask-good a noProgress progressOf (e .if1 .left) (state-good (o .opened .ensures) (not-false _ (f .if2 .left))) ∙ progress-is a (m .numbers-of .result) (c .level .result) (m .numbers-of .ensures) (c .level .ensures)
+    progress-numbered a (ask-good a noProgress progressOf (e .if1 .left) (state-good (o .opened .ensures) (not-false _ (f .if2 .left))) ∙ progress-is a (m .numbers-of .result) (c .level .result) (m .numbers-of .ensures) (c .level .ensures))
 
 pub progress-spec : {M : Type 1} → statement M
 progress-spec =

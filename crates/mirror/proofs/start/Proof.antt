@@ -8,6 +8,7 @@ use Rattle.model.specs.Base.{isSome}
 use Rattle.model.specs.SchemaText.{readSchema}
 use Rattle.model.proofs.Accepted.{text-short}
 use Rattle.mirror.proofs.Starting.{start-other, start-refused, start-is}
+use Rattle.mirror.proofs.Numbered.{start-numbered}
 use borrow.Author.Needs.{needs}
 use Rattle.mirror.proofs.start.Statement.{statement}
 use Rattle.mirror.proofs.start.Tie as tie
@@ -15,7 +16,7 @@ use Rattle.mirror.proofs.start.Tie as tie
 returns : tie.Need-returns
 returns c =
     let a = c .before .before .before .args in
-    start-other (a .area .now) (a .schema .now) (a .run) (c .if1 .taken)
+    start-numbered (a .area .now) (a .schema .now) (a .run) (start-other (a .area .now) (a .schema .now) (a .run) (c .if1 .taken))
 
 read-requires : tie.Need-read-requires
 read-requires c κs = search needs
@@ -24,7 +25,7 @@ returns-2 : tie.Need-returns-2
 returns-2 c =
     let e = c .before .before .before in
     let a = e .before .before .before .args in
-    start-refused (a .area .now) (a .schema .now) (a .run) (e .if1 .left) (sym (c .before .read .ensures .accepted) ∙ not-true _ (c .if2 .taken))
+    start-numbered (a .area .now) (a .schema .now) (a .run) (start-refused (a .area .now) (a .schema .now) (a .run) (e .if1 .left) (sym (c .before .read .ensures .accepted) ∙ not-true _ (c .if2 .taken)))
 
 slice-aggregate-write-store : tie.Need-slice-aggregate-write-store
 slice-aggregate-write-store c = search needs
@@ -52,7 +53,7 @@ returns-3 c =
     let f = e .before .before .before in
     let s = f .before .before .before in
     let a = s .args in
-    start-is (a .area .now) (a .schema .now) (a .run) (f .if1 .left) _ _ _ (accepted e) (omega (arith, s .fits .run)) (w .write-store .ensures [] tt) (t .write-tail .ensures)
+    start-numbered (a .area .now) (a .schema .now) (a .run) (start-is (a .area .now) (a .schema .now) (a .run) (f .if1 .left) _ _ _ (accepted e) (omega (arith, s .fits .run)) (w .write-store .ensures [] tt) (t .write-tail .ensures))
 
 pub start-spec : {M : Type 1} → statement M
 start-spec =

@@ -4,10 +4,10 @@ use mathlib.Core.Bool.{true}
 use mathlib.Core.List.{List, map}
 use borrow.Author.Needs.{needs}
 use borrow.Author.Tests.{not-true, not-false}
-use Rattle.model.specs.Nav.{nextItem, itemsFine, left}
+use Rattle.inner.specs.Positions.{nextItem, itemsFine, left}
 use Rattle.model.specs.Faults.{isFine, Judged}
 use Rattle.model.specs.Mutations.{Mutation}
-use Rattle.model.specs.Packed.{columnFrom}
+use Rattle.inner.specs.Packed.{columnFrom}
 use Rattle.model.proofs.FaultLaws.{earlier-fine}
 use Rattle.nav.proofs.Walk.{walk-fine, walk-less}
 use Rattle.mutations.specs.Mutating.{mutationAt, mutationsAt}

@@ -5,8 +5,8 @@ use mathlib.Core.Option.{some}
 use Prim.Native.Nat.{_<_}
 use native.Mathlib.Omega.{arith}
 use lib.ListN.{length}
-use Rattle.model.specs.Nav.{treeAt}
-use Rattle.model.specs.Packed.{columnFrom}
+use Rattle.inner.specs.Positions.{treeAt}
+use Rattle.inner.specs.Packed.{columnFrom}
 use Rattle.uuids.specs.Named.{namesAt}
 use Rattle.mutations.specs.Mutating.{chosen, mutatorIn, mutationAs}
 use Rattle.mutations.proofs.Naming.{column-some, column-none, column-place}

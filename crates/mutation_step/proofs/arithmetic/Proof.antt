@@ -8,8 +8,8 @@ use lib.ListN.{length, take, length-take}
 use lib.Seq.{length-take-le}
 use Rattle.model.specs.Value.{intOf}
 use Rattle.model.specs.Faults.{Judged}
-use Rattle.model.specs.Packed.{columnFrom}
-use Rattle.model.specs.Working.{valueIn}
+use Rattle.inner.specs.Packed.{columnFrom}
+use Rattle.inner.specs.Working.{valueIn}
 use Rattle.number.specs.Ints.{intIn}
 use Rattle.references.proofs.Links.{elements-few}
 use Rattle.mutation_step.specs.Steps.{elementsOf, arithmeticOn}

@@ -5,14 +5,14 @@ use Prim.Native.Nat.{ℕ, min}
 use native.Mathlib.Omega.{arith}
 use lib.ListN.{length, take, getD}
 use lib.Seq.{length-take-le}
-use Rattle.model.specs.Schema.{baseOf}
+use Rattle.inner.specs.Packed.{baseNumbered}
 use Rattle.model.specs.Value.{union}
-use Rattle.model.specs.Packed.{columnFrom}
-use Rattle.model.specs.Working.{valueIn}
+use Rattle.inner.specs.Packed.{columnFrom}
+use Rattle.inner.specs.Working.{valueIn}
 use Rattle.model.specs.declared.Fault.the-variants.{Fine, Resources, Constraint}
 use Rattle.references.proofs.Links.{elements-few}
 use Rattle.mutation_step.specs.Steps.{elementsOf, insertedOn}
-use Rattle.mutation_step.proofs.Uniting.{padded}
+use Rattle.value.proofs.Fours.{padded}
 use Rattle.mutation_step.proofs.Stepping.{stepped-set, stepped-stop, insert-many, insert-most, insert-good, insert-value}
 use borrow.Author.Needs.{needs}
 use Rattle.mutation_step.proofs.insert.Statement.{statement}
@@ -81,7 +81,7 @@ unite-requires : tie.Need-unite-requires
 unite-requires c κs =
     let k = c .before .before in
     let a = k .before .before .before .before .before .before .before .before .before .before .args in
-    (omega (arith, k .before .before .before .before .size .ensures), omega (arith, k .union-count .ensures (baseOf (getD (a .column .now) 25 0)), c .before .if1 .left))
+    (omega (arith, k .before .before .before .before .size .ensures), omega (arith, k .union-count .ensures (baseNumbered (getD (a .column .now) 25 0)), c .before .if1 .left))
 
 cast-set-column : tie.Need-cast-set-column
 cast-set-column c = search needs

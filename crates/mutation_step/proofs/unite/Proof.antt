@@ -6,47 +6,48 @@ use native.Mathlib.Omega.{arith}
 use borrow.Author.Needs.{needs}
 use lib.ListN.{length, take}
 use lib.Seq.{length-take-le}
-use Rattle.model.specs.Schema.{baseOf}
+use Rattle.inner.specs.Packed.{baseNumbered}
 use Rattle.model.specs.Value.{union}
-use Rattle.mutation_step.proofs.Uniting.{padded, first-front, United, united-none, united-few, united-length, united-on, united-end}
+use Rattle.value.proofs.Fours.{padded}
+use Rattle.mutation_step.proofs.Uniting.{first-front, United, united-none, united-few, united-length, united-on, united-end}
 use Rattle.mutation_step.proofs.unite.Statement.{statement}
 use Rattle.mutation_step.proofs.unite.Tie as tie
 
 abbrev Inv-loop : tie.InvT-loop
-Inv-loop kind n more s₀ m₀ i₀ s m i = United (baseOf kind) (take n s₀) more i m s
+Inv-loop kind n more s₀ m₀ i₀ s m i = United (baseNumbered kind) (take n s₀) more i m s
 
 abbrev μ-loop : tie.MeasureT-loop
 μ-loop kind n more s₀ m₀ i₀ s m i = length more - i
 
 -- the first n again, and what they come to with all others
-front : (c : tie.At-loop Inv-loop μ-loop) → take (c .before .before .args .n) (c .before .first-of .result) ≡ take (c .before .before .args .n) (c .before .before .args .atoms)
+front : (c : tie.At-loop Inv-loop μ-loop) → take (c .before .before .args .n) (c .before .first .result) ≡ take (c .before .before .args .n) (c .before .before .args .atoms)
 front c =
     let a = c .before .before .args in
-    first-front (a .atoms) (c .before .first-of .result) (a .n) (c .before .before .good .1 .0 .1 .0 .1) (c .before .before .pre .0) (c .before .first-of .ensures) .0
+    first-front (a .atoms) (c .before .first .result) (a .n) (c .before .before .good .1 .0 .1 .0 .1) (c .before .before .pre .0) (c .before .first .ensures) .0
 
-fit : (c : tie.At-loop Inv-loop μ-loop) → length (union (baseOf (c .before .before .args .kind)) (take (c .before .before .args .n) (c .before .first-of .result)) (c .before .before .args .more .now)) ≤ 4
+fit : (c : tie.At-loop Inv-loop μ-loop) → length (union (baseNumbered (c .before .before .args .kind)) (take (c .before .before .args .n) (c .before .first .result)) (c .before .before .args .more .now)) ≤ 4
 fit c =
     let a = c .before .before .args in
-    omega (arith, ap (λ (x : List (List ℕ)). length (union (baseOf (a .kind)) x (a .more .now))) (front c), c .before .before .pre .1)
+    omega (arith, ap (λ (x : List (List ℕ)). length (union (baseNumbered (a .kind)) x (a .more .now))) (front c), c .before .before .pre .1)
 
 few : (c : tie.At-loop Inv-loop μ-loop) → c .loop .m ≤ 4
 few c =
     let a = c .before .before .args in
-    united-few (baseOf (a .kind)) (take (a .n) (c .before .first-of .result)) (a .more .now) (fit c) (c .loop .i) (c .loop .m) (c .loop .s) (c .loop .inv)
+    united-few (baseNumbered (a .kind)) (take (a .n) (c .before .first .result)) (a .more .now) (fit c) (c .loop .i) (c .loop .m) (c .loop .s) (c .loop .inv)
 
 four : (c : tie.At-loop Inv-loop μ-loop) → length (c .loop .s) ≡ 4
 four c =
     let a = c .before .before .args in
-    united-length (baseOf (a .kind)) (take (a .n) (c .before .first-of .result)) (a .more .now) (fit c) (c .loop .i) (c .loop .m) (c .loop .s) (c .loop .inv)
+    united-length (baseNumbered (a .kind)) (take (a .n) (c .before .first .result)) (a .more .now) (fit c) (c .loop .i) (c .loop .m) (c .loop .s) (c .loop .inv)
 
-first-of-requires : tie.Need-first-of-requires Inv-loop μ-loop
-first-of-requires c κs = c .pre .0
+first-requires : tie.Need-first-requires Inv-loop μ-loop
+first-requires c κs = c .pre .0
 
 loop-holds : tie.Need-loop-holds Inv-loop μ-loop
 loop-holds c =
     let a = c .before .args in
-    let q = first-front (a .atoms) (c .first-of .result) (a .n) (c .before .good .1 .0 .1 .0 .1) (c .before .pre .0) (c .first-of .ensures) in
-    united-none (baseOf (a .kind)) (take (a .n) (c .first-of .result)) (a .more .now) (a .n) (c .first-of .result) (q .1 ∙ ap length (sym (q .0))) (q .2)
+    let q = first-front (a .atoms) (c .first .result) (a .n) (c .before .good .1 .0 .1 .0 .1) (c .before .pre .0) (c .first .ensures) in
+    united-none (baseNumbered (a .kind)) (take (a .n) (c .first .result)) (a .more .now) (a .n) (c .first .result) (q .1 ∙ ap length (sym (q .0))) (q .2)
 
 mul-x : tie.Need-mul-x Inv-loop μ-loop
 mul-x c = search needs
@@ -78,14 +79,14 @@ loop-again : tie.Need-loop-again Inv-loop μ-loop
 loop-again c =
     let l = c .before .before .before .before .before .before in
     let a = l .before .before .args in
-    united-on (baseOf (a .kind)) (take (a .n) (l .before .first-of .result)) (a .more .now) (fit l) (l .loop .i) (l .loop .m) (l .loop .s) (l .loop .inv) (c .before .before .before .before .before .loop-test .taken) (c .before .insert-count .result) (c .insert .result) (c .before .insert-count .ensures (baseOf (a .kind))) (c .insert .ensures)
+    united-on (baseNumbered (a .kind)) (take (a .n) (l .before .first .result)) (a .more .now) (fit l) (l .loop .i) (l .loop .m) (l .loop .s) (l .loop .inv) (c .before .before .before .before .before .loop-test .taken) (c .before .insert-count .result) (c .insert .result) (c .before .insert-count .ensures (baseNumbered (a .kind))) (c .insert .ensures)
 
 returns : tie.Need-returns Inv-loop μ-loop
 returns c =
     let l = c .before in
     let a = l .before .before .args in
-    united-end (baseOf (a .kind)) (take (a .n) (l .before .first-of .result)) (a .more .now) (fit l) (l .loop .i) (l .loop .m) (l .loop .s) (l .loop .inv) (c .loop-test .left)
-    ∙ ap (λ (x : List (List ℕ)). padded (union (baseOf (a .kind)) x (a .more .now))) (front l)
+    united-end (baseNumbered (a .kind)) (take (a .n) (l .before .first .result)) (a .more .now) (fit l) (l .loop .i) (l .loop .m) (l .loop .s) (l .loop .inv) (c .loop-test .left)
+    ∙ ap (λ (x : List (List ℕ)). padded (union (baseNumbered (a .kind)) x (a .more .now))) (front l)
 
 pub unite-spec : {M : Type 1} → statement M
 unite-spec =
@@ -93,7 +94,7 @@ unite-spec =
     (tie.spec
     Inv-loop
     μ-loop
-    first-of-requires
+    first-requires
     loop-holds
     mul-x
     shared-slice-copy-out-x

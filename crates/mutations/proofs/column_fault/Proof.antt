@@ -1,8 +1,8 @@
 -- `mutations::column_fault` meets its contract. Assumes nothing.
 use mathlib.Core.Path.{sym, ap, _∙_}
-use Rattle.model.specs.Nav.{treeAt}
+use Rattle.inner.specs.Positions.{treeAt}
 use Rattle.model.specs.Faults.{earlier}
-use Rattle.model.specs.Packed.{columnFrom}
+use Rattle.inner.specs.Packed.{columnFrom}
 use Rattle.uuids.specs.Named.{namesAt}
 use Rattle.mutation_step.specs.Steps.{operandOf}
 use Rattle.mutations.proofs.Faulty.{fault-suited, fault-not}

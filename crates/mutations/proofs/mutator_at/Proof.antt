@@ -1,6 +1,6 @@
 -- `mutations::mutator_at` meets its contract. Assumes nothing.
 use mathlib.Core.Path.{sym, ap, _∙_}
-use Rattle.model.specs.Nav.{treeAt}
+use Rattle.inner.specs.Positions.{treeAt}
 use Rattle.mutations.specs.Mutating.{chosen, mutatorBy}
 use Rattle.mutations.proofs.Naming.{mutator-words}
 use borrow.Author.Needs.{needs}

@@ -2,7 +2,7 @@
 use mathlib.Core.Path.{sym, ap, _∙_}
 use lib.ListN.{getD}
 use Rattle.model.specs.Mutations.{suits}
-use Rattle.model.specs.Packed.{columnFrom}
+use Rattle.inner.specs.Packed.{columnFrom}
 use Rattle.mutation_step.proofs.Stepping.{five-suits}
 use Rattle.mutations.proofs.Faulty.{base-integer}
 use borrow.Author.Needs.{needs}

@@ -2,7 +2,7 @@
 use mathlib.Core.Path.{sym, ap, _∙_}
 use mathlib.Core.Logic.{_⊎_, ⊎-elim}
 use Rattle.model.specs.declared.Read.the-variants.{End}
-use Rattle.model.specs.Nav.{Says}
+use Rattle.inner.specs.Positions.{Says}
 use borrow.Author.Needs.{needs}
 use Rattle.nav.proofs.end_of.Statement.{statement}
 use Rattle.nav.proofs.end_of.Tie as tie

@@ -3,7 +3,7 @@ use mathlib.Core.Path.{sym, _∙_}
 use native.Mathlib.Omega.{arith}
 use borrow.Author.Tests.{ne-eqb, eq-eqb}
 use Rattle.scan.proofs.Bytes.{inside-byte}
-use Rattle.model.specs.Nav.{firstOf, firstFrom}
+use Rattle.inner.specs.Positions.{firstOf, firstFrom}
 use borrow.Author.Needs.{needs}
 use Rattle.nav.proofs.first.Statement.{statement}
 use Rattle.nav.proofs.first.Tie as tie

@@ -1,5 +1,5 @@
 -- `nav::found` meets its contract. Assumes nothing.
-use Rattle.model.specs.Nav.{foundOf}
+use Rattle.inner.specs.Positions.{foundOf}
 use borrow.Author.Needs.{needs}
 use Rattle.nav.proofs.found.Statement.{statement}
 use Rattle.nav.proofs.found.Tie as tie

@@ -2,7 +2,8 @@
 use mathlib.Core.Path.{_≡_, refl, sym, ap, _∙_}
 use mathlib.Core.Bool.{false}
 use Rattle.model.specs.declared.Kind.the-variants.{Number}
-use Rattle.model.specs.Nav.{isEnd, isNumber, kindOf, treeAt}
+use Rattle.model.specs.Nav.{isRead, kindOf}
+use Rattle.inner.specs.Positions.{isNumber, treeAt}
 use Rattle.scan.proofs.Ends.{no-end}
 use Rattle.nav.proofs.FirstByte.{end-le, number-is, number-not}
 use Rattle.nav.proofs.Numbers.{number-kind, whole-not, whole-num, whole-none}
@@ -26,15 +27,15 @@ enum-known-r : tie.Need-enum-known-r
 enum-known-r c = search needs
 
 returns : tie.Need-returns
-unfolding isEnd
+unfolding isRead
 returns c =
     let e = c .before in
     let n = e .before .before .before in
     let st = n .before .before .before .before in
     let s = st .args .text .now in
     let k : kindOf (treeAt s (st .args .at)) ≡ Number = number-kind _ (ap isNumber (sym (n .before .kind-at .ensures)) ∙ sym (n .is-number .ensures) ∙ e .before .before .if1 .taken) in
-    let z : isEnd (e .end-of .result) ≡ false = no-end (λ r. isEnd r ≡ false) (λ x. refl) (λ x. refl) (e .end-of .result) (c .match .keys2) in
-    whole-none (number-not s (st .args .at) k (ap isEnd (sym (e .end-of .ensures)) ∙ z))
+    let z : isRead (e .end-of .result) ≡ false = no-end (λ r. isRead r ≡ false) (λ x. refl) (λ x. refl) (e .end-of .result) (c .match .keys2) in
+    whole-none (number-not s (st .args .at) k (ap isRead (sym (e .end-of .ensures)) ∙ z))
 
 whole-text-requires : tie.Need-whole-text-requires
 whole-text-requires c κs =

@@ -1,6 +1,6 @@
 -- `nav::is_number` meets its contract. Assumes nothing.
 use Prim.Native.Nat.{_-_}
-use Rattle.model.specs.Nav.{isNumber}
+use Rattle.inner.specs.Positions.{isNumber}
 use borrow.Author.Needs.{needs}
 use Rattle.nav.proofs.is_number.Statement.{statement}
 use Rattle.nav.proofs.is_number.Tie as tie

@@ -1,7 +1,7 @@
 -- `nav::kind_at` meets its contract. Assumes nothing.
 use Prim.Native.Nat.{_-_}
 use mathlib.Core.Path.{sym, ap, _∙_}
-use Rattle.model.specs.Nav.{kindBy}
+use Rattle.inner.specs.Positions.{kindBy}
 use Rattle.model.specs.Scan.{byte}
 use Rattle.nav.proofs.FirstByte.{kind-is}
 use borrow.Author.Needs.{needs}

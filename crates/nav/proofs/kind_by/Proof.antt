@@ -1,7 +1,7 @@
 -- `nav::kind_by` meets its contract. Assumes nothing.
 use Prim.Native.Nat.{_-_}
 use borrow.Author.Tests.{ne-eqb}
-use Rattle.model.specs.Nav.{kindBy}
+use Rattle.inner.specs.Positions.{kindBy}
 use Rattle.nav.proofs.kind_by.Statement.{statement}
 use Rattle.nav.proofs.kind_by.Tie as tie
 

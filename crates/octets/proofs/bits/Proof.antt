@@ -1,6 +1,6 @@
 -- `octets::bits` meets its contract. Assumes nothing.
 use native.Mathlib.Omega.{arith}
-use Rattle.model.specs.Whole.{intOf}
+use Rattle.model.specs.Whole.{wholeInt}
 use Rattle.octets.proofs.Orders.{twos-minus}
 use borrow.Author.Needs.{needs}
 use Rattle.octets.proofs.bits.Statement.{statement}
@@ -13,7 +13,7 @@ enum-known-w-2 : tie.Need-enum-known-w-2
 enum-known-w-2 c = search needs
 
 returns : tie.Need-returns
-unfolding intOf
+unfolding wholeInt
 returns c = rw (c .before .before .w2 .given .1, c .if1 .taken)
 
 sub-result : tie.Need-sub-result
@@ -26,15 +26,15 @@ enum-told : tie.Need-enum-told
 enum-told c = search needs
 
 returns-2 : tie.Need-returns-2
-unfolding intOf
+unfolding wholeInt
 returns-2 c = rw (c .before .w .given .1)
 
 returns-3 : tie.Need-returns-3
-unfolding intOf
+unfolding wholeInt
 returns-3 c = rw (c .before .before .w2 .given .1) (twos-minus _ (c .if1 .left) (omega arith))
 
 returns-4 : tie.Need-returns-4
-unfolding intOf
+unfolding wholeInt
 returns-4 c = rw (c .enum-told .given .1)
 
 pub bits-spec : {M : Type 1} → statement M

@@ -1,6 +1,6 @@
 -- `operation::on_table` meets its contract. Assumes nothing.
 use native.Mathlib.Omega.{arith}
-use Rattle.model.specs.Packed.{tablesIn}
+use Rattle.inner.specs.Packed.{packedTables}
 use Rattle.operation.proofs.Choosing.{columns-same, on-insert, on-select, on-update, on-mutate, on-delete}
 use borrow.Author.Needs.{needs}
 use Rattle.operation.proofs.on_table.Statement.{statement}
@@ -45,7 +45,7 @@ returns c =
     let cells = a .schema .now in
     let columns = co .columns-of .result .now in
     let same = columns-same cells columns (a .t) (st .pre .1 .0) (co .columns-of .ensures .0) in
-    λ given e. on-insert (a .text .now) (a .ops) (a .fresh .now) cells columns (a .k) (a .t) (a .i) (a .op) (a .n) given (a .rows .now) same (th .if1 .taken) (ri .run-insert .ensures given e (tablesIn cells) same)
+    λ given e. on-insert (a .text .now) (a .ops) (a .fresh .now) cells columns (a .k) (a .t) (a .i) (a .op) (a .n) given (a .rows .now) same (th .if1 .taken) (ri .run-insert .ensures given e (packedTables cells) same)
 
 run-select-requires : tie.Need-run-select-requires
 run-select-requires c κs =
@@ -98,7 +98,7 @@ returns-3 c =
     let cells = a .schema .now in
     let columns = co .columns-of .result .now in
     let same = columns-same cells columns (a .t) (st .pre .1 .0) (co .columns-of .ensures .0) in
-    λ given e. on-update (a .text .now) (a .ops) (a .fresh .now) cells columns (a .k) (a .t) (a .i) (a .op) (a .n) given (a .rows .now) same (th .if3 .taken) (ri .run-update .ensures (tablesIn cells) same)
+    λ given e. on-update (a .text .now) (a .ops) (a .fresh .now) cells columns (a .k) (a .t) (a .i) (a .op) (a .n) given (a .rows .now) same (th .if3 .taken) (ri .run-update .ensures (packedTables cells) same)
 
 run-mutate-requires : tie.Need-run-mutate-requires
 run-mutate-requires c κs =
@@ -125,7 +125,7 @@ returns-4 c =
     let cells = a .schema .now in
     let columns = co .columns-of .result .now in
     let same = columns-same cells columns (a .t) (st .pre .1 .0) (co .columns-of .ensures .0) in
-    λ given e. on-mutate (a .text .now) (a .ops) (a .fresh .now) cells columns (a .k) (a .t) (a .i) (a .op) (a .n) given (a .rows .now) same (th .if4 .taken) (ri .run-mutate .ensures (tablesIn cells) same)
+    λ given e. on-mutate (a .text .now) (a .ops) (a .fresh .now) cells columns (a .k) (a .t) (a .i) (a .op) (a .n) given (a .rows .now) same (th .if4 .taken) (ri .run-mutate .ensures (packedTables cells) same)
 
 run-delete-requires : tie.Need-run-delete-requires
 run-delete-requires c κs =
@@ -156,7 +156,7 @@ returns-5 c =
     let columns = co .columns-of .result .now in
     let same = columns-same cells columns (a .t) (st .pre .1 .0) (co .columns-of .ensures .0) in
     let h = st .pre .1 .1 in
-    λ given e. on-delete (a .text .now) (a .ops) (a .fresh .now) cells columns (a .k) (a .t) (a .i) (a .op) (a .n) given (a .rows .now) same (omega (arith, h, l1 .if1 .left, l2 .if2 .left, l3 .if3 .left, l4 .if4 .left)) (ri .run-delete .ensures (tablesIn cells) same)
+    λ given e. on-delete (a .text .now) (a .ops) (a .fresh .now) cells columns (a .k) (a .t) (a .i) (a .op) (a .n) given (a .rows .now) same (omega (arith, h, l1 .if1 .left, l2 .if2 .left, l3 .if3 .left, l4 .if4 .left)) (ri .run-delete .ensures (packedTables cells) same)
 
 pub on-table-spec : {M : Type 1} → statement M
 on-table-spec =

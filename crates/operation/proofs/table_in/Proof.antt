@@ -1,7 +1,7 @@
 -- `operation::table_in` meets its contract. Assumes nothing.
-use Rattle.model.specs.Nav.{treeAt}
+use Rattle.inner.specs.Positions.{treeAt}
 use Rattle.model.specs.Members.{membersIn}
-use Rattle.model.specs.Packed.{tablesIn}
+use Rattle.inner.specs.Packed.{packedTables}
 use Rattle.operation.proofs.Choosing.{table-there, table-missing}
 use borrow.Author.Needs.{needs}
 use Rattle.operation.proofs.table_in.Statement.{statement}
@@ -27,13 +27,13 @@ returns c =
     let f = c .before .before in
     let fd = f .before .before in
     let a = fd .before .before .before .before .args in
-    table-there (tablesIn (a .schema .now)) (a .text .now) (membersIn (treeAt (a .text .now) (a .op))) (fd .find .ensures) (f .f .given .1) (c .table-at .ensures)
+    table-there (packedTables (a .schema .now)) (a .text .now) (membersIn (treeAt (a .text .now) (a .op))) (fd .find .ensures) (f .f .given .1) (c .table-at .ensures)
 
 returns-2 : tie.Need-returns-2
 returns-2 c =
     let fd = c .before .before in
     let a = fd .before .before .before .before .args in
-    table-missing (tablesIn (a .schema .now)) (a .text .now) (membersIn (treeAt (a .text .now) (a .op))) (fd .find .ensures) (c .enum-told .given .1)
+    table-missing (packedTables (a .schema .now)) (a .text .now) (membersIn (treeAt (a .text .now) (a .op))) (fd .find .ensures) (c .enum-told .given .1)
 
 pub table-in-spec : {M : Type 1} → statement M
 table-in-spec =

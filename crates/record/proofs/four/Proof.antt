@@ -6,7 +6,7 @@ use lib.ListN.{take}
 use borrow.Author.Needs.{needs}
 use Rattle.model.specs.Octets.{value, part}
 use Rattle.octets.proofs.Rests.{mid-rest}
-use Rattle.record.proofs.Readings.{part-lt}
+use Rattle.model.proofs.Octets.{octets, part-lt}
 use Rattle.record.proofs.four.Statement.{statement}
 use Rattle.record.proofs.four.Tie as tie
 
@@ -29,7 +29,7 @@ cast-result : tie.Need-cast-result
 cast-result c =
     let s = c .before .before .before in
     let k = c .before .before .shared-slice-known .given in
-    record { fits = rw (read c) (part-lt (s .args .bytes .now) (s .args .at) 4 (s .pre) (λ i. k i .fits)) }
+    record { fits = rw (read c) (part-lt (s .args .at) 4 (s .args .bytes .now) (octets (s .args .bytes .now) (λ i. k i .fits))) }
 
 returns : tie.Need-returns
 returns c = read c

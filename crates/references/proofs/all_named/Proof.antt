@@ -12,7 +12,7 @@ use Rattle.model.specs.Schema.{Schema}
 use Rattle.model.specs.Value.{uuidOf}
 use Rattle.model.specs.Rows.{keyOf, has}
 use Rattle.model.specs.Commit.{keysOf}
-use Rattle.model.specs.Working.{working}
+use Rattle.inner.specs.Working.{working}
 use Rattle.references.proofs.Walks.{all-keys, all-here, all-on, all-end}
 use Rattle.references.proofs.all_named.Statement.{statement}
 use Rattle.references.proofs.all_named.Tie as tie

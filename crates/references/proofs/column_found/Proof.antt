@@ -7,7 +7,7 @@ use Rattle.model.specs.Base.{all}
 use Rattle.model.specs.Value.{elements}
 use Rattle.model.specs.Rows.{has}
 use Rattle.model.specs.Commit.{keysOf}
-use Rattle.model.specs.Working.{working, valueIn}
+use Rattle.inner.specs.Working.{working, valueIn}
 use Rattle.references.specs.Links.{told}
 use Rattle.references.proofs.Links.{elements-few}
 use borrow.Author.Needs.{needs}

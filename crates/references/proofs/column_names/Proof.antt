@@ -7,7 +7,7 @@ use lib.Dec.{eqb}
 use Rattle.model.specs.Base.{any}
 use Rattle.model.specs.Value.{elements}
 use Rattle.model.specs.Commit.{keysOf}
-use Rattle.model.specs.Working.{keyIn, valueIn}
+use Rattle.inner.specs.Working.{keyIn, valueIn}
 use Rattle.references.specs.Links.{told}
 use Rattle.references.proofs.Links.{elements-few}
 use borrow.Author.Needs.{needs}

@@ -11,7 +11,7 @@ use Rattle.model.specs.Base.{any}
 use Rattle.model.specs.Schema.{Schema}
 use Rattle.model.specs.Value.{uuidOf}
 use Rattle.model.specs.Rows.{keyOf, has}
-use Rattle.model.specs.Working.{working, keyIn}
+use Rattle.inner.specs.Working.{working, keyIn}
 use Rattle.references.proofs.Walks.{has-cells, any-here, any-on, any-end}
 use Rattle.references.proofs.has_named.Statement.{statement}
 use Rattle.references.proofs.has_named.Tie as tie

@@ -5,7 +5,7 @@ use lib.Dec.{eqb}
 use lib.ListN.{take}
 use Rattle.model.specs.Octets.{value}
 use Rattle.model.specs.Rows.{keyOf}
-use Rattle.model.proofs.Working.{key-head}
+use Rattle.inner.proofs.Working.{key-head}
 use borrow.Author.Needs.{needs}
 use Rattle.references.proofs.is_named.Statement.{statement}
 use Rattle.references.proofs.is_named.Tie as tie

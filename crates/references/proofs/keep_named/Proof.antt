@@ -7,7 +7,7 @@ use native.Mathlib.Omega.{arith}
 use lib.ListN.{length}
 use Rattle.model.specs.Schema.{Schema}
 use Rattle.model.specs.Commit.{present}
-use Rattle.model.specs.Working.{working}
+use Rattle.inner.specs.Working.{working}
 use Rattle.references.proofs.Keeping.{Sofar, sofar-none, sofar-few, sofar-length, sofar-no, sofar-yes}
 use Rattle.references.proofs.keep_named.Statement.{statement}
 use Rattle.references.proofs.keep_named.Tie as tie

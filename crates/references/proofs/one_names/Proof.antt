@@ -12,7 +12,7 @@ use Rattle.model.specs.Base.{any}
 use Rattle.model.specs.Value.{uuidOf}
 use Rattle.model.specs.Rows.{keyOf}
 use Rattle.model.specs.Commit.{keysOf}
-use Rattle.model.specs.Working.{keyIn}
+use Rattle.inner.specs.Working.{keyIn}
 use Rattle.references.proofs.Walks.{any-keys, any-here, any-on, any-end}
 use Rattle.references.proofs.one_names.Statement.{statement}
 use Rattle.references.proofs.one_names.Tie as tie

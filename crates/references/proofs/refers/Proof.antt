@@ -4,7 +4,7 @@ use mathlib.Core.List.{[]}
 use Prim.Native.Nat.{ℕ, _+_, _*_}
 use native.Mathlib.Omega.{arith}
 use lib.ListN.{getD}
-use Rattle.model.specs.Packed.{refersFrom}
+use Rattle.inner.specs.Packed.{refersFrom}
 use Rattle.references.specs.Links.{pick, refersAt}
 use Rattle.references.proofs.Packs.{has-columns, few-tables, few-columns}
 use borrow.Author.Needs.{needs}

@@ -9,8 +9,8 @@ use Rattle.model.specs.Base.{any}
 use Rattle.model.specs.Schema.{columnsOf}
 use Rattle.model.specs.Commit.{strongly, strongOf}
 use Rattle.model.specs.Areas.{rowFrom}
-use Rattle.model.specs.Packed.{tablesIn}
-use Rattle.model.specs.Working.{keyIn, tableIn}
+use Rattle.inner.specs.Packed.{packedTables}
+use Rattle.inner.specs.Working.{keyIn, tableIn}
 use Rattle.references.specs.Links.{pick, told}
 use Rattle.references.proofs.Packs.{few-columns}
 use Rattle.references.proofs.Links.{restOf, here, rest-all, rest-end, any-rest-here, any-rest-on, here-told}
@@ -18,7 +18,7 @@ use Rattle.references.proofs.refers_to.Statement.{statement}
 use Rattle.references.proofs.refers_to.Tie as tie
 
 abbrev Inv-loop : tie.InvT-loop
-Inv-loop row schema other table w c₀ c = (c ≤ w) × (any (eqb (keyIn other)) (strongOf (tablesIn schema) (rowFrom (tablesIn schema) row)) ≡ any (eqb (keyIn other)) (restOf (pick 1) schema row c))
+Inv-loop row schema other table w c₀ c = (c ≤ w) × (any (eqb (keyIn other)) (strongOf (packedTables schema) (rowFrom (packedTables schema) row)) ≡ any (eqb (keyIn other)) (restOf (pick 1) schema row c))
 
 abbrev μ-loop : tie.MeasureT-loop
 μ-loop row schema other table w c₀ c = w - c
@@ -56,8 +56,8 @@ module _ (c : tie.After-column-names Inv-loop μ-loop) where
   table : c .before .before .before .before .before .table-of .result ≡ tableIn (start .args .row .now)
   table = c .before .before .before .before .before .table-of .ensures
 
-  within : at < length (columnsOf (tablesIn (start .args .schema .now)) (tableIn (start .args .row .now)))
-  within = omega (arith, c .before .before .loop-test .taken, c .before .before .before .before .width .ensures, ap (λ (t : ℕ). length (columnsOf (tablesIn (start .args .schema .now)) t)) table)
+  within : at < length (columnsOf (packedTables (start .args .schema .now)) (tableIn (start .args .row .now)))
+  within = omega (arith, c .before .before .loop-test .taken, c .before .before .before .before .width .ensures, ap (λ (t : ℕ). length (columnsOf (packedTables (start .args .schema .now)) t)) table)
 
   step : any (eqb (keyIn (start .args .other .now))) (here (pick 1) (start .args .schema .now) (start .args .row .now) at) ≡ c .column-names .result
   step =
@@ -88,7 +88,7 @@ returns-2 : tie.Need-returns-2 Inv-loop μ-loop
 returns-2 c =
     let s = c .before .before .before .before in
     let l = c .before .loop in
-    let w = c .before .before .width .ensures ∙ ap (λ (t : ℕ). length (columnsOf (tablesIn (s .args .schema .now)) t)) (c .before .before .before .table-of .ensures) in
+    let w = c .before .before .width .ensures ∙ ap (λ (t : ℕ). length (columnsOf (packedTables (s .args .schema .now)) t)) (c .before .before .before .table-of .ensures) in
     sym (l .inv .1 ∙ ap (any (eqb (keyIn (s .args .other .now)))) (rest-end (pick 1) (s .args .schema .now) (s .args .row .now) (l .c) (omega (arith, w, c .loop-test .left))))
 
 pub refers-to-spec : {M : Type 1} → statement M

@@ -11,8 +11,8 @@ use Rattle.model.specs.Base.{all}
 use Rattle.model.specs.Rows.{has}
 use Rattle.model.specs.Schema.{columnsOf}
 use Rattle.model.specs.Areas.{rowFrom}
-use Rattle.model.specs.Packed.{tablesIn}
-use Rattle.model.specs.Working.{working, tableIn}
+use Rattle.inner.specs.Packed.{packedTables}
+use Rattle.inner.specs.Working.{working, tableIn}
 use Rattle.references.specs.Links.{pick, told, referred}
 use Rattle.references.proofs.Packs.{few-columns}
 use Rattle.references.proofs.Links.{restOf, here, rest-all, rest-end, all-rest-here, all-rest-on, here-told}
@@ -21,10 +21,10 @@ use Rattle.references.proofs.row_found.Tie as tie
 
 -- there is a row under a key
 abbrev found : List (List ℕ) → ℕ → List (List (List ℕ)) → ℕ → Bool
-found schema n rows k = has k (working (tablesIn schema) n rows)
+found schema n rows k = has k (working (packedTables schema) n rows)
 
 abbrev Inv-loop : tie.InvT-loop
-Inv-loop row schema how rows n table w c₀ c = (c ≤ w) × (referred (tablesIn schema) how (working (tablesIn schema) n rows) (rowFrom (tablesIn schema) row) ≡ all (found schema n rows) (restOf (pick how) schema row c))
+Inv-loop row schema how rows n table w c₀ c = (c ≤ w) × (referred (packedTables schema) how (working (packedTables schema) n rows) (rowFrom (packedTables schema) row) ≡ all (found schema n rows) (restOf (pick how) schema row c))
 
 abbrev μ-loop : tie.MeasureT-loop
 μ-loop row schema how rows n table w c₀ c = w - c
@@ -62,12 +62,12 @@ module _ (c : tie.After-column-found Inv-loop μ-loop) where
   table : c .before .before .before .before .before .table-of .result ≡ tableIn (start .args .row .now)
   table = c .before .before .before .before .before .table-of .ensures
 
-  within : at < length (columnsOf (tablesIn (start .args .schema .now)) (tableIn (start .args .row .now)))
-  within = omega (arith, c .before .before .loop-test .taken, c .before .before .before .before .width .ensures, ap (λ (t : ℕ). length (columnsOf (tablesIn (start .args .schema .now)) t)) table)
+  within : at < length (columnsOf (packedTables (start .args .schema .now)) (tableIn (start .args .row .now)))
+  within = omega (arith, c .before .before .loop-test .taken, c .before .before .before .before .width .ensures, ap (λ (t : ℕ). length (columnsOf (packedTables (start .args .schema .now)) t)) table)
 
   step : all (found (start .args .schema .now) (start .args .n) (start .args .rows .now)) (here (pick (start .args .how)) (start .args .schema .now) (start .args .row .now) at) ≡ c .column-found .result
   step =
-      sym (c .column-found .ensures (tablesIn (start .args .schema .now))
+      sym (c .column-found .ensures (packedTables (start .args .schema .now))
       ∙ ap (all (found (start .args .schema .now) (start .args .n) (start .args .rows .now))) (here-told (start .args .schema .now) (start .args .row .now) (start .args .how) (c .before .before .before .before .before .table-of .result) at table (told (c .before .refers .result)) (c .before .refers .ensures)))
 
 returns : tie.Need-returns Inv-loop μ-loop
@@ -94,7 +94,7 @@ returns-2 : tie.Need-returns-2 Inv-loop μ-loop
 returns-2 c =
     let s = c .before .before .before .before in
     let l = c .before .loop in
-    let w = c .before .before .width .ensures ∙ ap (λ (t : ℕ). length (columnsOf (tablesIn (s .args .schema .now)) t)) (c .before .before .before .table-of .ensures) in
+    let w = c .before .before .width .ensures ∙ ap (λ (t : ℕ). length (columnsOf (packedTables (s .args .schema .now)) t)) (c .before .before .before .table-of .ensures) in
     sym (l .inv .1 ∙ ap (all (found (s .args .schema .now) (s .args .n) (s .args .rows .now))) (rest-end (pick (s .args .how)) (s .args .schema .now) (s .args .row .now) (l .c) (omega (arith, w, c .loop-test .left))))
 
 pub row-found-spec : {M : Type 1} → statement M

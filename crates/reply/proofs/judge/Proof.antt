@@ -3,9 +3,9 @@ use mathlib.Core.Path.{sym, ap, _∙_}
 use mathlib.Core.List.{List}
 use Prim.Native.Nat.{ℕ}
 use borrow.Author.Tests.{not-true, not-false}
-use Rattle.model.specs.Nav.{treeAt}
+use Rattle.inner.specs.Positions.{treeAt}
 use Rattle.model.specs.Text.{isWord}
-use Rattle.model.specs.Packed.{tablesIn}
+use Rattle.inner.specs.Packed.{packedTables}
 use Rattle.reply.proofs.Asking.{asked-bad, asked-other, asked-fresh, asked-runs}
 use borrow.Author.Needs.{needs}
 use Rattle.reply.proofs.judge.Statement.{statement}
@@ -54,7 +54,7 @@ returns-3 c =
     let r = c .before .before .before .before .before .before .before .before .before .before .read in
     asked-fresh (a .args .schema .now) (a .args .n) (a .args .before .now) (a .args .request .now) (a .args .fresh .now) (r .last .1 .0) (r .ensures) (not-false _ (c .before .before .before .before .before .before .if1 .left))
     (ap (λ (w : List ℕ). isWord w (treeAt (a .args .request .now) (r .result .name))) (sym (c .before .before .before .before .cell-name .ensures)) ∙ sym (c .before .before .before .is-word .ensures) ∙ not-false _ (c .before .before .if2 .left))
-    (sym (c .before .ids-good .ensures (tablesIn (a .args .schema .now))) ∙ not-true _ (c .if3 .taken))
+    (sym (c .before .ids-good .ensures (packedTables (a .args .schema .now))) ∙ not-true _ (c .if3 .taken))
 
 same-length-4 : tie.Need-same-length-4
 same-length-4 c = search needs
@@ -65,7 +65,7 @@ returns-4 c =
     let r = c .before .before .before .before .before .before .before .before .before .before .read in
     asked-runs (a .args .schema .now) (a .args .n) (a .args .before .now) (a .args .request .now) (a .args .fresh .now) (r .last .1 .0) (r .ensures) (not-false _ (c .before .before .before .before .before .before .if1 .left))
     (ap (λ (w : List ℕ). isWord w (treeAt (a .args .request .now) (r .result .name))) (sym (c .before .before .before .before .cell-name .ensures)) ∙ sym (c .before .before .before .is-word .ensures) ∙ not-false _ (c .before .before .if2 .left))
-    (sym (c .before .ids-good .ensures (tablesIn (a .args .schema .now))) ∙ not-false _ (c .if3 .left)) (a .pre .0)
+    (sym (c .before .ids-good .ensures (packedTables (a .args .schema .now))) ∙ not-false _ (c .if3 .left)) (a .pre .0)
 
 pub judge-spec : {M : Type 1} → statement M
 judge-spec =

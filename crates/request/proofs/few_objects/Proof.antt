@@ -3,7 +3,8 @@ use Prim.Native.Nat.{_≤_}
 use mathlib.Core.Path.{refl, sym, ap, _∙_}
 use native.Mathlib.Omega.{arith}
 use lib.ListN.{length}
-use Rattle.model.specs.Nav.{itemsFrom, left, isObject}
+use Rattle.inner.specs.Positions.{itemsFrom, left}
+use Rattle.model.specs.Nav.{isObject}
 use Rattle.nav.proofs.Walk.{walk-less, walk-fine}
 use Rattle.indexes.proofs.Judged.{Passed, passed-end, passed-more, passed-bad, passed-on}
 use Rattle.request.proofs.Objects.{object, few-many, few-bad, few-end}

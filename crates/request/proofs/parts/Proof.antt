@@ -1,12 +1,13 @@
 -- `request::parts` meets its contract. Assumes nothing.
 use mathlib.Core.Path.{_≡_, refl, sym, ap, _∙_}
 use mathlib.Core.Bool.{true, _&&_}
-use Rattle.model.specs.Nav.{isText, itemsFine}
+use Rattle.model.specs.Nav.{isText}
+use Rattle.inner.specs.Positions.{itemsFine}
 use Rattle.nav.proofs.FirstByte.{items-in}
 use Rattle.nav.proofs.Walk.{walk-fine}
 use Rattle.request.proofs.Objects.{parted-none, parted-some}
 use Rattle.request.specs.Reading.{fewObjects}
-use Rattle.model.specs.Nav.{nextItem, itemsFrom}
+use Rattle.inner.specs.Positions.{nextItem, itemsFrom}
 use borrow.Author.Needs.{needs}
 use Rattle.request.proofs.parts.Statement.{statement}
 use Rattle.request.proofs.parts.Tie as tie

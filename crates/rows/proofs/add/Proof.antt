@@ -3,9 +3,9 @@ use mathlib.Core.Path.{sym, ap, _∙_}
 use Prim.Native.Nat.{ℕ}
 use lib.ListN.{take}
 use Rattle.model.specs.Areas.{rowFrom}
-use Rattle.model.specs.Working.{working, slot, inserted}
-use Rattle.model.proofs.Working.{row-key}
-use Rattle.model.proofs.Places.{add-slot, working-inserted, tidy-inserted}
+use Rattle.inner.specs.Working.{working, slot, inserted}
+use Rattle.inner.proofs.Working.{row-key}
+use Rattle.inner.proofs.Places.{add-slot, working-inserted, tidy-inserted}
 use borrow.Author.Needs.{needs}
 use Rattle.rows.proofs.add.Statement.{statement}
 use Rattle.rows.proofs.add.Tie as tie

@@ -4,7 +4,7 @@ use Prim.Native.Nat.{ℕ, _+_, _*_, _-_}
 use native.Mathlib.Omega.{arith}
 use lib.ListN.{length, take, drop, length-drop}
 use lib.Seq.{length-take-le}
-use Rattle.model.specs.Working.{valueIn}
+use Rattle.inner.specs.Working.{valueIn}
 use borrow.Author.Needs.{needs}
 use Rattle.rows.proofs.atoms_in.Statement.{statement}
 use Rattle.rows.proofs.atoms_in.Tie as tie

@@ -1,7 +1,7 @@
 -- `rows::born_count` meets its contract. Assumes nothing.
 use mathlib.Core.Path.{sym}
 use borrow.Author.Tests.{eq-eqb, ne-eqb}
-use Rattle.model.specs.Working.{bornCount}
+use Rattle.inner.specs.Working.{bornCount}
 use Rattle.rows.proofs.born_count.Statement.{statement}
 use Rattle.rows.proofs.born_count.Tie as tie
 

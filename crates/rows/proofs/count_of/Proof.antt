@@ -1,6 +1,6 @@
 -- `rows::count_of` meets its contract. Assumes nothing.
 use mathlib.Core.Path.{refl}
-use Rattle.model.specs.Working.{valueIn}
+use Rattle.inner.specs.Working.{valueIn}
 use borrow.Author.Needs.{needs}
 use Rattle.rows.proofs.count_of.Statement.{statement}
 use Rattle.rows.proofs.count_of.Tie as tie

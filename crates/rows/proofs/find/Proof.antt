@@ -6,8 +6,8 @@ use lib.ListN.{drop}
 use Rattle.model.specs.Octets.{value}
 use Rattle.model.specs.Schema.{Schema}
 use Rattle.model.specs.Rows.{keyOf}
-use Rattle.model.specs.Working.{working, placeFrom, place}
-use Rattle.model.proofs.Working.{place-here, place-on, place-end}
+use Rattle.inner.specs.Working.{working, placeFrom, place}
+use Rattle.inner.proofs.Working.{place-here, place-on, place-end}
 use Rattle.rows.proofs.find.Statement.{statement}
 use Rattle.rows.proofs.find.Tie as tie
 

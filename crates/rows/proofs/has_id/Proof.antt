@@ -6,8 +6,8 @@ use lib.ListN.{drop}
 use Rattle.model.specs.Octets.{value}
 use Rattle.model.specs.Schema.{Schema}
 use Rattle.model.specs.Rows.{hasId}
-use Rattle.model.specs.Working.{working}
-use Rattle.model.proofs.Working.{has-id-here, has-id-on, has-id-end}
+use Rattle.inner.specs.Working.{working}
+use Rattle.inner.proofs.Working.{has-id-here, has-id-on, has-id-end}
 use Rattle.rows.proofs.has_id.Statement.{statement}
 use Rattle.rows.proofs.has_id.Tie as tie
 

@@ -2,8 +2,8 @@
 use mathlib.Core.Path.{sym, _∙_}
 use Rattle.model.specs.Octets.{value}
 use Rattle.model.specs.Rows.{keyOf}
-use Rattle.model.specs.Working.{working}
-use Rattle.model.proofs.Places.{place-at, place-none}
+use Rattle.inner.specs.Working.{working}
+use Rattle.inner.proofs.Places.{place-at, place-none}
 use borrow.Author.Needs.{needs}
 use Rattle.rows.proofs.has_row.Statement.{statement}
 use Rattle.rows.proofs.has_row.Tie as tie

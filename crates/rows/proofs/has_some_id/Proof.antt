@@ -5,7 +5,7 @@ use mathlib.Core.List.{List}
 use Prim.Native.Nat.{ℕ, _^_}
 use lib.Dec.{eqb, ltb}
 use Rattle.model.specs.Octets.{value}
-use Rattle.model.specs.Working.{idIn}
+use Rattle.inner.specs.Working.{idIn}
 use borrow.Author.Needs.{needs}
 use Rattle.rows.proofs.has_some_id.Statement.{statement}
 use Rattle.rows.proofs.has_some_id.Tie as tie

@@ -3,7 +3,7 @@ use mathlib.Core.Path.{sym, ap, _∙_}
 use lib.Dec.{eqb}
 use Rattle.model.specs.Octets.{value}
 use Rattle.model.specs.Rows.{keyOf}
-use Rattle.model.proofs.Working.{key-head}
+use Rattle.inner.proofs.Working.{key-head}
 use borrow.Author.Needs.{needs}
 use Rattle.rows.proofs.is_row.Statement.{statement}
 use Rattle.rows.proofs.is_row.Tie as tie

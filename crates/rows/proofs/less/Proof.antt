@@ -1,7 +1,7 @@
 -- `rows::less` meets its contract. Assumes nothing.
 use Rattle.model.specs.Octets.{value}
 use mathlib.Core.Path.{sym, ap, _∙_}
-use Rattle.model.proofs.Working.{key-head}
+use Rattle.inner.proofs.Working.{key-head}
 use borrow.Author.Needs.{needs}
 use Rattle.rows.proofs.less.Statement.{statement}
 use Rattle.rows.proofs.less.Tie as tie

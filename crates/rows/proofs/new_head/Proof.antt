@@ -4,9 +4,9 @@ use mathlib.Core.List.{List, [], _∷_, _++_, append-nil, map}
 use Prim.Native.Nat.{ℕ}
 use native.Mathlib.Omega.{arith}
 use lib.ListN.{length, take, drop, replicate, length-append, drop-of-length-le}
-use Rattle.model.specs.Working.{bornCount}
-use Rattle.model.proofs.Working.{octets-of}
-use Rattle.model.proofs.NewRows.{new-head as head-is}
+use Rattle.inner.specs.Working.{bornCount}
+use Rattle.model.proofs.Octets.{octets, value-lt}
+use Rattle.inner.proofs.NewRows.{new-head as head-is}
 use Rattle.rows.proofs.Laws.{head-made}
 use borrow.Author.Needs.{needs}
 use Rattle.rows.proofs.new_head.Statement.{statement}
@@ -49,16 +49,18 @@ put-counts-requires c κs = search needs
 
 returns : tie.Need-returns
 returns c =
-    λ cs few m.
     let s = c .before .before .before .before .before .before .before .before in
     let id = s .args .id .now in
+    let o = octets id (λ i. omega (arith, c .before .before .before .before .before .before .before .shared-slice-known .given i)) in
     let t = s .args .table in
     let q = put id (c .before .before .before .before .put-bytes .last .0) (s .pre .0) (c .before .before .before .before .put-bytes .ensures) in
-    let n = c .before .put-counts .ensures in
-    (λ j. t ∷ take 16 (q j ++ replicate 8 0) ++ (n j ++ drop 6 (drop 17 (t ∷ q j ++ replicate 8 0))))
-    ∙ head-made t id (map bornCount (s .args .mins .now)) (s .pre .0)
-    ∙ ap (λ (l : List ℕ). t ∷ id ++ (map bornCount l ++ 0 ∷ 0 ∷ [])) m
-    ∙ head-is t id cs few (s .pre .0) (octets-of id (λ i h. omega (arith, c .before .before .before .before .before .before .before .shared-slice-known .given i)))
+    let n = c .before .put-counts .ensures in (
+      λ cs few m. (λ j. t ∷ take 16 (q j ++ replicate 8 0) ++ (n j ++ drop 6 (drop 17 (t ∷ q j ++ replicate 8 0))))
+          ∙ head-made t id (map bornCount (s .args .mins .now)) (s .pre .0)
+          ∙ ap (λ (l : List ℕ). t ∷ id ++ (map bornCount l ++ 0 ∷ 0 ∷ [])) m
+          ∙ head-is t id cs few (s .pre .0) o,
+      rw (s .pre .0) at (value-lt id o),
+    )
 
 pub new-head-spec : {M : Type 1} → statement M
 new-head-spec =

@@ -5,7 +5,7 @@ use Prim.Native.Nat.{ℕ}
 use lib.ListN.{replicate}
 use Rattle.model.specs.Octets.{value}
 use Rattle.model.specs.Value.{blank}
-use Rattle.model.proofs.NewRows.{new-cells}
+use Rattle.inner.proofs.NewRows.{new-cells}
 use borrow.Author.Needs.{needs}
 use Rattle.rows.proofs.new_row.Statement.{statement}
 use Rattle.rows.proofs.new_row.Tie as tie
@@ -18,9 +18,8 @@ array-set-from-row c = search needs
 
 returns : tie.Need-returns
 returns c =
-    λ cs few m.
     let a = c .before .before .before .args in
-    ap (λ (h : List ℕ). h ∷ replicate 24 blank) (c .new-head .ensures cs few m) ∙ new-cells (a .table) (a .id .now) cs few (value (a .id .now))
+    (λ cs few m. ap (λ (h : List ℕ). h ∷ replicate 24 blank) (c .new-head .ensures .0 cs few m) ∙ new-cells (a .table) (a .id .now) cs few (value (a .id .now)), c .new-head .ensures .1)
 
 pub new-row-spec : {M : Type 1} → statement M
 new-row-spec = tie.close (tie.spec new-head-requires array-set-from-row returns)

@@ -3,7 +3,7 @@ use mathlib.Core.Path.{_≡_, refl, _∙_}
 use Prim.Native.Nat.{_-_, _≤_}
 use native.Mathlib.Omega.{arith}
 use lib.ListN.{length, set, length-set}
-use Rattle.model.specs.Working.{bornCount}
+use Rattle.inner.specs.Working.{bornCount}
 use Rattle.rows.proofs.Laws.{made, made-more, made-end}
 use Rattle.rows.proofs.put_counts.Statement.{statement}
 use Rattle.rows.proofs.put_counts.Tie as tie

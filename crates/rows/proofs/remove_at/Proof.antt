@@ -2,8 +2,8 @@
 use mathlib.Core.Path.{sym, _∙_}
 use Prim.Native.Nat.{_-_}
 use lib.ListN.{take}
-use Rattle.model.specs.Working.{working}
-use Rattle.model.proofs.Places.{place-at, working-removed, tidy-removed}
+use Rattle.inner.specs.Working.{working}
+use Rattle.inner.proofs.Places.{place-at, working-removed, tidy-removed}
 use borrow.Author.Needs.{needs}
 use Rattle.rows.proofs.remove_at.Statement.{statement}
 use Rattle.rows.proofs.remove_at.Tie as tie

@@ -1,7 +1,7 @@
 -- `rows::same_column` meets its contract. Assumes nothing.
 use mathlib.Core.Path.{sym, _∙_}
 use Rattle.model.specs.Base.{eqLists}
-use Rattle.model.specs.Working.{valueIn}
+use Rattle.inner.specs.Working.{valueIn}
 use Rattle.rows.proofs.Laws.{value-no, value-yes}
 use borrow.Author.Needs.{needs}
 use Rattle.rows.proofs.same_column.Statement.{statement}

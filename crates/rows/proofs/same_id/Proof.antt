@@ -2,7 +2,7 @@
 use mathlib.Core.Path.{_∙_}
 use lib.Dec.{eqb}
 use Rattle.model.specs.Octets.{value}
-use Rattle.model.specs.Working.{idIn}
+use Rattle.inner.specs.Working.{idIn}
 use borrow.Author.Needs.{needs}
 use Rattle.rows.proofs.same_id.Statement.{statement}
 use Rattle.rows.proofs.same_id.Tie as tie

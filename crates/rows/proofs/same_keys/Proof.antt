@@ -12,7 +12,8 @@ use lib.Dec.{eqb}
 use lib.ListN.{getD, drop}
 use Rattle.model.specs.Octets.{value, eqBytes}
 use Rattle.model.specs.Rows.{keyOf}
-use Rattle.model.proofs.Working.{octets-of, same-key}
+use Rattle.model.proofs.Octets.{octets}
+use Rattle.inner.proofs.Working.{same-key}
 use borrow.Author.Needs.{needs}
 use Rattle.rows.proofs.same_keys.Statement.{statement}
 use Rattle.rows.proofs.same_keys.Tie as tie
@@ -24,8 +25,8 @@ shared-slice-read-if1 c = search needs
 law : (s : tie.Start) → ((i : ℕ) → Fits w8 (getD (s .args .id .now) i 0)) → ((i : ℕ) → Fits w8 (getD (s .args .key .now) i 0))
     → eqb (keyOf (s .args .table) (value (s .args .id .now))) (value (s .args .key .now)) ≡ (eqb (s .args .table) (getD (s .args .key .now) 0 0) && eqBytes (s .args .id .now) (drop 1 (s .args .key .now)))
 law s f g =
-    same-key (s .args .table) (s .args .id .now) (s .args .key .now) (omega arith) (omega arith) (omega (arith, s .fits)) (octets-of (s .args .id .now) (λ i h. omega (arith, f i)))
-    (octets-of (s .args .key .now) (λ i h. omega (arith, g i)))
+    same-key (s .args .table) (s .args .id .now) (s .args .key .now) (omega arith) (omega arith) (omega (arith, s .fits)) (octets (s .args .id .now) (λ i. omega (arith, f i)))
+    (octets (s .args .key .now) (λ i. omega (arith, g i)))
 
 returns : tie.Need-returns
 returns c =

@@ -5,7 +5,7 @@ use native.Mathlib.Omega.{arith}
 use lib.ListN.{length, getD}
 use Rattle.model.specs.Areas.{rowFrom}
 use Rattle.model.specs.Value.{Value}
-use Rattle.model.proofs.Columns.{row-set, tidy-column}
+use Rattle.inner.proofs.Columns.{row-set, tidy-column}
 use borrow.Author.Needs.{needs}
 use Rattle.rows.proofs.set_column.Statement.{statement}
 use Rattle.rows.proofs.set_column.Tie as tie

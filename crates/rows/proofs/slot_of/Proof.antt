@@ -4,8 +4,8 @@ use Prim.Native.Nat.{_+_, _-_, _≤_}
 use native.Mathlib.Omega.{arith}
 use lib.ListN.{drop}
 use Rattle.model.specs.Schema.{Schema}
-use Rattle.model.specs.Working.{working, keyIn, slot}
-use Rattle.model.proofs.Working.{slot-here, slot-on, slot-end}
+use Rattle.inner.specs.Working.{working, keyIn, slot}
+use Rattle.inner.proofs.Working.{slot-here, slot-on, slot-end}
 use Rattle.rows.proofs.slot_of.Statement.{statement}
 use Rattle.rows.proofs.slot_of.Tie as tie
 

@@ -2,7 +2,7 @@
 use mathlib.Core.Path.{ap, _∙_}
 use mathlib.Core.Bool.{not}
 use native.Mathlib.Omega.{arith}
-use Rattle.model.proofs.Working.{octets-of}
+use Rattle.model.proofs.Octets.{octets}
 use Rattle.rows.proofs.Laws.{some-id}
 use borrow.Author.Needs.{needs}
 use Rattle.rows.proofs.some_id.Statement.{statement}
@@ -18,7 +18,7 @@ returns : tie.Need-returns
 returns c =
     let s = c .before .before .before in
     let id = s .args .id .now in
-    ap not (c .same-bytes .ensures) ∙ some-id id (s .pre) (octets-of id (λ i h. omega (arith, c .before .before .shared-slice-known .given i)))
+    ap not (c .same-bytes .ensures) ∙ some-id id (s .pre) (octets id (λ i. omega (arith, c .before .before .shared-slice-known .given i)))
 
 pub some-id-spec : {M : Type 1} → statement M
 some-id-spec = tie.close (tie.spec slice-aggregate-same-bytes same-bytes-requires returns)

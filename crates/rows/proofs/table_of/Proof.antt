@@ -1,6 +1,6 @@
 -- `rows::table_of` meets its contract. Assumes nothing.
 use mathlib.Core.Path.{refl}
-use Rattle.model.specs.Working.{tableIn}
+use Rattle.inner.specs.Working.{tableIn}
 use borrow.Author.Needs.{needs}
 use Rattle.rows.proofs.table_of.Statement.{statement}
 use Rattle.rows.proofs.table_of.Tie as tie

@@ -4,7 +4,7 @@ use mathlib.Core.Path.{_≡_, refl, sym, ap, _∙_}
 use mathlib.Core.Bool.{true, false}
 use native.Mathlib.Omega.{arith}
 use lib.ListN.{length}
-use Rattle.model.specs.Nav.{itemsFrom, itemsFine, left}
+use Rattle.inner.specs.Positions.{itemsFrom, itemsFine, left}
 use Rattle.answer.specs.Texts.{joined}
 use Rattle.answer.proofs.Putting.{Due, due-all, due-is, due-next, due-none}
 use Rattle.nav.proofs.Walk.{walk-rest, walk-fine, walk-less}

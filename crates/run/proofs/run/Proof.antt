@@ -3,8 +3,8 @@ use Prim.Native.Nat.{_+_, _*_, _≤_}
 use mathlib.Core.Path.{_≡_, refl, sym, ap, _∙_}
 use native.Mathlib.Omega.{arith}
 use lib.ListN.{length}
-use Rattle.model.specs.Nav.{left}
-use Rattle.model.specs.Packed.{tablesIn}
+use Rattle.inner.specs.Positions.{left}
+use Rattle.inner.specs.Packed.{packedTables}
 use mathlib.Core.Bool.{false}
 use Rattle.answer.specs.Texts.{joined}
 use Rattle.answer.proofs.Putting.{put-is}
@@ -17,7 +17,7 @@ use Rattle.run.proofs.run.Tie as tie
 
 abbrev Inv-loop : tie.InvT-loop
 Inv-loop text ends ops fresh schema rows₀ n answer₀ at₀ g₀ i₀ m₀ rows answer at g i m =
-    (length rows ≡ length rows₀) × (length answer ≡ length answer₀) × Going (tablesIn schema) text ops fresh rows₀ n answer₀ at₀ rows answer at g i m
+    (length rows ≡ length rows₀) × (length answer ≡ length answer₀) × Going (packedTables schema) text ops fresh rows₀ n answer₀ at₀ rows answer at g i m
 
 abbrev μ-loop : tie.MeasureT-loop
 μ-loop text ends ops fresh schema rows₀ n answer₀ at₀ g₀ i₀ m₀ rows answer at g i m = left text g

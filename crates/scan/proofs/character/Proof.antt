@@ -4,7 +4,9 @@ use mathlib.Core.Path.{sym, ap, _∙_}
 use native.Mathlib.Omega.{arith}
 use lib.Dec.{lit<}
 use Rattle.scan.proofs.Bytes.{inside, inside-byte}
-use Rattle.model.specs.Strings.{charBy, wideBy, going}
+use Rattle.scan.proofs.Same.{wide-same, ascii-goes}
+use Rattle.model.specs.Strings.{charBy, going}
+use Rattle.scan.specs.Units.{wideBy}
 use borrow.Author.Needs.{needs}
 use Rattle.scan.proofs.character.Statement.{statement}
 use Rattle.scan.proofs.character.Tie as tie
@@ -42,7 +44,7 @@ add-t9 c =
 
 returns-4 : tie.Need-returns-4
 returns-4 c =
-    rw (← c .before .before .before .before .peek .ensures) (unfold charBy in rw (charBy, ne-eqb _ _ (c .before .before .before .if1 .left), ne-eqb _ _ (c .before .before .if2 .left), le-ltb _ _ (c .before .if3 .left), lt-ltb _ _ (c .if4 .taken)))
+    rw (← c .before .before .before .before .peek .ensures) (unfold charBy in rw (charBy, ne-eqb _ _ (c .before .before .before .if1 .left), ne-eqb _ _ (c .before .before .if2 .left), le-ltb _ _ (c .before .if3 .left), ascii-goes (c .before .before .before .before .before .before .args .text .now) _ _ (c .if4 .taken)))
 
 wide-requires : tie.Need-wide-requires
 wide-requires c κs = search needs
@@ -53,8 +55,8 @@ go-on-requires c κs = search needs
 returns-5 : tie.Need-returns-5
 returns-5 c =
     let a = c .before .before .before .before .before .before .before .before .args in
-    rw (← c .before .before .before .before .before .before .peek .ensures) (unfold charBy in rw (charBy, ne-eqb _ _ (c .before .before .before .before .before .if1 .left), ne-eqb _ _ (c .before .before .before .before .if2 .left), le-ltb _ _ (c .before .before .before .if3 .left), le-ltb _ _ (c .before .before .if4 .left))
-    (c .go-on .ensures ∙ ap going (c .before .wide .ensures ∙ ap (wideBy (a .text .now) (a .at)) (sym (c .before .before .before .before .before .before .peek .ensures)))))
+    rw (← c .before .before .before .before .before .before .peek .ensures) (unfold charBy in rw (charBy, ne-eqb _ _ (c .before .before .before .before .before .if1 .left), ne-eqb _ _ (c .before .before .before .before .if2 .left), le-ltb _ _ (c .before .before .before .if3 .left))
+    (c .go-on .ensures ∙ ap going (c .before .wide .ensures ∙ ap (wideBy (a .text .now) (a .at)) (sym (c .before .before .before .before .before .before .peek .ensures)) ∙ wide-same (a .text .now) (a .at) _ (c .before .before .if4 .left))))
 
 pub character-spec : {M : Type 1} → statement M
 character-spec =

@@ -3,8 +3,11 @@ use borrow.Author.Tests.{ne-eqb, eq-eqb}
 use mathlib.Core.Path.{sym, ap, _∙_}
 use native.Mathlib.Omega.{arith}
 use lib.Dec.{lit<}
+use Prim.Native.Nat.{_+_}
 use Rattle.scan.proofs.Bytes.{inside, inside-byte}
-use Rattle.model.specs.Strings.{escapeBy, shortOf, unitBy}
+use Rattle.scan.proofs.Same.{escape-same}
+use Rattle.model.specs.Strings.{escapeBy, shortOf}
+use Rattle.scan.specs.Units.{unitBy}
 use borrow.Author.Needs.{needs}
 use Rattle.scan.proofs.escape.Statement.{statement}
 use Rattle.scan.proofs.escape.Tie as tie
@@ -29,7 +32,7 @@ unit-requires c κs = search needs
 returns : tie.Need-returns
 returns c =
     let a = c .before .before .before .before .before .before .before .args in
-    rw (← c .before .before .before .before .before .peek .ensures) (unfold escapeBy in rw (escapeBy, sym (c .before .before .before .before .short-escape .ensures) ∙ c .before .before .before .if1 .taken, eq-eqb _ 117 (c .before .before .if2 .taken)) (c .unit .ensures ∙ ap (unitBy (a .text .now)) (c .before .hex4 .ensures)))
+    rw (← c .before .before .before .before .before .peek .ensures) (unfold escapeBy in rw (escapeBy, sym (c .before .before .before .before .short-escape .ensures) ∙ c .before .before .before .if1 .taken, eq-eqb _ 117 (c .before .before .if2 .taken)) (c .unit .ensures ∙ ap (unitBy (a .text .now)) (c .before .hex4 .ensures) ∙ escape-same (a .text .now) (a .at + 1)))
 
 returns-2 : tie.Need-returns-2
 returns-2 c =

@@ -1,6 +1,6 @@
 -- `scan::half_of` meets its contract. Assumes nothing.
 use borrow.Author.Tests.{ne-eqb, lt-ltb, le-ltb}
-use Rattle.model.specs.Strings.{halfOf}
+use Rattle.scan.specs.Units.{halfOf}
 use Rattle.scan.proofs.half_of.Statement.{statement}
 use Rattle.scan.proofs.half_of.Tie as tie
 

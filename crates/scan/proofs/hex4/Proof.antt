@@ -1,6 +1,6 @@
 -- `scan::hex4` meets its contract. Assumes nothing.
 use mathlib.Core.Path.{ap, _∙_}
-use Rattle.model.specs.Strings.{hexStep, outside}
+use Rattle.scan.specs.Units.{hexStep, outside}
 use borrow.Author.Needs.{needs}
 use Rattle.scan.proofs.hex4.Statement.{statement}
 use Rattle.scan.proofs.hex4.Tie as tie

@@ -3,7 +3,8 @@ use borrow.Author.Tests.{ne-eqb}
 use mathlib.Core.Path.{ap, _∙_}
 use native.Mathlib.Omega.{arith}
 use Rattle.scan.proofs.Bytes.{inside}
-use Rattle.model.specs.Strings.{hexStep, hexAdd, hexOf}
+use Rattle.model.specs.Strings.{hexOf}
+use Rattle.scan.specs.Units.{hexStep, hexAdd}
 use borrow.Author.Needs.{needs}
 use Rattle.scan.proofs.hex_step.Statement.{statement}
 use Rattle.scan.proofs.hex_step.Tie as tie

@@ -1,5 +1,5 @@
 -- `scan::low_half` meets its contract. Assumes nothing.
-use Rattle.model.specs.Strings.{lowFrom}
+use Rattle.scan.specs.Units.{lowFrom}
 use borrow.Author.Needs.{needs}
 use Rattle.scan.proofs.low_half.Statement.{statement}
 use Rattle.scan.proofs.low_half.Tie as tie

@@ -1,6 +1,6 @@
 -- `scan::low_hex4` meets its contract. Assumes nothing.
 use mathlib.Core.Path.{ap, _∙_}
-use Rattle.model.specs.Strings.{hexStep, inside}
+use Rattle.scan.specs.Units.{hexStep, inside}
 use borrow.Author.Needs.{needs}
 use Rattle.scan.proofs.low_hex4.Statement.{statement}
 use Rattle.scan.proofs.low_hex4.Tie as tie

@@ -1,5 +1,5 @@
 -- `scan::pair` meets its contract. Assumes nothing.
-use Rattle.model.specs.Strings.{pairBy}
+use Rattle.scan.specs.Units.{pairBy}
 use borrow.Author.Needs.{needs}
 use Rattle.scan.proofs.pair.Statement.{statement}
 use Rattle.scan.proofs.pair.Tie as tie

@@ -1,6 +1,6 @@
 -- `scan::second_high` meets its contract. Assumes nothing.
 use borrow.Author.Tests.{ne-eqb}
-use Rattle.model.specs.Strings.{secondHigh}
+use Rattle.scan.specs.Units.{secondHigh}
 use Rattle.scan.proofs.second_high.Statement.{statement}
 use Rattle.scan.proofs.second_high.Tie as tie
 

@@ -1,6 +1,6 @@
 -- `scan::second_low` meets its contract. Assumes nothing.
 use borrow.Author.Tests.{ne-eqb}
-use Rattle.model.specs.Strings.{secondLow}
+use Rattle.scan.specs.Units.{secondLow}
 use Rattle.scan.proofs.second_low.Statement.{statement}
 use Rattle.scan.proofs.second_low.Tie as tie
 

@@ -1,6 +1,6 @@
 -- `scan::unit` meets its contract. Assumes nothing.
 use mathlib.Core.Path.{sym, ap, _∙_}
-use Rattle.model.specs.Strings.{unitBy, pairBy}
+use Rattle.scan.specs.Units.{unitBy, pairBy}
 use borrow.Author.Needs.{needs}
 use Rattle.scan.proofs.unit.Statement.{statement}
 use Rattle.scan.proofs.unit.Tie as tie

@@ -4,7 +4,7 @@ use mathlib.Core.Path.{ap, _∙_}
 use native.Mathlib.Omega.{arith}
 use Rattle.model.specs.Scan.{withinAt}
 use Rattle.scan.proofs.Bytes.{inside}
-use Rattle.model.specs.Strings.{wideBy}
+use Rattle.scan.specs.Units.{wideBy}
 use borrow.Author.Needs.{needs}
 use Rattle.scan.proofs.wide.Statement.{statement}
 use Rattle.scan.proofs.wide.Tie as tie

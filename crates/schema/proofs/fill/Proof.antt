@@ -5,7 +5,7 @@ use mathlib.Core.Bool.{false}
 use Prim.Native.Nat.{ℕ}
 use native.Mathlib.Omega.{arith}
 use lib.ListN.{length, getD}
-use Rattle.model.specs.Nav.{treeAt}
+use Rattle.inner.specs.Positions.{treeAt}
 use Rattle.model.specs.Value.{textOf}
 use Rattle.model.specs.SchemaText.{isId}
 use Rattle.fields.specs.Fields.{wordsFrom, wordsOf, slotTree}

@@ -3,11 +3,11 @@ use Prim.Native.Nat.{ℕ, _+_, _-_, _≤_}
 use mathlib.Core.Path.{_≡_, ap, _∙_}
 use mathlib.Core.List.{map}
 use lib.ListN.{length, take, drop}
-use Rattle.model.specs.Packed.{columnFrom}
+use Rattle.inner.specs.Packed.{columnFrom}
 use Rattle.names.specs.Names.{foundAt}
 use Rattle.lookup.specs.Lookup.{columnIn}
 use native.Mathlib.Omega.{arith}
-use Rattle.model.specs.Nav.{treeAt}
+use Rattle.inner.specs.Positions.{treeAt}
 use Rattle.schema.proofs.Named.{table-named}
 use borrow.Author.Needs.{needs}
 use Rattle.schema.proofs.table_at.Statement.{statement}

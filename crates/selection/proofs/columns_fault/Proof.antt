@@ -2,7 +2,7 @@
 use mathlib.Core.Path.{ap, _∙_}
 use mathlib.Core.List.{map}
 use Rattle.model.specs.Nav.{isArray}
-use Rattle.model.specs.Packed.{columnFrom}
+use Rattle.inner.specs.Packed.{columnFrom}
 use Rattle.selection.proofs.Names.{none-fine, array-fault, other-fault}
 use borrow.Author.Needs.{needs}
 use Rattle.selection.proofs.columns_fault.Statement.{statement}

@@ -2,7 +2,7 @@
 use mathlib.Core.Path.{sym, ap, _∙_}
 use mathlib.Core.Bool.{Bool, not, _||_}
 use Rattle.model.specs.Value.{sameValue}
-use Rattle.model.specs.Working.{valueIn}
+use Rattle.inner.specs.Working.{valueIn}
 use borrow.Author.Needs.{needs}
 use Rattle.selection.proofs.differ.Statement.{statement}
 use Rattle.selection.proofs.differ.Tie as tie

@@ -2,8 +2,8 @@
 use mathlib.Core.Path.{sym, _∙_}
 use mathlib.Core.List.{map}
 use native.Mathlib.Omega.{arith}
-use Rattle.model.specs.Nav.{treeAt, itemsFrom}
-use Rattle.model.specs.Packed.{columnFrom}
+use Rattle.inner.specs.Positions.{treeAt, itemsFrom}
+use Rattle.inner.specs.Packed.{columnFrom}
 use Rattle.selection.proofs.Names.{fair-id, fair-column, fair-unknown, named-small}
 use borrow.Author.Needs.{needs}
 use Rattle.selection.proofs.fair.Statement.{statement}

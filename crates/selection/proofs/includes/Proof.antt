@@ -1,7 +1,7 @@
 -- `selection::includes` meets its contract. Assumes nothing.
 use borrow.Author.Needs.{needs}
 use mathlib.Core.Path.{refl}
-use Rattle.model.specs.Nav.{left}
+use Rattle.inner.specs.Positions.{left}
 use Rattle.nav.proofs.Walk.{walk-less}
 use Rattle.selection.proofs.Names.{Among, any-here, any-on, any-end}
 use Rattle.selection.proofs.includes.Statement.{statement}

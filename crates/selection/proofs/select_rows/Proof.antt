@@ -9,7 +9,7 @@ use Rattle.model.specs.Base.{ascii}
 use Rattle.model.specs.Schema.{columnsOf}
 use Rattle.model.specs.Faults.{isFine}
 use Rattle.model.specs.Operations.{shows}
-use Rattle.model.specs.Packed.{columnFrom, tablesIn}
+use Rattle.inner.specs.Packed.{columnFrom, packedTables}
 use Rattle.answer.specs.Texts.{joined}
 use Rattle.answer.proofs.Putting.{put-then, put-is}
 use Rattle.area.specs.Layout.{columnCells}
@@ -36,7 +36,7 @@ columns-of-requires c κs =
 flags-of-requires : tie.Need-flags-of-requires
 flags-of-requires c κs =
     let s = c .before .before .before .before .before .before in
-    (s .pre .0 .says, (s .pre .1 .1 .0, (names-fine (columnsOf (tablesIn (s .args .schema .now)) (s .args .table)) (slotted (s .args .text .now) (s .args .p)) (s .pre .1 .1 .1 .1 .1 .1 .1 .0), c .columns-of .ensures .1)))
+    (s .pre .0 .says, (s .pre .1 .1 .0, (names-fine (columnsOf (packedTables (s .args .schema .now)) (s .args .table)) (slotted (s .args .text .now) (s .args .p)) (s .pre .1 .1 .1 .1 .1 .1 .1 .0), c .columns-of .ensures .1)))
 
 marks-of-requires : tie.Need-marks-of-requires
 marks-of-requires c κs =

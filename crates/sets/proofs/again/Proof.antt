@@ -1,8 +1,8 @@
 -- `sets::again` meets its contract. Assumes nothing.
 use mathlib.Core.Path.{sym, ap, subst, _∙_}
 use Rattle.model.specs.Base.{member}
-use Rattle.model.specs.Nav.{treeAt}
-use Rattle.model.specs.Schema.{baseOf}
+use Rattle.inner.specs.Positions.{treeAt}
+use Rattle.inner.specs.Packed.{baseNumbered}
 use Rattle.elements.specs.Elements.{elementsFrom}
 use Rattle.uuids.specs.Named.{namesAt}
 use Rattle.written.specs.Atoms.{Reads, atomsOf}
@@ -37,7 +37,7 @@ returns : tie.Need-returns
 returns c =
     let a = c .before .before .before .before .before .before .before .before .before .args in
     let n = namesAt (a .text .now) (a .ops) (a .fresh .now) in
-    let k = baseOf (a .kind) in
+    let k = baseNumbered (a .kind) in
     let j = treeAt (a .text .now) (a .at) in
     let i = c .before .before .before .before .atom-at in
     let cell = i .last .1 .1 .1 .1 .1 .1 .0 in
@@ -47,7 +47,7 @@ returns-2 : tie.Need-returns-2
 returns-2 c =
     let a = c .before .before .before .before .before .before .before .before .args in
     let n = namesAt (a .text .now) (a .ops) (a .fresh .now) in
-    let k = baseOf (a .kind) in
+    let k = baseNumbered (a .kind) in
     let j = treeAt (a .text .now) (a .at) in
     let i = c .before .before .before .atom-at in
     let cell = i .last .1 .1 .1 .1 .1 .1 .0 in
@@ -57,7 +57,7 @@ returns-3 : tie.Need-returns-3
 returns-3 c =
     let a = c .before .before .before .before .before .before .before .before .before .args in
     let n = namesAt (a .text .now) (a .ops) (a .fresh .now) in
-    let k = baseOf (a .kind) in
+    let k = baseNumbered (a .kind) in
     let j = treeAt (a .text .now) (a .at) in
     let i = c .before .before .before .before .atom-at in
     let cell = i .last .1 .1 .1 .1 .1 .1 .0 in

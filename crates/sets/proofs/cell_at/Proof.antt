@@ -1,7 +1,7 @@
 -- `sets::cell_at` meets its contract. Assumes nothing.
 use mathlib.Core.Path.{sym}
-use Rattle.model.specs.Nav.{treeAt}
-use Rattle.model.specs.Schema.{baseOf}
+use Rattle.inner.specs.Positions.{treeAt}
+use Rattle.inner.specs.Packed.{baseNumbered}
 use Rattle.uuids.specs.Named.{namesAt}
 use Rattle.sets.proofs.Tallying.{reads-cell}
 use borrow.Author.Needs.{needs}
@@ -15,7 +15,7 @@ returns : tie.Need-returns
 returns c =
     let a = c .before .before .before .before .before .args in
     let i = c .atom-at in
-    sym (reads-cell (namesAt (a .text .now) (a .ops) (a .fresh .now)) (baseOf (a .kind)) (treeAt (a .text .now) (a .at)) (i .last .1 .1 .1 .1 .1 .1 .0) (i .result) (i .ensures) (c .before .before .before .before .before .pre .1 .1))
+    sym (reads-cell (namesAt (a .text .now) (a .ops) (a .fresh .now)) (baseNumbered (a .kind)) (treeAt (a .text .now) (a .at)) (i .last .1 .1 .1 .1 .1 .1 .0) (i .result) (i .ensures) (c .before .before .before .before .before .pre .1 .1))
 
 pub cell-at-spec : {M : Type 1} → statement M
 cell-at-spec =

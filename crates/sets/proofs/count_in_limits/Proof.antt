@@ -5,7 +5,7 @@ use lib.Dec.{ltb, leb}
 use lib.IntN.{pos}
 use lib.Signed.{leZ}
 use Rattle.model.specs.Value.{fromTwos}
-use Rattle.model.specs.Packed.{columnFrom}
+use Rattle.inner.specs.Packed.{columnFrom}
 use Rattle.sets.proofs.Limiting.{above-is, below-is}
 use borrow.Author.Needs.{needs}
 use Rattle.sets.proofs.count_in_limits.Statement.{statement}

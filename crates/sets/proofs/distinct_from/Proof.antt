@@ -2,8 +2,8 @@
 use mathlib.Core.Path.{_≡_, refl, sym, ap, _∙_}
 use mathlib.Core.Bool.{true, not, _&&_}
 use Rattle.model.specs.Base.{member, distinct}
-use Rattle.model.specs.Nav.{left, treeAt}
-use Rattle.model.specs.Schema.{baseOf}
+use Rattle.inner.specs.Positions.{left, treeAt}
+use Rattle.inner.specs.Packed.{baseNumbered}
 use Rattle.elements.specs.Elements.{elementsFrom, elementsFine}
 use Rattle.elements.proofs.Walk.{walk-fine, walk-less}
 use Rattle.uuids.specs.Named.{namesAt}
@@ -14,7 +14,7 @@ use Rattle.sets.proofs.distinct_from.Statement.{statement}
 use Rattle.sets.proofs.distinct_from.Tie as tie
 
 abbrev Inv-loop : tie.InvT-loop
-Inv-loop text ends ops fresh kind set g₀ g = (distinct (atomsOf (namesAt text ops fresh) (baseOf kind) (elementsFrom text set g₀)) ≡ distinct (atomsOf (namesAt text ops fresh) (baseOf kind) (elementsFrom text set g))) × (elementsFine text set g ≡ true)
+Inv-loop text ends ops fresh kind set g₀ g = (distinct (atomsOf (namesAt text ops fresh) (baseNumbered kind) (elementsFrom text set g₀)) ≡ distinct (atomsOf (namesAt text ops fresh) (baseNumbered kind) (elementsFrom text set g))) × (elementsFine text set g ≡ true)
 
 abbrev μ-loop : tie.MeasureT-loop
 μ-loop text ends ops fresh kind set g₀ g = left text g
@@ -38,7 +38,7 @@ returns : tie.Need-returns Inv-loop μ-loop
 returns c =
     let a = c .before .before .before .before .before .before .before .before .before .before .args in
     let n = namesAt (a .text .now) (a .ops) (a .fresh .now) in
-    let k = baseOf (a .kind) in
+    let k = baseNumbered (a .kind) in
     let s = a .text .now in
     let e = c .before .before .before .before .g .given in
     let m = c .before .again .ensures ∙ ap (λ f. member (atomAs n k (treeAt s (e .0 .0))) (atomsOf n k (elementsFrom s (a .set) f))) (c .before .before .next-element .ensures) in
@@ -51,7 +51,7 @@ loop-again : tie.Need-loop-again Inv-loop μ-loop
 loop-again c =
     let a = c .before .before .before .before .before .before .before .before .before .before .args in
     let n = namesAt (a .text .now) (a .ops) (a .fresh .now) in
-    let k = baseOf (a .kind) in
+    let k = baseNumbered (a .kind) in
     let s = a .text .now in
     let e = c .before .before .before .before .g .given in
     let m = c .before .again .ensures ∙ ap (λ f. member (atomAs n k (treeAt s (e .0 .0))) (atomsOf n k (elementsFrom s (a .set) f))) (c .before .before .next-element .ensures) in
@@ -64,7 +64,7 @@ enum-told c = search needs
 returns-2 : tie.Need-returns-2 Inv-loop μ-loop
 returns-2 c =
     let a = c .before .before .before .before .before .before .args in
-    sym (c .before .before .loop .inv .0 ∙ distinct-end (namesAt (a .text .now) (a .ops) (a .fresh .now)) (baseOf (a .kind)) (a .text .now) (a .set) (c .enum-told .given .1))
+    sym (c .before .before .loop .inv .0 ∙ distinct-end (namesAt (a .text .now) (a .ops) (a .fresh .now)) (baseNumbered (a .kind)) (a .text .now) (a .set) (c .enum-told .given .1))
 
 pub distinct-from-spec : {M : Type 1} → statement M
 distinct-from-spec =

@@ -3,7 +3,7 @@ use mathlib.Core.Path.{ap, _∙_}
 use mathlib.Core.Bool.{_&&_}
 use lib.Signed.{leZ}
 use Rattle.model.specs.Value.{fromTwos}
-use Rattle.model.specs.Packed.{columnFrom}
+use Rattle.inner.specs.Packed.{columnFrom}
 use borrow.Author.Needs.{needs}
 use Rattle.sets.proofs.in_limits.Statement.{statement}
 use Rattle.sets.proofs.in_limits.Tie as tie

@@ -1,8 +1,8 @@
 -- `sets::see` meets its contract. Assumes nothing.
 use mathlib.Core.Path.{subst}
 use lib.ListN.{getD}
-use Rattle.model.specs.Nav.{treeAt}
-use Rattle.model.specs.Packed.{columnFrom}
+use Rattle.inner.specs.Positions.{treeAt}
+use Rattle.inner.specs.Packed.{columnFrom}
 use Rattle.uuids.specs.Named.{namesAt}
 use Rattle.written.specs.Atoms.{Reads}
 use Rattle.sets.proofs.Tallying.{sees-wrong, sees-fits, sees-long}

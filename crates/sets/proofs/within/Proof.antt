@@ -4,7 +4,7 @@ use lib.ListN.{getD}
 use lib.IntN.{pos}
 use Rattle.model.specs.Text.{chars}
 use Rattle.model.specs.Value.{fromTwos, inLimits, atomInLimits}
-use Rattle.model.specs.Packed.{columnFrom}
+use Rattle.inner.specs.Packed.{columnFrom}
 use Rattle.atom.proofs.Types.{base-integer, base-text}
 use Rattle.sets.proofs.Limiting.{unlimited}
 use borrow.Author.Needs.{needs}

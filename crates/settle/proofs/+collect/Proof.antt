@@ -2,8 +2,8 @@
 use mathlib.Core.Path.{_∙_, subst}
 use native.Mathlib.Omega.{arith}
 use borrow.Author.Needs.{needs}
-use Rattle.model.specs.Packed.{tablesIn}
-use Rattle.model.specs.Working.{working}
+use Rattle.inner.specs.Packed.{packedTables}
+use Rattle.inner.specs.Working.{working}
 use Rattle.model.specs.declared.Found.{Found}
 use Rattle.model.specs.declared.Found.the-variants.{At}
 use Rattle.model.specs.Schema.{Schema}
@@ -79,7 +79,7 @@ collect-returns : (t : ℕ) → collect-lts.Need-returns (
 ) (collect-at t) collect.Post
 collect-returns t c =
     let s = c .before .before .before .before in
-    let sc = tablesIn (s .args .schema .now) in
+    let sc = packedTables (s .args .schema .now) in
     collected-stop sc (s .args .n) (s .args .rows .now) (subst (λ (f : Found). LooseAt sc (working sc (s .args .n) (s .args .rows .now)) f) (c .enum-told .given .1) (c .before .before .first-loose .ensures))
 
 -- the row that was found: it is one of the rows
@@ -95,7 +95,7 @@ module _ (t : ℕ) (c : collect-lts.After-found (
   start = c .before .before .before .before
 
   abbrev schema : Schema
-  schema = tablesIn (start .args .schema .now)
+  schema = packedTables (start .args .schema .now)
 
   abbrev spot : ℕ
   spot = c .found .given .0 .0

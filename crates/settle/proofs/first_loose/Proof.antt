@@ -5,14 +5,14 @@ use Prim.Native.Nat.{_-_, _≤_}
 use native.Mathlib.Omega.{arith}
 use lib.ListN.{drop, getD}
 use Rattle.model.specs.Commit.{firstLoose}
-use Rattle.model.specs.Packed.{tablesIn}
-use Rattle.model.specs.Working.{working, keyIn}
+use Rattle.inner.specs.Packed.{packedTables}
+use Rattle.inner.specs.Working.{working, keyIn}
 use Rattle.settle.proofs.Loosely.{loose-on, loose-here, loose-end, loose-found, loose-nothing}
 use Rattle.settle.proofs.first_loose.Statement.{statement}
 use Rattle.settle.proofs.first_loose.Tie as tie
 
 abbrev Inv-loop : tie.InvT-loop
-Inv-loop schema rows n i₀ i = (i ≤ n) × (firstLoose (tablesIn schema) (working (tablesIn schema) n rows) (working (tablesIn schema) n rows) ≡ firstLoose (tablesIn schema) (working (tablesIn schema) n rows) (drop i (working (tablesIn schema) n rows)))
+Inv-loop schema rows n i₀ i = (i ≤ n) × (firstLoose (packedTables schema) (working (packedTables schema) n rows) (working (packedTables schema) n rows) ≡ firstLoose (packedTables schema) (working (packedTables schema) n rows) (drop i (working (packedTables schema) n rows)))
 
 abbrev μ-loop : tie.MeasureT-loop
 μ-loop schema rows n i₀ i = n - i
@@ -42,7 +42,7 @@ returns : tie.Need-returns Inv-loop μ-loop
 returns c =
     let s = c .before .before .before .before .before .before .before in
     let l = c .before .before .before .before .before .before .loop in
-    let sc = tablesIn (s .args .schema .now) in
+    let sc = packedTables (s .args .schema .now) in
     loose-found sc (working sc (s .args .n) (s .args .rows .now)) (keyIn (getD (s .args .rows .now) (l .i) [])) (c .place-of .result)
     (l .inv .1 ∙ loose-here sc (s .args .rows .now) (s .args .n) (s .pre .1) (l .i) (c .before .before .before .before .before .loop-test .taken) (sym (c .before .before .before .is-loose .ensures) ∙ c .before .before .if1 .taken))
     (c .place-of .ensures sc)
@@ -57,14 +57,14 @@ loop-again : tie.Need-loop-again Inv-loop μ-loop
 loop-again c =
     let s = c .before .before .before .before .before in
     let l = c .before .before .before .before .loop in
-    let sc = tablesIn (s .args .schema .now) in
+    let sc = packedTables (s .args .schema .now) in
     (omega arith, l .inv .1 ∙ loose-on sc (s .args .rows .now) (s .args .n) (s .pre .1) (l .i) (c .before .before .before .loop-test .taken) (sym (c .before .is-loose .ensures) ∙ c .if1 .left))
 
 returns-2 : tie.Need-returns-2 Inv-loop μ-loop
 returns-2 c =
     let s = c .before .before in
     let l = c .before .loop in
-    let sc = tablesIn (s .args .schema .now) in
+    let sc = packedTables (s .args .schema .now) in
     loose-nothing sc (working sc (s .args .n) (s .args .rows .now)) (l .inv .1 ∙ loose-end sc (s .args .rows .now) (s .args .n) (s .pre .1) (l .i) (c .loop-test .left))
 
 pub first-loose-spec : {M : Type 1} → statement M

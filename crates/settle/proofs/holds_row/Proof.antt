@@ -1,7 +1,7 @@
 -- `settle::holds_row` meets its contract. Assumes nothing.
 use mathlib.Core.Path.{sym, _∙_}
-use Rattle.model.specs.Packed.{tablesIn}
-use Rattle.model.proofs.Working.{row-key}
+use Rattle.inner.specs.Packed.{packedTables}
+use Rattle.inner.proofs.Working.{row-key}
 use Rattle.settle.specs.Loose.{holds}
 use borrow.Author.Needs.{needs}
 use Rattle.settle.proofs.holds_row.Statement.{statement}
@@ -14,7 +14,7 @@ returns : tie.Need-returns
 unfolding holds
 returns c =
     let s = c .before .before in
-    let sc = tablesIn (s .args .schema .now) in
+    let sc = packedTables (s .args .schema .now) in
     rw (holds, row-key sc (s .args .row .now), sym (c .before .same-row .ensures) ∙ c .if1 .taken)
 
 refers-to-requires : tie.Need-refers-to-requires
@@ -24,7 +24,7 @@ returns-2 : tie.Need-returns-2
 unfolding holds
 returns-2 c =
     let s = c .before .before .before in
-    let sc = tablesIn (s .args .schema .now) in
+    let sc = packedTables (s .args .schema .now) in
     rw (holds, row-key sc (s .args .row .now), sym (c .before .before .same-row .ensures) ∙ c .before .if1 .left) (c .refers-to .ensures)
 
 pub holds-row-spec : {M : Type 1} → statement M

@@ -4,15 +4,15 @@ use Prim.Native.Nat.{_-_, _≤_}
 use native.Mathlib.Omega.{arith}
 use lib.ListN.{drop}
 use Rattle.model.specs.Base.{any}
-use Rattle.model.specs.Packed.{tablesIn}
-use Rattle.model.specs.Working.{working, keyIn}
+use Rattle.inner.specs.Packed.{packedTables}
+use Rattle.inner.specs.Working.{working, keyIn}
 use Rattle.references.proofs.Walks.{any-row-here, any-row-on, any-row-end}
 use Rattle.settle.specs.Loose.{holds}
 use Rattle.settle.proofs.is_held.Statement.{statement}
 use Rattle.settle.proofs.is_held.Tie as tie
 
 abbrev Inv-loop : tie.InvT-loop
-Inv-loop schema rows n row j₀ j = (j ≤ n) × (any (holds (tablesIn schema) (keyIn row)) (working (tablesIn schema) n rows) ≡ any (holds (tablesIn schema) (keyIn row)) (drop j (working (tablesIn schema) n rows)))
+Inv-loop schema rows n row j₀ j = (j ≤ n) × (any (holds (packedTables schema) (keyIn row)) (working (packedTables schema) n rows) ≡ any (holds (packedTables schema) (keyIn row)) (drop j (working (packedTables schema) n rows)))
 
 abbrev μ-loop : tie.MeasureT-loop
 μ-loop schema rows n row j₀ j = n - j
@@ -33,7 +33,7 @@ returns : tie.Need-returns Inv-loop μ-loop
 returns c =
     let s = c .before .before .before .before .before in
     let l = c .before .before .before .before .loop in
-    sym (l .inv .1 ∙ any-row-here (tablesIn (s .args .schema .now)) (s .args .rows .now) (s .args .n) (s .pre .1) (l .j) (holds (tablesIn (s .args .schema .now)) (keyIn (s .args .row .now))) (c .before .before .before .loop-test .taken) (sym (c .before .holds-row .ensures) ∙ c .if1 .taken))
+    sym (l .inv .1 ∙ any-row-here (packedTables (s .args .schema .now)) (s .args .rows .now) (s .args .n) (s .pre .1) (l .j) (holds (packedTables (s .args .schema .now)) (keyIn (s .args .row .now))) (c .before .before .before .loop-test .taken) (sym (c .before .holds-row .ensures) ∙ c .if1 .taken))
 
 add-j : tie.Need-add-j Inv-loop μ-loop
 add-j c = omega arith
@@ -45,13 +45,13 @@ loop-again : tie.Need-loop-again Inv-loop μ-loop
 loop-again c =
     let s = c .before .before .before .before .before in
     let l = c .before .before .before .before .loop in
-    (omega arith, l .inv .1 ∙ any-row-on (tablesIn (s .args .schema .now)) (s .args .rows .now) (s .args .n) (s .pre .1) (l .j) (holds (tablesIn (s .args .schema .now)) (keyIn (s .args .row .now))) (c .before .before .before .loop-test .taken) (sym (c .before .holds-row .ensures) ∙ c .if1 .left))
+    (omega arith, l .inv .1 ∙ any-row-on (packedTables (s .args .schema .now)) (s .args .rows .now) (s .args .n) (s .pre .1) (l .j) (holds (packedTables (s .args .schema .now)) (keyIn (s .args .row .now))) (c .before .before .before .loop-test .taken) (sym (c .before .holds-row .ensures) ∙ c .if1 .left))
 
 returns-2 : tie.Need-returns-2 Inv-loop μ-loop
 returns-2 c =
     let s = c .before .before in
     let l = c .before .loop in
-    sym (l .inv .1 ∙ any-row-end (tablesIn (s .args .schema .now)) (s .args .rows .now) (s .args .n) (s .pre .1) (l .j) (holds (tablesIn (s .args .schema .now)) (keyIn (s .args .row .now))) (c .loop-test .left))
+    sym (l .inv .1 ∙ any-row-end (packedTables (s .args .schema .now)) (s .args .rows .now) (s .args .n) (s .pre .1) (l .j) (holds (packedTables (s .args .schema .now)) (keyIn (s .args .row .now))) (c .loop-test .left))
 
 pub is-held-spec : {M : Type 1} → statement M
 is-held-spec =

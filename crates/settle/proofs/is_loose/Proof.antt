@@ -4,9 +4,9 @@ use mathlib.Core.Bool.{not}
 use Prim.Native.Nat.{ℕ}
 use Rattle.model.specs.Base.{any}
 use Rattle.model.specs.Schema.{isRoot}
-use Rattle.model.specs.Packed.{tablesIn}
-use Rattle.model.specs.Working.{working}
-use Rattle.model.proofs.Working.{row-key, row-table}
+use Rattle.inner.specs.Packed.{packedTables}
+use Rattle.inner.specs.Working.{working}
+use Rattle.inner.proofs.Working.{row-key, row-table}
 use Rattle.settle.specs.Loose.{holds}
 use borrow.Author.Needs.{needs}
 use Rattle.settle.proofs.is_loose.Statement.{statement}
@@ -22,7 +22,7 @@ returns : tie.Need-returns
 unfolding holds
 returns c =
     let s = c .before .before .before in
-    let sc = tablesIn (s .args .schema .now) in
+    let sc = packedTables (s .args .schema .now) in
     let e = sym (c .before .is-root .ensures ∙ ap (isRoot sc) (c .before .before .table-of .ensures ∙ sym (row-table sc (s .args .row .now)))) ∙ c .if1 .taken in
     rw e
 
@@ -33,7 +33,7 @@ returns-2 : tie.Need-returns-2
 unfolding holds
 returns-2 c =
     let s = c .before .before .before .before in
-    let sc = tablesIn (s .args .schema .now) in
+    let sc = packedTables (s .args .schema .now) in
     let e = sym (c .before .before .is-root .ensures ∙ ap (isRoot sc) (c .before .before .before .table-of .ensures ∙ sym (row-table sc (s .args .row .now)))) ∙ c .before .if1 .left in
     rw e (ap not (c .is-held .ensures ∙ ap (λ (k : ℕ). any (holds sc k) (working sc (s .args .n) (s .args .rows .now))) (sym (row-key sc (s .args .row .now)))))
 

@@ -5,8 +5,8 @@ use native.Mathlib.Omega.{arith}
 use borrow.Author.Needs.{needs}
 use lib.ListN.{drop}
 use Rattle.model.specs.Schema.{Schema}
-use Rattle.model.specs.Working.{working, keyIn, placeFrom, place}
-use Rattle.model.proofs.Working.{place-here, place-on, place-end}
+use Rattle.inner.specs.Working.{working, keyIn, placeFrom, place}
+use Rattle.inner.proofs.Working.{place-here, place-on, place-end}
 use Rattle.settle.proofs.place_of.Statement.{statement}
 use Rattle.settle.proofs.place_of.Tie as tie
 

@@ -5,8 +5,8 @@ use mathlib.Core.List.{List}
 use lib.Dec.{eqb}
 use Rattle.model.specs.Octets.{value}
 use Rattle.model.specs.Rows.{keyOf}
-use Rattle.model.specs.Working.{tableIn, idIn, keyIn}
-use Rattle.model.proofs.Working.{key-head}
+use Rattle.inner.specs.Working.{tableIn, idIn, keyIn}
+use Rattle.inner.proofs.Working.{key-head}
 use borrow.Author.Needs.{needs}
 use Rattle.settle.proofs.same_row.Statement.{statement}
 use Rattle.settle.proofs.same_row.Tie as tie

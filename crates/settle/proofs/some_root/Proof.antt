@@ -4,14 +4,14 @@ use Prim.Native.Nat.{_-_, _≤_}
 use native.Mathlib.Omega.{arith}
 use borrow.Author.Needs.{needs}
 use Rattle.model.specs.Base.{any}
-use Rattle.model.specs.Packed.{tablesFrom, tablesIn}
+use Rattle.inner.specs.Packed.{tablesFrom, packedTables}
 use Rattle.references.proofs.Packs.{tableCount, few-tables}
 use Rattle.settle.proofs.Roots.{saysRoot, root-here, root-on, root-end}
 use Rattle.settle.proofs.some_root.Statement.{statement}
 use Rattle.settle.proofs.some_root.Tie as tie
 
 abbrev Inv-loop : tie.InvT-loop
-Inv-loop schema n t₀ t = (t ≤ n) × (any saysRoot (tablesIn schema) ≡ any saysRoot (tablesFrom schema t (tableCount schema - t)))
+Inv-loop schema n t₀ t = (t ≤ n) × (any saysRoot (packedTables schema) ≡ any saysRoot (tablesFrom schema t (tableCount schema - t)))
 
 abbrev μ-loop : tie.MeasureT-loop
 μ-loop schema n t₀ t = n - t

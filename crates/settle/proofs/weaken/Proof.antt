@@ -2,19 +2,19 @@
 use Prim.Native.Nat.{_-_, _≤_}
 use native.Mathlib.Omega.{arith}
 use lib.ListN.{length}
-use Rattle.model.specs.Packed.{tablesIn}
+use Rattle.inner.specs.Packed.{packedTables}
 use Rattle.settle.proofs.Partly.{Going, going-none, going-on, going-end}
 use Rattle.settle.proofs.weaken.Statement.{statement}
 use Rattle.settle.proofs.weaken.Tie as tie
 
 abbrev Inv-loop : tie.InvT-loop
-Inv-loop schema rows₀ n i₀ rows i = (i ≤ n) × ((h : n ≤ length rows₀) → Going (tablesIn schema) n rows₀ h i rows)
+Inv-loop schema rows₀ n i₀ rows i = (i ≤ n) × ((h : n ≤ length rows₀) → Going (packedTables schema) n rows₀ h i rows)
 
 abbrev μ-loop : tie.MeasureT-loop
 μ-loop schema rows₀ n i₀ rows i = n - i
 
 loop-holds : tie.Need-loop-holds Inv-loop μ-loop
-loop-holds c = (omega arith, λ h. going-none (tablesIn (c .args .schema .now)) (c .args .n) (c .args .rows .now) h)
+loop-holds c = (omega arith, λ h. going-none (packedTables (c .args .schema .now)) (c .args .n) (c .args .rows .now) h)
 
 mul-row : tie.Need-mul-row Inv-loop μ-loop
 mul-row c = omega (arith, c .before .before .good, c .before .before .pre .1)
@@ -49,7 +49,7 @@ loop-again : tie.Need-loop-again Inv-loop μ-loop
 loop-again c =
     let s = c .before .before .before .before .before .before in
     let l = c .before .before .before .before .before .loop in
-    (omega (arith, c .before .before .before .before .loop-test .taken), λ h. going-on (tablesIn (s .args .schema .now)) (s .args .n) (s .args .rows .now) h (l .i) (l .rows) (c .weaken-row .last .0) (c .before .before .before .before .loop-test .taken) (l .inv .1 h) (c .weaken-row .ensures))
+    (omega (arith, c .before .before .before .before .loop-test .taken), λ h. going-on (packedTables (s .args .schema .now)) (s .args .n) (s .args .rows .now) h (l .i) (l .rows) (c .weaken-row .last .0) (c .before .before .before .before .loop-test .taken) (l .inv .1 h) (c .weaken-row .ensures))
 
 same-length : tie.Need-same-length Inv-loop μ-loop
 same-length c = c .before .loop .inv .1 (c .before .before .pre .1) .size
@@ -58,7 +58,7 @@ returns : tie.Need-returns Inv-loop μ-loop
 returns c =
     let s = c .before .before in
     let l = c .before .loop in
-    going-end (tablesIn (s .args .schema .now)) (s .args .n) (s .args .rows .now) (s .pre .1) (l .i) (l .rows) (c .loop-test .left) (l .inv .1 (s .pre .1))
+    going-end (packedTables (s .args .schema .now)) (s .args .n) (s .args .rows .now) (s .pre .1) (l .i) (l .rows) (c .loop-test .left) (l .inv .1 (s .pre .1))
 
 pub weaken-spec : {M : Type 1} → statement M
 weaken-spec =

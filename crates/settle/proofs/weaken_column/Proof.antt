@@ -11,7 +11,7 @@ use Rattle.model.specs.Value.{Value, elements}
 use Rattle.model.specs.Rows.{setColumn}
 use Rattle.model.specs.Commit.{present}
 use Rattle.model.specs.Areas.{rowFrom}
-use Rattle.model.specs.Working.{working, valueIn}
+use Rattle.inner.specs.Working.{working, valueIn}
 use Rattle.model.proofs.Lists.{length-keep}
 use Rattle.references.specs.Links.{told}
 use Rattle.references.proofs.Links.{elements-few}

@@ -5,8 +5,8 @@ use native.Mathlib.Omega.{arith}
 use borrow.Author.Needs.{needs}
 use lib.ListN.{length}
 use Rattle.model.specs.Schema.{columnsOf}
-use Rattle.model.specs.Packed.{tablesIn}
-use Rattle.model.specs.Working.{tableIn}
+use Rattle.inner.specs.Packed.{packedTables}
+use Rattle.inner.specs.Working.{tableIn}
 use Rattle.references.specs.Links.{Accepted, told}
 use Rattle.references.proofs.Packs.{few-columns}
 use Rattle.settle.proofs.Weakly.{Weakening, weakening-none, weakening-on, weakening-end}
@@ -51,8 +51,8 @@ loop-again c =
     let s = c .before .before .before .before .before .before .before .before in
     let l = c .before .before .before .before .loop in
     let t = c .before .before .before .before .before .before .table-of in
-    let h : l .c < length (columnsOf (tablesIn (s .args .schema .now)) (tableIn (s .args .row .now))) =
-    omega (arith, c .before .before .before .loop-test .taken, c .before .before .before .before .before .width .ensures, ap (λ (x : ℕ). length (columnsOf (tablesIn (s .args .schema .now)) x)) (t .ensures)) in
+    let h : l .c < length (columnsOf (packedTables (s .args .schema .now)) (tableIn (s .args .row .now))) =
+    omega (arith, c .before .before .before .loop-test .taken, c .before .before .before .before .before .width .ensures, ap (λ (x : ℕ). length (columnsOf (packedTables (s .args .schema .now)) x)) (t .ensures)) in
     (omega arith, λ ok. weakening-on (s .args .schema .now) ok (s .args .n) (s .args .rows .now) (s .args .row .now) (l .c) (t .result) (told (c .before .before .refers .result)) (l .row) (c .weaken-column .last .0) h (t .ensures) (c .before .before .refers .ensures) (c .weaken-column .ensures) (l .inv .1 ok))
 
 returns : tie.Need-returns Inv-loop μ-loop
@@ -60,7 +60,7 @@ returns c =
     let s = c .before .before .before .before .before in
     let l = c .before .loop in
     weakening-end (s .args .schema .now) (s .pre .0) (s .args .n) (s .args .rows .now) (s .args .row .now) (l .c) (l .row)
-    (omega (arith, c .loop-test .left, c .before .before .width .ensures, ap (λ (x : ℕ). length (columnsOf (tablesIn (s .args .schema .now)) x)) (c .before .before .before .table-of .ensures))) (l .inv .1 (s .pre .0))
+    (omega (arith, c .loop-test .left, c .before .before .width .ensures, ap (λ (x : ℕ). length (columnsOf (packedTables (s .args .schema .now)) x)) (c .before .before .before .table-of .ensures))) (l .inv .1 (s .pre .0))
 
 pub weaken-row-spec : {M : Type 1} → statement M
 weaken-row-spec =

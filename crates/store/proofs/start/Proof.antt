@@ -5,14 +5,14 @@ use native.Mathlib.Omega.{arith}
 use borrow.Author.Needs.{needs}
 use borrow.Author.Tests.{not-true, not-false}
 use Rattle.model.proofs.Accepted.{text-short}
-use Rattle.store.proofs.Laws.{start-length, start-schema, start-made}
+use Rattle.store.proofs.Laws.{start-numbered, start-length, start-schema, start-made}
 use Rattle.store.proofs.start.Statement.{statement}
 use Rattle.store.proofs.start.Tie as tie
 
 returns : tie.Need-returns
 returns c =
     let a = c .before .before .before .args in
-    start-length (a .area .now) (a .schema .now) (a .run) (c .if1 .taken)
+    start-numbered (a .area .now) (a .schema .now) (a .run) (start-length (a .area .now) (a .schema .now) (a .run) (c .if1 .taken))
 
 read-requires : tie.Need-read-requires
 read-requires c κs = search needs
@@ -20,7 +20,7 @@ read-requires c κs = search needs
 returns-2 : tie.Need-returns-2
 returns-2 c =
     let a = c .before .before .before .before .before .before .args in
-    start-schema (a .area .now) (a .schema .now) (a .run) (c .before .before .before .if1 .left) (sym (c .before .read .ensures .accepted) ∙ not-true _ (c .if2 .taken))
+    start-numbered (a .area .now) (a .schema .now) (a .run) (start-schema (a .area .now) (a .schema .now) (a .run) (c .before .before .before .if1 .left) (sym (c .before .read .ensures .accepted) ∙ not-true _ (c .if2 .taken)))
 
 slice-aggregate-write-store : tie.Need-slice-aggregate-write-store
 slice-aggregate-write-store c = search needs
@@ -38,7 +38,7 @@ returns-3 : tie.Need-returns-3
 returns-3 c =
     let a = c .before .before .before .before .before .before .before .before .before .before .before .args in
     let e = sym (c .before .before .before .before .before .before .read .ensures .accepted) ∙ not-false _ (c .before .before .before .before .before .if2 .left) in
-    start-made (a .area .now) (a .schema .now) (a .run) (c .before .before .before .before .before .before .before .before .if1 .left) [] _ (c .before .before .write-store .last .0) e (c .before .before .write-store .ensures [] tt)
+    start-numbered (a .area .now) (a .schema .now) (a .run) (start-made (a .area .now) (a .schema .now) (a .run) (c .before .before .before .before .before .before .before .before .if1 .left) [] _ (c .before .before .write-store .last .0) e (c .before .before .write-store .ensures [] tt))
 
 pub start-spec : {M : Type 1} → statement M
 start-spec =

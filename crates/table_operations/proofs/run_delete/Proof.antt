@@ -1,7 +1,7 @@
 -- `table_operations::run_delete` meets its contract. Assumes nothing.
 use mathlib.Core.Path.{refl, sym, _∙_}
 use native.Mathlib.Omega.{arith}
-use Rattle.model.specs.Working.{working}
+use Rattle.inner.specs.Working.{working}
 use Rattle.fields.specs.Fields.{wordsFrom, wordsOf}
 use Rattle.table_operations.proofs.Doing.{ran-failed, delete-slot, delete-fault, delete-where, delete-done}
 use borrow.Author.Needs.{needs}

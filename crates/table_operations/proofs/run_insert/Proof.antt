@@ -1,7 +1,7 @@
 -- `table_operations::run_insert` meets its contract. Assumes nothing.
 use mathlib.Core.Path.{refl, sym, _∙_}
 use native.Mathlib.Omega.{arith}
-use Rattle.model.specs.Working.{working}
+use Rattle.inner.specs.Working.{working}
 use Rattle.fields.specs.Fields.{wordsFrom, wordsOf}
 use Rattle.fresh.specs.Fresh.{freshAt}
 use Rattle.table_operations.proofs.Doing.{ran-failed, working-length, insert-slot, insert-fault, insert-room, insert-row, insert-done}

@@ -1,7 +1,7 @@
 -- `table_operations::run_mutate` meets its contract. Assumes nothing.
 use mathlib.Core.Path.{refl, sym, _∙_}
 use native.Mathlib.Omega.{arith}
-use Rattle.model.specs.Working.{working}
+use Rattle.inner.specs.Working.{working}
 use Rattle.fields.specs.Fields.{wordsFrom, wordsOf}
 use Rattle.table_operations.proofs.Doing.{ran-failed, mutate-slot, mutate-list-slot, mutate-fault, mutate-where, mutate-list, mutate-done, mutate-rows-fault}
 use borrow.Author.Needs.{needs}

@@ -1,8 +1,8 @@
 -- `table_operations::run_select` meets its contract. Assumes nothing.
 use mathlib.Core.Path.{refl, sym, _∙_}
 use native.Mathlib.Omega.{arith}
-use Rattle.model.specs.Packed.{tablesIn}
-use Rattle.model.specs.Working.{working}
+use Rattle.inner.specs.Packed.{packedTables}
+use Rattle.inner.specs.Working.{working}
 use Rattle.fields.specs.Fields.{wordsFrom, wordsOf}
 use Rattle.table_operations.proofs.Doing.{ran-failed}
 use Rattle.table_operations.proofs.Selecting.{select-slot, select-columns-slot, select-fault, select-where, select-columns, select-done}
@@ -110,7 +110,7 @@ returns-2 c =
     let fs = li .before in
     let st = fs .before .before .before .before .before .before in
     let a = st .args in
-    ran-failed (st .pre .0 .count) (select-fault (a .text .now) (a .ops) (a .fresh .now) (a .schema .now) (a .columns .now) (a .op) (a .table) (st .pre .1) (fs .fields .ensures) (li .listed .ensures) (wf .where-fault .ensures) (vf .columns-fault .ensures) (e1 .earlier .ensures) (e2 .earlier2 .ensures) (working (tablesIn (a .schema .now)) (a .n) (a .rows .now))) (sym (fi .is-fine .ensures) ∙ c .if1 .left)
+    ran-failed (st .pre .0 .count) (select-fault (a .text .now) (a .ops) (a .fresh .now) (a .schema .now) (a .columns .now) (a .op) (a .table) (st .pre .1) (fs .fields .ensures) (li .listed .ensures) (wf .where-fault .ensures) (vf .columns-fault .ensures) (e1 .earlier .ensures) (e2 .earlier2 .ensures) (working (packedTables (a .schema .now)) (a .n) (a .rows .now))) (sym (fi .is-fine .ensures) ∙ c .if1 .left)
 
 pub run-select-spec : {M : Type 1} → statement M
 run-select-spec =

@@ -1,7 +1,7 @@
 -- `table_operations::run_update` meets its contract. Assumes nothing.
 use mathlib.Core.Path.{refl, sym, _∙_}
 use native.Mathlib.Omega.{arith}
-use Rattle.model.specs.Working.{working}
+use Rattle.inner.specs.Working.{working}
 use Rattle.fields.specs.Fields.{wordsFrom, wordsOf}
 use Rattle.table_operations.proofs.Doing.{ran-failed, update-slot, update-row-slot, update-fault, update-where, update-row, update-done}
 use borrow.Author.Needs.{needs}

@@ -3,9 +3,9 @@ use mathlib.Core.Path.{sym, _∙_}
 use mathlib.Core.List.{map}
 use native.Mathlib.Omega.{arith}
 use borrow.Author.Tests.{ne-eqb}
-use Rattle.model.specs.Nav.{treeAt}
+use Rattle.inner.specs.Positions.{treeAt}
 use Rattle.model.specs.Members.{membersIn}
-use Rattle.model.specs.Packed.{cellName}
+use Rattle.inner.specs.Packed.{cellName}
 use Rattle.indexes.proofs.Numbers.{fits-short}
 use Rattle.tables.proofs.Shapes.{indexes-none, indexes-bad, indexes-put}
 use Rattle.tables.proofs.indexes_in.Statement.{statement}

@@ -4,8 +4,8 @@ use mathlib.Core.Bool.{false}
 use mathlib.Core.List.{List, [], map}
 use lib.ListN.{length, getD, set, drop, length-drop}
 use borrow.Rule.Slice.PartMut.{same-len-mid}
-use Rattle.model.specs.Nav.{treeAt}
-use Rattle.model.specs.Packed.{cellName}
+use Rattle.inner.specs.Positions.{treeAt}
+use Rattle.inner.specs.Packed.{cellName}
 use Rattle.tables.specs.Tables.{TableRead, EachRead}
 use Prim.Native.Nat.{ℕ, _+_, _*_, _-_}
 use native.Mathlib.Omega.{arith}

@@ -4,7 +4,7 @@ use mathlib.Core.Path.{sym}
 use native.Mathlib.Omega.{arith}
 use lib.ListN.{length}
 use lib.Seq.{length-take-le}
-use Rattle.model.specs.Nav.{treeAt}
+use Rattle.inner.specs.Positions.{treeAt}
 use Rattle.tables.proofs.All.{too-many, heads-are, all-good, all-bad}
 use borrow.Author.Needs.{needs}
 use Rattle.tables.proofs.read_tables.Statement.{statement}

@@ -6,6 +6,7 @@ use lib.Dec.{lit<}
 use Prim.Native.Nat.{_+_}
 use Rattle.model.specs.Strings.{charBytes}
 use Rattle.scan.proofs.Bytes.{inside-byte}
+use Rattle.text.proofs.Units.{unit-below, escape-bytes-same}
 use borrow.Author.Needs.{needs}
 use Rattle.text.proofs.emit.Statement.{statement}
 use Rattle.text.proofs.emit.Tie as tie
@@ -30,14 +31,16 @@ hex4-requires : tie.Need-hex4-requires
 hex4-requires c κs = search needs
 
 escape-bytes-requires : tie.Need-escape-bytes-requires
-escape-bytes-requires c κs = search needs
+escape-bytes-requires c κs =
+    let a = c .before .before .before .before .before .before .before .before .args in
+    rw (c .before .hex4 .ensures) (unit-below (a .text .now) (a .at + 2))
 
 same-length : tie.Need-same-length
 same-length c = search needs
 
 returns : tie.Need-returns
 returns c =
-    rw (← c .before .before .before .before .before .before .before .before .peek .ensures) (unfold charBytes in rw (charBytes, eq-eqb _ 92 (c .before .before .before .before .before .before .before .if1 .taken), ← c .before .before .before .before .before .before .peek2 .ensures, eq-eqb _ 117 (c .before .before .before .before .before .if2 .taken), ← c .before .before .before .before .hex4 .ensures) (c .before .before .escape-bytes .ensures))
+    rw (← c .before .before .before .before .before .before .before .before .peek .ensures) (unfold charBytes in rw (charBytes, eq-eqb _ 92 (c .before .before .before .before .before .before .before .if1 .taken), ← c .before .before .before .before .before .before .peek2 .ensures, eq-eqb _ 117 (c .before .before .before .before .before .if2 .taken), ← escape-bytes-same (c .before .before .before .before .before .before .before .before .before .before .before .args .text .now), ← c .before .before .before .before .hex4 .ensures) (c .before .before .escape-bytes .ensures))
 
 short-escape-requires : tie.Need-short-escape-requires
 short-escape-requires c κs = search needs

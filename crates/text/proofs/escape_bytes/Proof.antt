@@ -1,4 +1,5 @@
 -- `text::escape_bytes` meets its contract. Assumes nothing.
+use Rattle.text.proofs.Units.{second-below, character-below}
 use borrow.Author.Needs.{needs}
 use Rattle.text.proofs.escape_bytes.Statement.{statement}
 use Rattle.text.proofs.escape_bytes.Tie as tie
@@ -15,15 +16,25 @@ low-half-requires c κs = search needs
 unit-value-requires-2 : tie.Need-unit-value-requires-2
 unit-value-requires-2 c κs = search needs
 
-unit-bytes-requires : tie.Need-unit-bytes-requires
-unit-bytes-requires c κs = search needs
+unit-character-requires : tie.Need-unit-character-requires
+unit-character-requires c κs = rw (c .unit-value2 .ensures, c .before .low-half .ensures) (second-below _ _)
+
+encode-requires : tie.Need-encode-requires
+encode-requires c κs =
+    let u = c .before .before in
+    let v = u .before .before .before in
+    rw (c .before .unit-character .ensures)
+    (character-below _ _ (rw (v .unit-value .ensures) (v .before .before .before .pre)) (rw (u .unit-value2 .ensures, u .before .low-half .ensures) (second-below _ _)))
 
 same-length : tie.Need-same-length
 same-length c = search needs
 
 returns : tie.Need-returns
 returns c =
-    rw (← c .before .before .before .before .before .before .before .unit-value .ensures, ← c .before .before .before .before .before .before .unit-end .ensures, ← c .before .before .before .before .before .low-half .ensures, ← c .before .before .before .before .unit-value2 .ensures) (c .before .before .unit-bytes .ensures)
+    let u = c .before .before .before .before .before in
+    let v = u .before .before .before in
+    rw (← v .unit-value .ensures, ← u .before .before .unit-end .ensures, ← u .before .low-half .ensures, ← u .unit-value2 .ensures, ← c .before .before .before .before .unit-character .ensures)
+    (c .before .before .encode .ensures)
 
 pub escape-bytes-spec : {M : Type 1} → statement M
 escape-bytes-spec =
@@ -33,6 +44,7 @@ escape-bytes-spec =
     unit-end-requires
     low-half-requires
     unit-value-requires-2
-    unit-bytes-requires
+    unit-character-requires
+    encode-requires
     same-length
     returns)

@@ -1,6 +1,6 @@
 -- `text::find` meets its contract. Assumes nothing.
 use borrow.Author.Needs.{needs}
-use Rattle.model.specs.Nav.{treeAt, left}
+use Rattle.inner.specs.Positions.{treeAt, left}
 use Rattle.model.specs.Members.{membersIn}
 use Rattle.nav.proofs.Walk.{pass-less}
 use Rattle.text.proofs.Last.{Sofar, sofar-start, sofar-on, sofar-end}

@@ -4,7 +4,8 @@ use Prim.Native.Nat.{_+_}
 use native.Mathlib.Omega.{arith}
 use Rattle.model.specs.Strings.{bodyAt}
 use Rattle.model.specs.Json.{str}
-use Rattle.model.specs.Nav.{isText, treeAt}
+use Rattle.model.specs.Nav.{isText}
+use Rattle.inner.specs.Positions.{treeAt}
 use Rattle.text.proofs.Words.{text-tree, word-not, word-text}
 use borrow.Author.Needs.{needs}
 use Rattle.text.proofs.is_word.Statement.{statement}

@@ -4,7 +4,7 @@ use Prim.Native.Nat.{_-_, _≤_}
 use native.Mathlib.Omega.{arith}
 use native.Mathlib.Nat.{sub-zero}
 use borrow.Author.Needs.{needs}
-use Rattle.model.specs.Text.{quoteFrom}
+use Rattle.inner.specs.Positions.{quoteFrom}
 use Rattle.text.proofs.Matching.{quote-turn, quote-done, quote-escape, quote-spent}
 use Rattle.text.proofs.quote.Statement.{statement}
 use Rattle.text.proofs.quote.Tie as tie

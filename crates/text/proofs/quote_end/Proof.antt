@@ -1,5 +1,5 @@
 -- `text::quote_end` meets its contract. Assumes nothing.
-use Rattle.model.specs.Text.{quoteEnd}
+use Rattle.inner.specs.Positions.{quoteEnd}
 use borrow.Author.Needs.{needs}
 use Rattle.text.proofs.quote_end.Statement.{statement}
 use Rattle.text.proofs.quote_end.Tie as tie

@@ -1,7 +1,7 @@
 -- `texts::report` meets its contract. Assumes nothing.
 use mathlib.Core.Path.{sym, ap, _∙_}
 use native.Mathlib.Omega.{arith}
-use Rattle.model.specs.Nav.{isEnd}
+use Rattle.model.specs.Nav.{isRead}
 use Rattle.json.proofs.Whole.{text-well}
 use borrow.Author.Needs.{needs}
 use Rattle.texts.proofs.report.Statement.{statement}
@@ -29,11 +29,11 @@ show-all-requires : tie.Need-show-all-requires
 show-all-requires c κs = search needs
 
 show-found-requires : tie.Need-show-found-requires
-unfolding isEnd
+unfolding isRead
 show-found-requires c κs =
     let r = c .before .before .before .before .before .before .before .before .before .before .before in
     let st = r .before .before .before .before .before in
-    (st .pre .0, (omega (arith, c .before .before .before .show-all .kept .1 .1 .0, st .pre .1 .0), text-well (st .args .text .now) (ap isEnd (sym (st .pre .1 .1) ∙ r .r .given .1)) .0))
+    (st .pre .0, (omega (arith, c .before .before .before .show-all .kept .1 .1 .0, st .pre .1 .0), text-well (st .args .text .now) (ap isRead (sym (st .pre .1 .1) ∙ r .r .given .1)) .0))
 
 enum-known-r-2 : tie.Need-enum-known-r-2
 enum-known-r-2 c = search needs

@@ -1,5 +1,5 @@
 use mathlib.Core.List.{map}
-use Rattle.model.specs.Packed.{cellName}
+use Rattle.inner.specs.Packed.{cellName}
 use mathlib.Core.Path.{refl}
 use native.Mathlib.Omega.{arith}
 use Rattle.fields.specs.Fields.{wordsFrom, wordsOf}

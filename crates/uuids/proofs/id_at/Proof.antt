@@ -6,7 +6,8 @@ use Rattle.model.specs.Strings.{bodyAt}
 use mathlib.Core.Path.{sym, ap, subst, _∙_}
 use native.Mathlib.Omega.{arith}
 use lib.ListN.{replicate}
-use Rattle.model.specs.Nav.{isText, treeAt}
+use Rattle.model.specs.Nav.{isText}
+use Rattle.inner.specs.Positions.{treeAt}
 use Rattle.model.specs.Written.{uuidFrom}
 use Rattle.text.proofs.Words.{text-tree}
 use Rattle.uuids.specs.Ids.{Spells}

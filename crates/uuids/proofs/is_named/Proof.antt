@@ -1,6 +1,6 @@
 -- `uuids::is_named` meets its contract. Assumes nothing.
 use mathlib.Core.Path.{sym, _∙_}
-use Rattle.model.specs.Nav.{treeAt}
+use Rattle.inner.specs.Positions.{treeAt}
 use Rattle.model.specs.Members.{membersIn}
 use Rattle.uuids.proofs.Names.{no-op, no-insert, no-name, some-name}
 use borrow.Author.Needs.{needs}

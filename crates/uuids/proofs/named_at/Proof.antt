@@ -1,7 +1,8 @@
 -- `uuids::named_at` meets its contract. Assumes nothing.
 use mathlib.Core.Path.{sym, ap, _∙_}
 use mathlib.Core.Option.{some}
-use Rattle.model.specs.Nav.{treeAt, isText}
+use Rattle.inner.specs.Positions.{treeAt}
+use Rattle.model.specs.Nav.{isText}
 use Rattle.uuids.specs.Named.{answered}
 use Rattle.uuids.proofs.Names.{named-not, named-some, named-none}
 use borrow.Author.Needs.{needs}

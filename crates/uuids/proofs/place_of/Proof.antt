@@ -3,7 +3,7 @@ use Prim.Native.Nat.{_+_, _≤_}
 use mathlib.Core.Path.{_≡_, refl, sym, ap, _∙_}
 use mathlib.Core.Bool.{true}
 use native.Mathlib.Omega.{arith}
-use Rattle.model.specs.Nav.{itemsFine, left}
+use Rattle.inner.specs.Positions.{itemsFine, left}
 use Rattle.nav.proofs.Walk.{walk-fine, walk-less}
 use Rattle.elements.proofs.Walk.{left-le}
 use Rattle.uuids.specs.Named.{operationsAt, placeNamed}

@@ -1,6 +1,7 @@
 -- `uuids::uuid_at` meets its contract. Assumes nothing.
 use mathlib.Core.Path.{sym, ap, subst, _∙_}
-use Rattle.model.specs.Nav.{treeAt, itemsIn}
+use Rattle.inner.specs.Positions.{treeAt}
+use Rattle.model.specs.Nav.{itemsIn}
 use Rattle.elements.specs.Elements.{Pairs}
 use Rattle.uuids.specs.Ids.{idIn}
 use Rattle.uuids.specs.Named.{namesAt, answered}

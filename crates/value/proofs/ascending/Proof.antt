@@ -5,13 +5,13 @@ use Prim.Native.Nat.{_+_, _-_, _<_}
 use native.Mathlib.Omega.{arith}
 use borrow.Author.Needs.{needs}
 use lib.ListN.{length, drop}
-use Rattle.model.specs.Schema.{baseOf}
+use Rattle.inner.specs.Packed.{baseNumbered}
 use Rattle.value.proofs.Order.{chain, chain-ascending, chain-on, chain-end}
 use Rattle.value.proofs.ascending.Statement.{statement}
 use Rattle.value.proofs.ascending.Tie as tie
 
 abbrev Inv-loop : tie.InvT-loop
-Inv-loop kind l ok₀ i₀ ok i = (0 < i) × (chain (baseOf kind) l ≡ (ok && chain (baseOf kind) (drop (i - 1) l)))
+Inv-loop kind l ok₀ i₀ ok i = (0 < i) × (chain (baseNumbered kind) l ≡ (ok && chain (baseNumbered kind) (drop (i - 1) l)))
 
 abbrev μ-loop : tie.MeasureT-loop
 μ-loop kind l ok₀ i₀ ok i = length l - i
@@ -48,7 +48,7 @@ loop-again c =
     let s = c .before .before .before .before .before in
     let o = c .before .before .before .before .loop in
     let l = s .args .l .now in
-    let k = baseOf (s .args .kind) in
+    let k = baseNumbered (s .args .kind) in
     (omega arith, o .inv .1 ∙ chain-on k l (o .i) (o .ok) (o .inv .0) (omega arith) ∙ ap (λ (b : Bool). (o .ok && b) && chain k (drop (o .i + 1 - 1) l)) (sym (c .less .ensures)))
 
 returns : tie.Need-returns Inv-loop μ-loop
@@ -56,7 +56,7 @@ returns c =
     let s = c .before .before in
     let o = c .before .loop in
     let l = s .args .l .now in
-    let k = baseOf (s .args .kind) in
+    let k = baseNumbered (s .args .kind) in
     sym (sym (chain-ascending k l) ∙ o .inv .1 ∙ chain-end k l (o .i) (o .ok) (c .loop-test .left))
 
 pub ascending-spec : {M : Type 1} → statement M

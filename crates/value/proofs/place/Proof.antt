@@ -4,14 +4,14 @@ use Prim.Native.Nat.{_+_, _-_, _≤_}
 use native.Mathlib.Omega.{arith}
 use borrow.Author.Needs.{needs}
 use lib.ListN.{length, drop}
-use Rattle.model.specs.Schema.{baseOf}
+use Rattle.inner.specs.Packed.{baseNumbered}
 use Rattle.value.specs.Places.{placeIn}
 use Rattle.value.proofs.Order.{place-on, place-off, place-end}
 use Rattle.value.proofs.place.Statement.{statement}
 use Rattle.value.proofs.place.Tie as tie
 
 abbrev Inv-loop : tie.InvT-loop
-Inv-loop kind l x i₀ i = (i ≤ length l) × (placeIn (baseOf kind) x l ≡ i + placeIn (baseOf kind) x (drop i l))
+Inv-loop kind l x i₀ i = (i ≤ length l) × (placeIn (baseNumbered kind) x l ≡ i + placeIn (baseNumbered kind) x (drop i l))
 
 abbrev μ-loop : tie.MeasureT-loop
 μ-loop kind l x i₀ i = length l - i
@@ -32,7 +32,7 @@ returns : tie.Need-returns Inv-loop μ-loop
 returns c =
     let s = c .before .before .before .before .before in
     let o = c .before .before .before .before .loop in
-    omega (arith, o .inv .1, place-off (baseOf (s .args .kind)) (s .args .x .now) (s .args .l .now) (o .i) (omega arith) (sym (c .before .less .ensures) ∙ c .if1 .taken))
+    omega (arith, o .inv .1, place-off (baseNumbered (s .args .kind)) (s .args .x .now) (s .args .l .now) (o .i) (omega arith) (sym (c .before .less .ensures) ∙ c .if1 .taken))
 
 add-i : tie.Need-add-i Inv-loop μ-loop
 add-i c = omega arith
@@ -44,13 +44,13 @@ loop-again : tie.Need-loop-again Inv-loop μ-loop
 loop-again c =
     let s = c .before .before .before .before .before in
     let o = c .before .before .before .before .loop in
-    (omega arith, o .inv .1 ∙ place-on (baseOf (s .args .kind)) (s .args .x .now) (s .args .l .now) (o .i) (omega arith) (sym (c .before .less .ensures) ∙ c .if1 .left))
+    (omega arith, o .inv .1 ∙ place-on (baseNumbered (s .args .kind)) (s .args .x .now) (s .args .l .now) (o .i) (omega arith) (sym (c .before .less .ensures) ∙ c .if1 .left))
 
 returns-2 : tie.Need-returns-2 Inv-loop μ-loop
 returns-2 c =
     let s = c .before .before in
     let o = c .before .loop in
-    omega (arith, o .inv .1, place-end (baseOf (s .args .kind)) (s .args .x .now) (s .args .l .now) (o .i) (c .loop-test .left))
+    omega (arith, o .inv .1, place-end (baseNumbered (s .args .kind)) (s .args .x .now) (s .args .l .now) (o .i) (c .loop-test .left))
 
 pub place-spec : {M : Type 1} → statement M
 place-spec =

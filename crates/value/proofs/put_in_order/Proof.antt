@@ -2,7 +2,7 @@
 use mathlib.Core.Path.{_∙_}
 use native.Mathlib.Omega.{arith}
 use lib.ListN.{length-take}
-use Rattle.model.specs.Schema.{baseOf}
+use Rattle.inner.specs.Packed.{baseNumbered}
 use Rattle.value.proofs.Fours.{put-placed}
 use borrow.Author.Needs.{needs}
 use Rattle.value.proofs.put_in_order.Statement.{statement}
@@ -22,12 +22,12 @@ place-requires c κs = search needs
 insert-at-requires : tie.Need-insert-at-requires
 insert-at-requires c κs =
     let s = c .before .before .before in
-    put-placed (baseOf (s .args .kind)) (s .args .t4) (s .args .t2) (s .args .n) (c .place .result) (s .good .1 .0 .1 .0 .1) (s .pre) (c .place .ensures) .0
+    put-placed (baseNumbered (s .args .kind)) (s .args .t4) (s .args .t2) (s .args .n) (c .place .result) (s .good .1 .0 .1 .0 .1) (s .pre) (c .place .ensures) .0
 
 returns : tie.Need-returns
 returns c =
     let s = c .before .before .before .before in
-    c .insert-at .ensures ∙ put-placed (baseOf (s .args .kind)) (s .args .t4) (s .args .t2) (s .args .n) (c .before .place .result) (s .good .1 .0 .1 .0 .1) (s .pre) (c .before .place .ensures) .1
+    c .insert-at .ensures ∙ put-placed (baseNumbered (s .args .kind)) (s .args .t4) (s .args .t2) (s .args .n) (c .before .place .result) (s .good .1 .0 .1 .0 .1) (s .pre) (c .before .place .ensures) .1
 
 pub put-in-order-spec : {M : Type 1} → statement M
 put-in-order-spec =

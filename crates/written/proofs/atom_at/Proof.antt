@@ -1,7 +1,8 @@
 -- `written::atom_at` meets its contract. Assumes nothing.
 use mathlib.Core.Path.{_≡_, refl, sym, subst, _∙_}
-use Rattle.model.specs.Nav.{treeAt}
-use Rattle.model.specs.Schema.{integer, boolean, text, uuid, baseOf}
+use Rattle.inner.specs.Positions.{treeAt}
+use Rattle.model.specs.Schema.{integer, boolean, text, uuid}
+use Rattle.inner.specs.Packed.{baseNumbered}
 use Rattle.uuids.specs.Named.{namesAt, answered}
 use Rattle.atom.proofs.Types.{base-integer, base-boolean, base-text, base-uuid}
 use Rattle.written.specs.Atoms.{integerIn, booleanIn, TextReads, Reads}

@@ -1,7 +1,8 @@
 -- `written::boolean_at` meets its contract. Assumes nothing.
 use mathlib.Core.Path.{sym, ap, _∙_}
 use mathlib.Core.Option.{some}
-use Rattle.model.specs.Nav.{treeAt, isTruth}
+use Rattle.inner.specs.Positions.{treeAt}
+use Rattle.model.specs.Nav.{isTruth}
 use Rattle.model.specs.Value.{boolAtom}
 use Rattle.uuids.specs.Named.{answered}
 use Rattle.written.proofs.Reading.{boolean-some, boolean-none}

@@ -2,10 +2,10 @@
 use mathlib.Core.Path.{_≡_, refl, sym, ap, _∙_}
 use mathlib.Core.Bool.{Bool, true}
 use Rattle.model.specs.Json.{Json}
-use Rattle.model.specs.Nav.{left}
+use Rattle.inner.specs.Positions.{left}
 use Rattle.model.specs.Octets.{eqBytes}
 use Rattle.model.specs.Base.{any}
-use Rattle.model.specs.Schema.{baseOf}
+use Rattle.inner.specs.Packed.{baseNumbered}
 use Rattle.elements.specs.Elements.{elementsFrom, elementsFine}
 use Rattle.elements.proofs.Walk.{walk-less, walk-fine}
 use Rattle.uuids.specs.Named.{namesAt}
@@ -16,7 +16,7 @@ use Rattle.written.proofs.cell_among.Statement.{statement}
 use Rattle.written.proofs.cell_among.Tie as tie
 
 abbrev Inv-loop : tie.InvT-loop
-Inv-loop text ends ops fresh kind set x g₀ g = (any (λ j. eqBytes x (atomAs (namesAt text ops fresh) (baseOf kind) j)) (elementsFrom text set g₀) ≡ any (λ j. eqBytes x (atomAs (namesAt text ops fresh) (baseOf kind) j)) (elementsFrom text set g)) × (elementsFine text set g ≡ true)
+Inv-loop text ends ops fresh kind set x g₀ g = (any (λ j. eqBytes x (atomAs (namesAt text ops fresh) (baseNumbered kind) j)) (elementsFrom text set g₀) ≡ any (λ j. eqBytes x (atomAs (namesAt text ops fresh) (baseNumbered kind) j)) (elementsFrom text set g)) × (elementsFine text set g ≡ true)
 
 abbrev μ-loop : tie.MeasureT-loop
 μ-loop text ends ops fresh kind set x g₀ g = left text g
@@ -35,8 +35,8 @@ same-at-requires c κs =
 returns : tie.Need-returns Inv-loop μ-loop
 returns c =
     let a = c .before .before .before .before .before .before .before .before .before .args in
-    let q : Json → Bool = λ j. eqBytes (a .x .now) (atomAs (namesAt (a .text .now) (a .ops) (a .fresh .now)) (baseOf (a .kind)) j) in
-    sym (member-any (namesAt (a .text .now) (a .ops) (a .fresh .now)) (baseOf (a .kind)) (a .x .now) _ ∙ c .before .before .before .before .before .loop .inv .0 ∙ any-here (a .text .now) (a .set) q (c .before .before .before .g .given .1) (sym (c .before .same-at .ensures) ∙ c .if1 .taken))
+    let q : Json → Bool = λ j. eqBytes (a .x .now) (atomAs (namesAt (a .text .now) (a .ops) (a .fresh .now)) (baseNumbered (a .kind)) j) in
+    sym (member-any (namesAt (a .text .now) (a .ops) (a .fresh .now)) (baseNumbered (a .kind)) (a .x .now) _ ∙ c .before .before .before .before .before .loop .inv .0 ∙ any-here (a .text .now) (a .set) q (c .before .before .before .g .given .1) (sym (c .before .same-at .ensures .0) ∙ c .if1 .taken))
 
 next-element-requires : tie.Need-next-element-requires Inv-loop μ-loop
 next-element-requires c κs = c .before .before .before .before .before .before .before .before .before .pre .0 .says
@@ -47,9 +47,9 @@ loop-less c = rw (c .next-element .ensures) (walk-less (c .before .before .befor
 loop-again : tie.Need-loop-again Inv-loop μ-loop
 loop-again c =
     let a = c .before .before .before .before .before .before .before .before .before .before .args in
-    let q : Json → Bool = λ j. eqBytes (a .x .now) (atomAs (namesAt (a .text .now) (a .ops) (a .fresh .now)) (baseOf (a .kind)) j) in
+    let q : Json → Bool = λ j. eqBytes (a .x .now) (atomAs (namesAt (a .text .now) (a .ops) (a .fresh .now)) (baseNumbered (a .kind)) j) in
     rw (c .next-element .ensures)
-    (c .before .before .before .before .before .before .loop .inv .0 ∙ any-on (a .text .now) (a .set) q (c .before .before .before .before .g .given .1) (sym (c .before .before .same-at .ensures) ∙ c .before .if1 .left), walk-fine (a .text .now) (a .set) (c .before .before .before .before .g .given .1) (c .before .before .before .before .before .before .loop .inv .1) .1)
+    (c .before .before .before .before .before .before .loop .inv .0 ∙ any-on (a .text .now) (a .set) q (c .before .before .before .before .g .given .1) (sym (c .before .before .same-at .ensures .0) ∙ c .before .if1 .left), walk-fine (a .text .now) (a .set) (c .before .before .before .before .g .given .1) (c .before .before .before .before .before .before .loop .inv .1) .1)
 
 enum-told : tie.Need-enum-told Inv-loop μ-loop
 enum-told c = search needs
@@ -57,8 +57,8 @@ enum-told c = search needs
 returns-2 : tie.Need-returns-2 Inv-loop μ-loop
 returns-2 c =
     let a = c .before .before .before .before .before .before .args in
-    let q : Json → Bool = λ j. eqBytes (a .x .now) (atomAs (namesAt (a .text .now) (a .ops) (a .fresh .now)) (baseOf (a .kind)) j) in
-    sym (member-any (namesAt (a .text .now) (a .ops) (a .fresh .now)) (baseOf (a .kind)) (a .x .now) _ ∙ c .before .before .loop .inv .0 ∙ any-end (a .text .now) (a .set) q (c .enum-told .given .1))
+    let q : Json → Bool = λ j. eqBytes (a .x .now) (atomAs (namesAt (a .text .now) (a .ops) (a .fresh .now)) (baseNumbered (a .kind)) j) in
+    sym (member-any (namesAt (a .text .now) (a .ops) (a .fresh .now)) (baseNumbered (a .kind)) (a .x .now) _ ∙ c .before .before .loop .inv .0 ∙ any-end (a .text .now) (a .set) q (c .enum-told .given .1))
 
 pub cell-among-spec : {M : Type 1} → statement M
 cell-among-spec =

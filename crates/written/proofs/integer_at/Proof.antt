@@ -1,7 +1,7 @@
 -- `written::integer_at` meets its contract. Assumes nothing.
 use mathlib.Core.Path.{sym, ap, _∙_}
 use mathlib.Core.Option.{some}
-use Rattle.model.specs.Nav.{treeAt}
+use Rattle.inner.specs.Positions.{treeAt}
 use Rattle.uuids.specs.Named.{answered}
 use Rattle.written.proofs.Reading.{integer-some, integer-none}
 use borrow.Author.Needs.{needs}

@@ -5,11 +5,12 @@ use borrow.Author.Tests.{eq-eqb}
 use native.Mathlib.Omega.{arith}
 use lib.ListN.{length}
 use Rattle.model.specs.Octets.{eqBytes}
-use Rattle.model.specs.Nav.{treeAt}
-use Rattle.model.specs.Schema.{baseOf}
+use Rattle.inner.specs.Positions.{treeAt}
+use Rattle.inner.specs.Packed.{baseNumbered}
+use Rattle.model.proofs.Tests.{clash}
 use Rattle.uuids.specs.Named.{namesAt}
 use Rattle.written.specs.Atoms.{Reads}
-use Rattle.written.proofs.Reading.{wrong-cell, fits-cell, long-other}
+use Rattle.written.proofs.Reading.{wrong-cell, fits-cell, wrong-short, fits-short, long-other}
 use borrow.Author.Needs.{needs}
 use Rattle.written.proofs.same_at.Statement.{statement}
 use Rattle.written.proofs.same_at.Tie as tie
@@ -39,7 +40,8 @@ returns c =
     let j = treeAt (a .text .now) (a .at) in
     let i = c .before .before .before .before .atom-at in
     let cell = i .last .1 .1 .1 .1 .1 .1 .0 in
-    c .same .ensures ∙ ap (eqBytes (a .x .now)) (sym (wrong-cell n j (baseOf (a .kind)) cell (subst (λ r. Reads n (baseOf (a .kind)) j r cell) (c .before .before .enum-told .given .1) (i .ensures))))
+    let q = subst (λ r. Reads n (baseNumbered (a .kind)) j r cell) (c .before .before .enum-told .given .1) (i .ensures) in
+    (c .same .ensures ∙ ap (eqBytes (a .x .now)) (sym (wrong-cell n j (baseNumbered (a .kind)) cell q)), λ h. wrong-short n j (baseNumbered (a .kind)) cell q)
 
 returns-2 : tie.Need-returns-2
 returns-2 c =
@@ -49,7 +51,8 @@ returns-2 c =
     let i = c .before .before .atom-at in
     let cell = i .last .1 .1 .1 .1 .1 .1 .0 in
     let l : length (a .x .now) ≡ 25 = omega (arith, c .before .before .before .before .y .given .0) in
-    ap not (eq-eqb (length (a .x .now)) 25 l) ∙ sym (long-other n j (baseOf (a .kind)) cell (subst (λ r. Reads n (baseOf (a .kind)) j r cell) (c .enum-told2 .given .1) (i .ensures)) (a .x .now) l)
+    let e = ap not (eq-eqb (length (a .x .now)) 25 l) in
+    (e ∙ sym (long-other n j (baseNumbered (a .kind)) cell (subst (λ r. Reads n (baseNumbered (a .kind)) j r cell) (c .enum-told2 .given .1) (i .ensures)) (a .x .now) l), λ h. absurd (clash _ h e))
 
 returns-3 : tie.Need-returns-3
 returns-3 c =
@@ -58,7 +61,8 @@ returns-3 c =
     let j = treeAt (a .text .now) (a .at) in
     let i = c .before .before .before .before .atom-at in
     let cell = i .last .1 .1 .1 .1 .1 .1 .0 in
-    c .same2 .ensures ∙ ap (eqBytes (a .x .now)) (sym (fits-cell n j (baseOf (a .kind)) cell (subst (λ r. Reads n (baseOf (a .kind)) j r cell) (c .before .before .enum-told3 .given .1) (i .ensures))))
+    let q = subst (λ r. Reads n (baseNumbered (a .kind)) j r cell) (c .before .before .enum-told3 .given .1) (i .ensures) in
+    (c .same2 .ensures ∙ ap (eqBytes (a .x .now)) (sym (fits-cell n j (baseNumbered (a .kind)) cell q)), λ h. fits-short n j (baseNumbered (a .kind)) cell q)
 
 pub same-at-spec : {M : Type 1} → statement M
 same-at-spec =

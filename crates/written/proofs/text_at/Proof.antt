@@ -5,8 +5,9 @@ use native.Mathlib.Omega.{arith}
 use lib.ListN.{length, replicate}
 use Rattle.model.specs.Scan.{spacesAt}
 use Rattle.model.specs.Strings.{bodyAt}
-use Rattle.model.specs.Nav.{treeAt, isText}
-use Rattle.model.specs.Text.{stringIn}
+use Rattle.inner.specs.Positions.{treeAt}
+use Rattle.model.specs.Nav.{isText}
+use Rattle.inner.specs.Positions.{wordIn}
 use Rattle.model.specs.Value.{textAtom}
 use Rattle.text.proofs.Words.{text-tree}
 use Rattle.uuids.proofs.Decoded.{fitted, over}

@@ -1,6 +1,6 @@
 -- `written::word_among` meets its contract. Assumes nothing.
 use mathlib.Core.Path.{_≡_, refl, sym, ap, _∙_}
-use Rattle.model.specs.Nav.{left}
+use Rattle.inner.specs.Positions.{left}
 use Rattle.model.specs.Base.{any}
 use Rattle.model.specs.Text.{isWord}
 use Rattle.elements.specs.Elements.{elementsFrom}

@@ -1,0 +1,4 @@
+pub mod Working
+pub mod Places
+pub mod Columns
+pub mod NewRows
