@@ -55,8 +55,8 @@ enum {
 
 /* Lengths in bytes. */
 enum {
-    MAQ_STORE_AREA = 24107,
-    MAQ_MIRROR_AREA = 24113,
+    MAQ_STORE_AREA = 21401,
+    MAQ_MIRROR_AREA = 21407,
     MAQ_FRESH = 256,            /* 16 fresh ids of 16 bytes, one for each operation */
     MAQ_LEAST_RECORDS = 26249,  /* the records of the largest commit */
     MAQ_LEAST_ANSWER = 64,

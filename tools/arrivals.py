@@ -94,7 +94,7 @@ def readings():
     # refusal 2 before refusal 1, and a refused call leaves the area: one that was put out of order and back is level again
     for spoiled in (False, True):
         if spoiled:
-            yield spoil(4105, 1), "put" + progress("1", 0, 0)
+            yield spoil(1399, 1), "put" + progress("1", 0, 0)
         answer = "1" if spoiled else "accepted"
         yield short(hear(end)), "hear 2" + progress("2", 0, 0)
         yield short(row(0, ROW)), "row 2 0"
@@ -106,7 +106,7 @@ def readings():
     yield hear(b""), "hear 1" + progress("1", 0, 0)
     yield column(0, ROW, 0), "column 1 "
     yield start(b"{}", 1), "start 3" + progress("1", 0, 0)
-    yield spoil(4105, 0), "put" + progress("accepted", 3, 1)
+    yield spoil(1399, 0), "put" + progress("accepted", 3, 1)
 
 
 def of_mirror(calls):

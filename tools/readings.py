@@ -140,7 +140,7 @@ def areas():
     yield start(BATH, 1, 0)
     empty = transact(b'["bath"]', 0, b"[]")
     yield empty
-    yield put(4105, b"\1")
+    yield put(1399, b"\1")
     yield transact(b'["bath"]', 1)
     yield transact(b"", 1)
     yield transact(b'["bath"]', 2, records_len=26248)
@@ -149,7 +149,7 @@ def areas():
     yield lacking(transact(b'["bath"]', 2))
     yield lacking(mark(2))
     yield lacking(start(BATH, 1, 2))
-    yield put(4105, b"\0")
+    yield put(1399, b"\0")
     yield empty
     yield lacking(transact(b'["bath"]', 2))
     yield lacking(start(b"{}", 1, 2))

@@ -17,7 +17,12 @@ import sys
 TOP = os.path.join(os.path.dirname(os.path.abspath(__file__)), "..")
 BASES = ["integer", "boolean", "string", "uuid"]
 LEAST, GREATEST, LAST = -(2**63), 2**63 - 1, 2**32 - 1
-STORE, MIRROR, ROW = 24107, 24113, 625
+ROW, ENTRY, ENTRIES = 25 * 25, 48, 1 + 4 + 4 * 6
+CATALOG = 8
+COUNT = CATALOG + ENTRY * ENTRIES
+ROWS = COUNT + 1
+STORE = ROWS + 32 * ROW
+MIRROR = STORE + 6
 
 
 class Refused(Exception):
@@ -204,6 +209,11 @@ def read_schema(text):
     tables = parts(m["tables"], 4)
     s.tables = [table(w, t, list(tables)) for w, t in tables.items()]
     return s
+
+
+def schema_given(schema):
+    """A schema, or what its text is read as."""
+    return schema if isinstance(schema, Schema) else read_schema(schema)
 
 
 # ── values: a tuple of elements in their order; an integer, a boolean, or the bytes of a string or a uuid ──
@@ -645,7 +655,7 @@ def changes(schema, before, after):
 # ── the store ──
 class Store:
     def __init__(self, schema, run):
-        self.schema, self.run, self.number, self.rows = read_schema(schema), run, 0, []
+        self.schema, self.run, self.number, self.rows = schema_given(schema), run, 0, []
 
     def transact(self, text, fresh, records_len, answer_len):
         """Refusal, answer and records."""
@@ -711,7 +721,7 @@ LENGTHS = {1: 26, 2: 26, 3: 128, 4: 9, 5: 9}
 
 class Mirror:
     def __init__(self, schema, run):
-        self.schema, self.run, self.n, self.rows = read_schema(schema), run, 0, []
+        self.schema, self.run, self.n, self.rows = schema_given(schema), run, 0, []
         self.top, self.heard, self.whole = 0, False, True
 
     def hear(self, x):
@@ -779,22 +789,86 @@ def rows_bytes(schema, rows):
     return found.ljust(20001, b"\0")
 
 
+def name_bytes(name):
+    return bytes([len(name)]) + name.ljust(24, b"\0")
+
+
+def entry(b):
+    return b.ljust(ENTRY, b"\0")
+
+
+def column_entry(c):
+    return entry(name_bytes(c.name.encode()) + bytes([BASES.index(c.base), c.how, c.table, c.min, c.max, c.mutable]) + c.low.to_bytes(8, "big", signed=True) + c.high.to_bytes(8, "big", signed=True))
+
+
+def table_entry(t):
+    indexes = b"".join(bytes([len(x)] + x).ljust(4, b"\0") for x in t.indexes)
+    return entry(name_bytes(t.name.encode()) + bytes([len(t.columns), t.root, t.max_rows is not None]) + (t.max_rows or 0).to_bytes(8, "big") + bytes([len(t.indexes)]) + indexes)
+
+
+def catalog_bytes(s):
+    """A schema as an area keeps it (A1): the database, four tables, six columns of each; what is not in use is zero."""
+    found = entry(name_bytes(s.name) + bytes([len(s.tables)])) + b"".join(table_entry(t) for t in s.tables).ljust(4 * ENTRY, b"\0")
+    return found + b"".join(b"".join(column_entry(c) for c in t.columns).ljust(6 * ENTRY, b"\0") for t in s.tables).ljust(24 * ENTRY, b"\0")
+
+
+def name_in(b):
+    name = b[1 : 1 + b[0]].decode("ascii", "replace")
+    need(is_id(name) and b[0] <= 24)
+    return name
+
+
+def column_in(b, tables):
+    c = Column()
+    c.name = name_in(b)
+    need(b[25] < 4 and b[26] < 3)
+    c.base, c.how, c.table, c.min, c.max, c.mutable = BASES[b[25]], b[26], b[27], b[28], b[29], b[30] == 1
+    c.low, c.high = int.from_bytes(b[31:39], "big", signed=True), int.from_bytes(b[39:47], "big", signed=True)
+    need(c.min <= 1 <= c.max <= 4 and c.min <= c.max and c.low <= c.high)
+    need(c.base in ("integer", "string") or (c.low, c.high) == (LEAST, GREATEST))
+    need(c.table == 0 if c.how == 0 else c.base == "uuid" and c.table < tables)
+    return c
+
+
+def table_in(b, cells, tables):
+    t = Table()
+    t.name = name_in(b)
+    need(b[25] <= 6)
+    t.columns = [column_in(cells[ENTRY * i : ENTRY * (i + 1)], tables) for i in range(b[25])]
+    need(distinct([c.name for c in t.columns]))
+    t.root, t.max_rows = b[26] == 1, int.from_bytes(b[28:36], "big") if b[27] == 1 else None
+    need(t.max_rows is None or 1 <= t.max_rows <= GREATEST)
+    need(b[36] <= 2)
+    t.indexes = [list(b[at + 1 : at + 1 + b[at]]) for at in (37, 41)[: b[36]]]
+    need(all(1 <= len(x) <= 3 and all(c < len(t.columns) for c in x) for x in t.indexes))
+    return t
+
+
+def schema_of(b):
+    """The schema of a catalog's bytes; what breaks a rule on schemas is refused (A10)."""
+    s = Schema()
+    s.text, s.name = b, name_in(b).encode()
+    need(b[25] <= 4)
+    s.tables = [table_in(b[ENTRY * (1 + t) : ENTRY * (2 + t)], b[ENTRY * (5 + 6 * t) : ENTRY * (11 + 6 * t)], b[25]) for t in range(b[25])]
+    need(distinct([t.name for t in s.tables]) and catalog_bytes(s) == b)
+    return s
+
+
 def store_bytes(s):
-    return four(s.run) + four(s.number) + len(s.schema.text).to_bytes(2, "big") + s.schema.text.ljust(4096, b"\0") + rows_bytes(s.schema, s.rows)
+    return four(s.run) + four(s.number) + catalog_bytes(s.schema) + rows_bytes(s.schema, s.rows)
 
 
 def mirror_bytes(m):
-    return (four(m.run) + four(m.n) + len(m.schema.text).to_bytes(2, "big") + m.schema.text.ljust(4096, b"\0") + rows_bytes(m.schema, m.rows)
-            + four(m.top) + bytes([m.heard, m.whole]))
+    return four(m.run) + four(m.n) + catalog_bytes(m.schema) + rows_bytes(m.schema, m.rows) + four(m.top) + bytes([m.heard, m.whole])
 
 
 def rows_of(schema, a):
     """The rows of an area, None where they are not canonical."""
     found = []
-    if a[4106] > 32:
+    if a[COUNT] > 32:
         return None
-    for i in range(a[4106]):
-        b = a[4107 + ROW * i : 4107 + ROW * (i + 1)]
+    for i in range(a[COUNT]):
+        b = a[ROWS + ROW * i : ROWS + ROW * (i + 1)]
         if b[0] >= len(schema.tables) or b[1:17] == bytes(16):
             return None
         values = [value_of(c, b[17 + k : 18 + k] + b[25 + 100 * k : 125 + 100 * k]) for k, c in enumerate(schema.tables[b[0]].columns)]
@@ -807,9 +881,8 @@ def rows_of(schema, a):
 
 
 def begun(kind, a):
-    text = a[10 : 10 + int.from_bytes(a[8:10], "big")]
     try:
-        x = kind(text, int.from_bytes(a[:4], "big"))
+        x = kind(schema_of(a[CATALOG:COUNT]), int.from_bytes(a[:4], "big"))
     except Refused:
         return None
     x.rows = rows_of(x.schema, a)
@@ -838,7 +911,7 @@ def mirror_of(a):
     m = begun(Mirror, a)
     if m is None:
         return None
-    m.n, m.top, m.heard, m.whole = int.from_bytes(a[4:8], "big"), int.from_bytes(a[24107:24111], "big"), a[24111] == 1, a[24112] == 1
+    m.n, m.top, m.heard, m.whole = int.from_bytes(a[4:8], "big"), int.from_bytes(a[STORE : STORE + 4], "big"), a[STORE + 4] == 1, a[STORE + 5] == 1
     if mirror_bytes(m) != a or m.n > m.top or (m.top and not m.heard) or (m.n == 0 and not m.whole):
         return None
     return m

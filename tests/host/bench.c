@@ -3,9 +3,9 @@
  *
  *     bench [ROUNDS]
  *
- * A round (of 1,000) is a transact that commits a change, one that selects, one of no operation and a mark, on stores of 1, 8 and 32 rows; arrivals are
- * 10 a round. A mark reads the schema and judges the area; a transact of no operation does that, commits and writes the area; the rest of a transact is
- * its operations, and the records. */
+ * By a schema of one table and by one of four (two indexes, strong and weak references), on stores of 1, 8 and 32 rows: a round (of 1,000) is a transact that
+ * commits a change, one of no operation, one that selects, a mark, and a question to a mirror; arrivals are 10 a round. A mark judges the area; a transact of no
+ * operation does that, commits and writes the area; the rest of a transact is its operations, and the records. */
 #include <stdio.h>
 #include <stdlib.h>
 #include <string.h>
@@ -14,11 +14,23 @@
 
 enum { MOST = 200000 };
 
-static const char schema[] =
+static const char one[] =
     "{\"name\":\"plating\",\"version\":\"1.0.0\",\"tables\":{\"Tank\":{\"isRoot\":true,\"indexes\":[[\"name\"]],\"columns\":{"
     "\"name\":{\"type\":\"string\"},\"acid\":{\"type\":{\"key\":{\"type\":\"integer\",\"minInteger\":0},\"min\":0,\"max\":1}},"
-    "\"limits\":{\"type\":{\"key\":\"integer\",\"min\":0,\"max\":4}},\"probe\":{\"type\":{\"key\":{\"type\":\"uuid\",\"refTable\":\"Probe\"},\"min\":0,\"max\":1}}}},"
-    "\"Probe\":{\"columns\":{\"serial\":{\"type\":\"string\"},\"live\":{\"type\":\"boolean\"}}}}}";
+    "\"limits\":{\"type\":{\"key\":\"integer\",\"min\":0,\"max\":4}}}}}}";
+
+static const char four[] =
+    "{\"name\":\"plating\",\"version\":\"1.0.0\",\"tables\":{"
+    "\"Tank\":{\"isRoot\":true,\"indexes\":[[\"name\"],[\"place\",\"acid\"]],\"maxRows\":32,\"columns\":{"
+    "\"name\":{\"type\":\"string\"},\"place\":{\"type\":\"string\"},\"acid\":{\"type\":{\"key\":{\"type\":\"integer\",\"minInteger\":0,\"maxInteger\":100000},\"min\":0,\"max\":1}},"
+    "\"limits\":{\"type\":{\"key\":\"integer\",\"min\":0,\"max\":4}},\"probe\":{\"type\":{\"key\":{\"type\":\"uuid\",\"refTable\":\"Probe\"},\"min\":0,\"max\":1}},"
+    "\"alarms\":{\"type\":{\"key\":{\"type\":\"uuid\",\"refTable\":\"Alarm\",\"refType\":\"weak\"},\"min\":0,\"max\":4}}}},"
+    "\"Probe\":{\"columns\":{\"serial\":{\"type\":\"string\"},\"live\":{\"type\":\"boolean\"},\"kind\":{\"type\":{\"key\":{\"type\":\"string\",\"maxLength\":12}}}}},"
+    "\"Alarm\":{\"isRoot\":true,\"columns\":{\"text\":{\"type\":{\"key\":{\"type\":\"string\",\"minLength\":1,\"maxLength\":20}}},\"level\":{\"type\":\"integer\"}}},"
+    "\"Shift\":{\"isRoot\":true,\"maxRows\":3,\"columns\":{\"who\":{\"type\":\"string\"},\"begun\":{\"type\":\"integer\",\"mutable\":false}}}}}";
+
+static const char *schema;
+static size_t schema_len;
 
 static uint8_t area[MAQ_STORE_AREA], copy[MAQ_STORE_AREA], mirror[MAQ_MIRROR_AREA];
 static uint8_t records[MAQ_LEAST_RECORDS], answer[65536], fresh[MAQ_FRESH];
@@ -43,10 +55,12 @@ static void take_time(double since) {
 
 /* The median of what was taken, told in a line; and begins anew. */
 static double tell(const char *what) {
+    char line[120];
+    snprintf(line, sizeof line, schema == four ? "%s, four tables" : schema == one ? "%s, one table" : "%s", what);
     qsort(times, taken, sizeof *times, by_size);
     double median = times[taken / 2], late = times[taken * 99 / 100];
-    if (unit > 0) printf("%-34s %8zu %10.2f %10.2f %8.1f %8.1f\n", what, taken, median, late, median / unit, late / unit);
-    else printf("%-34s %8zu %10.2f %10.2f %8.1f %8.1f\n", what, taken, median, late, 1.0, late / median);
+    if (unit > 0) printf("%-48s %8zu %10.2f %10.2f %8.1f %8.1f\n", line, taken, median, late, median / unit, late / unit);
+    else printf("%-48s %8zu %10.2f %10.2f %8.1f %8.1f\n", line, taken, median, late, 1.0, late / median);
     taken = 0;
     return median;
 }
@@ -81,7 +95,7 @@ static void timed(const char *request) {
 /* A store of so many tanks. */
 static void set_up(int rows) {
     char request[400];
-    if (maq_store_start(area, sizeof area, (const uint8_t *)schema, sizeof schema - 1, 1) != MAQ_ACCEPTED) exit(1);
+    if (maq_store_start(area, sizeof area, (const uint8_t *)schema, schema_len, 1) != MAQ_ACCEPTED) exit(1);
     for (int i = 0; i < rows; i++) {
         snprintf(request, sizeof request, "[\"plating\",{\"op\":\"insert\",\"table\":\"Tank\",\"row\":{\"name\":\"tank %d\",\"acid\":%d,\"limits\":[\"set\",[1,2,3]]}}]", i, i);
         ask(request);
@@ -120,7 +134,7 @@ static size_t length_of(uint8_t kind) { return kind == 1 || kind == 2 ? 26 : kin
 static void arrivals(int rows, int count) {
     char request[400], what[80];
     set_up(0);
-    maq_mirror_start(mirror, sizeof mirror, (const uint8_t *)schema, sizeof schema - 1, 1);
+    maq_mirror_start(mirror, sizeof mirror, (const uint8_t *)schema, schema_len, 1);
     for (int turn = 0; taken < (size_t)count; turn++) {
         int i = turn % rows;
         if (turn < rows) snprintf(request, sizeof request, "[\"plating\",{\"op\":\"insert\",\"table\":\"Tank\",\"row\":{\"name\":\"tank %d\"}}]", i);
@@ -135,6 +149,30 @@ static void arrivals(int rows, int count) {
     }
     snprintf(what, sizeof what, "arrival, %d rows", rows);
     tell(what);
+    for (int i = 0; i < count / 10; i++) {
+        double since = now();
+        uint8_t out[MAQ_PROGRESS];
+        if (maq_mirror_progress(mirror, sizeof mirror, out, sizeof out) != MAQ_ACCEPTED || out[4] != 1) exit(1);
+        take_time(since);
+    }
+    snprintf(what, sizeof what, "progress, %d rows", rows);
+    tell(what);
+}
+
+/* All of it, by one schema. */
+static void by(const char *text, size_t len, int rounds) {
+    schema = text;
+    schema_len = len;
+    for (int i = 0; i < rounds; i++) {
+        double since = now();
+        if (maq_store_start(copy, sizeof copy, (const uint8_t *)schema, schema_len, 1) != MAQ_ACCEPTED) exit(1);
+        take_time(since);
+    }
+    tell("start of a store");
+    for (int rows = 1; rows <= 32; rows = rows == 1 ? 8 : rows * 4) {
+        transacts(rows, rounds);
+        arrivals(rows, rounds * 10);
+    }
 }
 
 int main(int argc, char **argv) {
@@ -143,8 +181,7 @@ int main(int argc, char **argv) {
         fprintf(stderr, "usage: bench [ROUNDS], 1 to 20000\n");
         return 2;
     }
-    printf("%-34s %8s %10s %10s %8s %8s\n", "", "calls", "median us", "99% us", "copies", "99%");
-    set_up(32);
+    printf("%-48s %8s %10s %10s %8s %8s\n", "", "calls", "median us", "99% us", "copies", "99%");
     for (int i = 0; i < rounds; i++) {
         double since = now();
         for (int k = 0; k < 100; k++) {
@@ -154,16 +191,7 @@ int main(int argc, char **argv) {
         times[taken++] = (now() - since) / 100;
     }
     unit = tell("copying a store's area");
-    for (int i = 0; i < rounds; i++) {
-        double since = now();
-        maq_store_start(copy, sizeof copy, (const uint8_t *)schema, sizeof schema - 1, 1);
-        take_time(since);
-    }
-    tell("start of a store (schema read)");
-    transacts(1, rounds);
-    transacts(8, rounds);
-    transacts(32, rounds);
-    arrivals(1, rounds * 10);
-    arrivals(32, rounds * 10);
+    by(one, sizeof one - 1, rounds);
+    by(four, sizeof four - 1, rounds);
     return 0;
 }

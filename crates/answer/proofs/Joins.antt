@@ -12,7 +12,7 @@ use borrow.Author.Tests.{ne-eqb, ltb-true, ltb-false}
 use Rattle.model.proofs.Tests.{split}
 use Rattle.answer.specs.Put.{Counted}
 use Rattle.model.specs.Base.{ascii}
-use Rattle.inner.specs.Packed.{baseNumbered}
+use Rattle.model.specs.Catalog.{baseNumbered}
 use Rattle.model.specs.Value.{textOf}
 use Rattle.model.specs.Answers.{commas, bracketed, boolText, rowsText, elementsText}
 use Rattle.model.specs.declared.Fault.{Fault}

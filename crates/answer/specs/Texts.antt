@@ -4,7 +4,7 @@ use mathlib.Core.Bool.{Bool, true, false}
 use mathlib.Core.List.{List, [], _∷_, _++_, map}
 use Rattle.model.specs.Base.{flat, ascii}
 use Rattle.model.specs.Octets.{value}
-use Rattle.inner.specs.Packed.{baseNumbered}
+use Rattle.model.specs.Catalog.{baseNumbered}
 use Rattle.model.specs.Answers.{decimal, integerText, escaped, quoted, dashBefore, uuidText, boolText, atomText, valueText, countText, insertText, errorText}
 use Rattle.model.specs.Faults.{words}
 use Rattle.model.specs.declared.Fault.{Fault}

@@ -1,15 +1,20 @@
 // The text of answers, written as it is produced. Each writer is lent the answer's whole buffer and told how many bytes of text came before; it puts its text there
 // as far as the buffer goes, and answers how many bytes there are now, in the buffer and past its end.
+use model::Atom;
+use model::ELEMENTS;
 use model::Fault;
+use model::ID;
 ghost use mathlib.Core.Path.{_≡_};
 ghost use mathlib.Core.Bool.{true};
 ghost use mathlib.Core.List.{[], _∷_, _++_};
 ghost use Prim.Native.Nat.{_+_, _*_, _^_, _<_, _≤_};
 ghost use lib.ListN.{length, take, drop, getD};
+ghost use Rattle.model.specs.Limits.{mostElements, idBytes};
 ghost use Rattle.model.specs.Octets.{value};
 ghost use Rattle.model.specs.Value.{textOf};
 ghost use Rattle.model.specs.Answers.{hexDigit, hexPair, uuidDigits};
 ghost use Rattle.answer.specs.Put.{Put, Room, Counted};
+ghost use Rattle.answer.specs.Most.{decimalMost, integerMost, escapedMost, digitsMost, idMost, textMost, atomsMost, valueMost, nullMost, countMost, insertMost, wordsMost, errorMost};
 ghost use Rattle.answer.specs.Texts.{decimalText, integerIn, escapedText, insideText, quotedText, dashText, idText, truthText, atomIn, commaText, joined, atomTexts, setText, nullText, countResult, insertResult, errorResult, wordsText};
 
 // One byte.
@@ -50,17 +55,23 @@ pub fn put_bytes(out: &mut [u8], at: usize, text: &[u8]) -> usize
     at + text.len()
 }
 
+// The first digit as a number.
+const ZERO: u64 = b'0' as u64;
+
+// How many digits 64 bits have at most.
+const DIGITS: usize = 20;
+
 // The decimal digits of n at the end of `digits`, and where they begin.
 fn decimal_digits(digits: &mut [u8], n: u64) -> usize
-    requires { ⌜ length (now digits) ≡ 20 ⌝ }
-    ensures { λ r. ⌜ r ≤ 20 ⌝ }
+    requires { ⌜ length (now digits) ≡ decimalMost ⌝ }
+    ensures { λ r. ⌜ r ≤ decimalMost ⌝ }
     ensures { λ r. ⌜ drop r (now (digits .exit)) ≡ decimalText n ⌝ }
 {
     let mut v = n;
-    let mut i = 20;
+    let mut i = DIGITS;
     while 0 < i {
         i -= 1;
-        digits[i] = (48 + v % 10) as u8;
+        digits[i] = (ZERO + v % 10) as u8;
         if v < 10 {
             return i;
         }
@@ -71,18 +82,18 @@ fn decimal_digits(digits: &mut [u8], n: u64) -> usize
 
 // A number in decimal.
 pub fn put_decimal(out: &mut [u8], at: usize, n: u64) -> usize
-    requires { ⌜ at + 20 < 2 ^ 64 ⌝ }
-    ensures { λ r. ⌜ Put 20 (now (out .entry)) at (decimalText n) r (now (out .exit)) ⌝ }
+    requires { ⌜ at + decimalMost < 2 ^ 64 ⌝ }
+    ensures { λ r. ⌜ Put decimalMost (now (out .entry)) at (decimalText n) r (now (out .exit)) ⌝ }
 {
-    let mut digits = [0u8; 20];
+    let mut digits = [0u8; DIGITS];
     let i = decimal_digits(&mut digits, n);
     put_bytes(out, at, &digits[i..])
 }
 
 // An integer atom: a minus and a magnitude from the upper half of 64 bits.
-pub fn put_integer(out: &mut [u8], at: usize, atom: &[u8; 25]) -> usize
-    requires { ⌜ at + 21 < 2 ^ 64 ⌝ }
-    ensures { λ r. ⌜ Put 21 (now (out .entry)) at (integerIn (now (atom .entry))) r (now (out .exit)) ⌝ }
+pub fn put_integer(out: &mut [u8], at: usize, atom: &Atom) -> usize
+    requires { ⌜ at + integerMost < 2 ^ 64 ⌝ }
+    ensures { λ r. ⌜ Put integerMost (now (out .entry)) at (integerIn (now (atom .entry))) r (now (out .exit)) ⌝ }
 {
     let x = octets::number(atom, 8);
     if x < 9223372036854775808 {
@@ -93,15 +104,18 @@ pub fn put_integer(out: &mut [u8], at: usize, atom: &[u8; 25]) -> usize
     put_decimal(out, r, 18446744073709551615 - x + 1)
 }
 
+// What a digit above 9 is added to: 10 gives an a.
+const LETTERS: u8 = b'a' - 10;
+
 // A hexadecimal digit.
 fn hex(d: u8) -> u8
     requires { ⌜ d < 16 ⌝ }
     ensures { λ r. ⌜ r ≡ hexDigit d ⌝ }
 {
     if d < 10 {
-        return 48 + d;
+        return b'0' + d;
     }
-    87 + d
+    LETTERS + d
 }
 
 // A byte in two hexadecimal digits.
@@ -115,13 +129,13 @@ fn put_hex(out: &mut [u8], at: usize, b: u8) -> usize
 
 // A byte of a string: the quote, the backslash and bytes below 0x20 are escaped.
 fn put_escaped(out: &mut [u8], at: usize, b: u8) -> usize
-    requires { ⌜ at + 6 < 2 ^ 64 ⌝ }
-    ensures { λ r. ⌜ Put 6 (now (out .entry)) at (escapedText b) r (now (out .exit)) ⌝ }
+    requires { ⌜ at + escapedMost < 2 ^ 64 ⌝ }
+    ensures { λ r. ⌜ Put escapedMost (now (out .entry)) at (escapedText b) r (now (out .exit)) ⌝ }
 {
-    if b == 34 {
+    if b == b'"' {
         return put_bytes(out, at, b"\\\"");
     }
-    if b == 92 {
+    if b == b'\\' {
         return put_bytes(out, at, b"\\\\");
     }
     if b < 32 {
@@ -133,8 +147,8 @@ fn put_escaped(out: &mut [u8], at: usize, b: u8) -> usize
 
 // The bytes of a string, escaped where they must be.
 fn put_inside(out: &mut [u8], at: usize, text: &[u8]) -> usize
-    requires { ⌜ at + 6 * length (now text) < 2 ^ 64 ⌝ }
-    ensures { λ r. ⌜ Put (6 * length (now (text .entry))) (now (out .entry)) at (insideText (now (text .entry))) r (now (out .exit)) ⌝ }
+    requires { ⌜ at + escapedMost * length (now text) < 2 ^ 64 ⌝ }
+    ensures { λ r. ⌜ Put (escapedMost * length (now (text .entry))) (now (out .entry)) at (insideText (now (text .entry))) r (now (out .exit)) ⌝ }
 {
     let mut r = at;
     let mut i = 0;
@@ -147,8 +161,8 @@ fn put_inside(out: &mut [u8], at: usize, text: &[u8]) -> usize
 
 // A string in quotes.
 pub fn put_quoted(out: &mut [u8], at: usize, text: &[u8]) -> usize
-    requires { ⌜ at + (6 * length (now text) + 2) < 2 ^ 64 ⌝ }
-    ensures { λ r. ⌜ Put (6 * length (now (text .entry)) + 2) (now (out .entry)) at (quotedText (now (text .entry))) r (now (out .exit)) ⌝ }
+    requires { ⌜ at + (escapedMost * length (now text) + 2) < 2 ^ 64 ⌝ }
+    ensures { λ r. ⌜ Put (escapedMost * length (now (text .entry)) + 2) (now (out .entry)) at (quotedText (now (text .entry))) r (now (out .exit)) ⌝ }
 {
     let r = put_byte(out, at, b'"');
     let e = put_inside(out, r, text);
@@ -169,8 +183,8 @@ fn put_dash(out: &mut [u8], at: usize, k: usize) -> usize
 
 // The digits of an id.
 fn put_digits(out: &mut [u8], at: usize, id: &[u8]) -> usize
-    requires { ⌜ (at + 48 < 2 ^ 64) × (length (now id) ≡ 16) ⌝ }
-    ensures { λ r. ⌜ Put 48 (now (out .entry)) at (uuidDigits 0 (now (id .entry))) r (now (out .exit)) ⌝ }
+    requires { ⌜ (at + digitsMost < 2 ^ 64) × (length (now id) ≡ idBytes) ⌝ }
+    ensures { λ r. ⌜ Put digitsMost (now (out .entry)) at (uuidDigits 0 (now (id .entry))) r (now (out .exit)) ⌝ }
 {
     let mut r = at;
     let mut k = 0;
@@ -184,8 +198,8 @@ fn put_digits(out: &mut [u8], at: usize, id: &[u8]) -> usize
 
 // An id by its 16 bytes.
 pub fn put_id(out: &mut [u8], at: usize, id: &[u8]) -> usize
-    requires { ⌜ (at + 59 < 2 ^ 64) × (length (now id) ≡ 16) ⌝ }
-    ensures { λ r. ⌜ Put 59 (now (out .entry)) at (idText (now (id .entry))) r (now (out .exit)) ⌝ }
+    requires { ⌜ (at + idMost < 2 ^ 64) × (length (now id) ≡ idBytes) ⌝ }
+    ensures { λ r. ⌜ Put idMost (now (out .entry)) at (idText (now (id .entry))) r (now (out .exit)) ⌝ }
 {
     let r = put_bytes(out, at, b"[\"uuid\",\"");
     let d = put_digits(out, r, id);
@@ -204,9 +218,9 @@ fn put_truth(out: &mut [u8], at: usize, b: u8) -> usize
 }
 
 // A string atom.
-fn put_text(out: &mut [u8], at: usize, atom: &[u8; 25]) -> usize
-    requires { ⌜ at + 146 < 2 ^ 64 ⌝ }
-    ensures { λ r. ⌜ Put 146 (now (out .entry)) at (quotedText (textOf (now (atom .entry)))) r (now (out .exit)) ⌝ }
+fn put_text(out: &mut [u8], at: usize, atom: &Atom) -> usize
+    requires { ⌜ at + textMost < 2 ^ 64 ⌝ }
+    ensures { λ r. ⌜ Put textMost (now (out .entry)) at (quotedText (textOf (now (atom .entry)))) r (now (out .exit)) ⌝ }
 {
     let cell = &atom[..];
     let text = atom::text_of(atom);
@@ -214,18 +228,18 @@ fn put_text(out: &mut [u8], at: usize, atom: &[u8; 25]) -> usize
 }
 
 // A uuid atom.
-fn put_uuid(out: &mut [u8], at: usize, atom: &[u8; 25]) -> usize
-    requires { ⌜ at + 59 < 2 ^ 64 ⌝ }
-    ensures { λ r. ⌜ Put 59 (now (out .entry)) at (idText (take 16 (now (atom .entry)))) r (now (out .exit)) ⌝ }
+fn put_uuid(out: &mut [u8], at: usize, atom: &Atom) -> usize
+    requires { ⌜ at + idMost < 2 ^ 64 ⌝ }
+    ensures { λ r. ⌜ Put idMost (now (out .entry)) at (idText (take idBytes (now (atom .entry)))) r (now (out .exit)) ⌝ }
 {
     let cell = &atom[..];
-    put_id(out, at, &cell[0..16])
+    put_id(out, at, &cell[0..ID])
 }
 
 // An atom of a base type by its number.
-pub fn put_atom(out: &mut [u8], at: usize, kind: u8, atom: &[u8; 25]) -> usize
-    requires { ⌜ at + 146 < 2 ^ 64 ⌝ }
-    ensures { λ r. ⌜ Put 146 (now (out .entry)) at (atomIn kind (now (atom .entry))) r (now (out .exit)) ⌝ }
+pub fn put_atom(out: &mut [u8], at: usize, kind: u8, atom: &Atom) -> usize
+    requires { ⌜ at + textMost < 2 ^ 64 ⌝ }
+    ensures { λ r. ⌜ Put textMost (now (out .entry)) at (atomIn kind (now (atom .entry))) r (now (out .exit)) ⌝ }
 {
     if kind == 0 {
         return put_integer(out, at, atom);
@@ -251,9 +265,9 @@ pub fn put_comma(out: &mut [u8], at: usize, first: bool) -> usize
 }
 
 // The first n atoms, with commas between them.
-fn put_atoms(out: &mut [u8], at: usize, kind: u8, n: usize, atoms: &[[u8; 25]]) -> usize
-    requires { ⌜ (at + 588 < 2 ^ 64) × (n ≤ 4) × (length (now atoms) ≡ 4) ⌝ }
-    ensures { λ r. ⌜ Put 588 (now (out .entry)) at (joined true (atomTexts kind (take n (now (atoms .entry))))) r (now (out .exit)) ⌝ }
+fn put_atoms(out: &mut [u8], at: usize, kind: u8, n: usize, atoms: &[Atom]) -> usize
+    requires { ⌜ (at + atomsMost < 2 ^ 64) × (n ≤ mostElements) × (length (now atoms) ≡ mostElements) ⌝ }
+    ensures { λ r. ⌜ Put atomsMost (now (out .entry)) at (joined true (atomTexts kind (take n (now (atoms .entry))))) r (now (out .exit)) ⌝ }
 {
     let mut r = at;
     let mut i = 0;
@@ -266,19 +280,20 @@ fn put_atoms(out: &mut [u8], at: usize, kind: u8, n: usize, atoms: &[[u8; 25]]) 
 }
 
 // A count, or the most there can be.
-pub fn at_most(count: u8, most: u8) -> usize
+fn at_most(count: u8, most: usize) -> usize
     ensures { λ r. ⌜ Counted most count r ⌝ }
 {
-    if count < most {
-        return count as usize;
+    let n = leaf::wide(count);
+    if n < most {
+        return n;
     }
-    most as usize
+    most
 }
 
 // A value: one element bare, others as a set.
-pub fn put_value(out: &mut [u8], at: usize, kind: u8, count: u8, atoms: &[[u8; 25]]) -> usize
-    requires { ⌜ (at + 600 < 2 ^ 64) × (length (now atoms) ≡ 4) ⌝ }
-    ensures { λ r. ⌜ Put 600 (now (out .entry)) at (setText kind count (now (atoms .entry))) r (now (out .exit)) ⌝ }
+pub fn put_value(out: &mut [u8], at: usize, kind: u8, count: u8, atoms: &[Atom]) -> usize
+    requires { ⌜ (at + valueMost < 2 ^ 64) × (length (now atoms) ≡ mostElements) ⌝ }
+    ensures { λ r. ⌜ Put valueMost (now (out .entry)) at (setText kind count (now (atoms .entry))) r (now (out .exit)) ⌝ }
 {
     if count == 0 {
         return put_bytes(out, at, b"[\"set\",[]]");
@@ -286,7 +301,7 @@ pub fn put_value(out: &mut [u8], at: usize, kind: u8, count: u8, atoms: &[[u8; 2
     if count == 1 {
         return put_atom(out, at, kind, &atoms[0]);
     }
-    let n = at_most(count, 4);
+    let n = at_most(count, ELEMENTS);
     let r = put_bytes(out, at, b"[\"set\",[");
     let e = put_atoms(out, r, kind, n, atoms);
     put_bytes(out, e, b"]]")
@@ -294,16 +309,16 @@ pub fn put_value(out: &mut [u8], at: usize, kind: u8, count: u8, atoms: &[[u8; 2
 
 // The result of an operation that did not run.
 pub fn put_null(out: &mut [u8], at: usize) -> usize
-    requires { ⌜ at + 4 < 2 ^ 64 ⌝ }
-    ensures { λ r. ⌜ Put 4 (now (out .entry)) at nullText r (now (out .exit)) ⌝ }
+    requires { ⌜ at + nullMost < 2 ^ 64 ⌝ }
+    ensures { λ r. ⌜ Put nullMost (now (out .entry)) at nullText r (now (out .exit)) ⌝ }
 {
     put_bytes(out, at, b"null")
 }
 
 // The result of an update, a mutate or a delete.
 pub fn put_count(out: &mut [u8], at: usize, count: u64) -> usize
-    requires { ⌜ at + 30 < 2 ^ 64 ⌝ }
-    ensures { λ r. ⌜ Put 30 (now (out .entry)) at (countResult count) r (now (out .exit)) ⌝ }
+    requires { ⌜ at + countMost < 2 ^ 64 ⌝ }
+    ensures { λ r. ⌜ Put countMost (now (out .entry)) at (countResult count) r (now (out .exit)) ⌝ }
 {
     let r = put_bytes(out, at, b"{\"count\":");
     let d = put_decimal(out, r, count);
@@ -312,8 +327,8 @@ pub fn put_count(out: &mut [u8], at: usize, count: u64) -> usize
 
 // The result of an insert.
 pub fn put_insert(out: &mut [u8], at: usize, id: &[u8]) -> usize
-    requires { ⌜ (at + 68 < 2 ^ 64) × (length (now id) ≡ 16) ⌝ }
-    ensures { λ r. ⌜ Put 68 (now (out .entry)) at (insertResult (now (id .entry))) r (now (out .exit)) ⌝ }
+    requires { ⌜ (at + insertMost < 2 ^ 64) × (length (now id) ≡ idBytes) ⌝ }
+    ensures { λ r. ⌜ Put insertMost (now (out .entry)) at (insertResult (now (id .entry))) r (now (out .exit)) ⌝ }
 {
     let r = put_bytes(out, at, b"{\"uuid\":");
     let d = put_id(out, r, id);
@@ -322,8 +337,8 @@ pub fn put_insert(out: &mut [u8], at: usize, id: &[u8]) -> usize
 
 // What a fault is called.
 fn put_words(out: &mut [u8], at: usize, fault: Fault) -> usize
-    requires { ⌜ at + 31 < 2 ^ 64 ⌝ }
-    ensures { λ r. ⌜ Put 31 (now (out .entry)) at (wordsText fault) r (now (out .exit)) ⌝ }
+    requires { ⌜ at + wordsMost < 2 ^ 64 ⌝ }
+    ensures { λ r. ⌜ Put wordsMost (now (out .entry)) at (wordsText fault) r (now (out .exit)) ⌝ }
 {
     match fault {
         Fault::Fine => at,
@@ -340,8 +355,8 @@ fn put_words(out: &mut [u8], at: usize, fault: Fault) -> usize
 
 // The result of an operation or a commit that fails.
 pub fn put_error(out: &mut [u8], at: usize, fault: Fault) -> usize
-    requires { ⌜ at + 43 < 2 ^ 64 ⌝ }
-    ensures { λ r. ⌜ Put 43 (now (out .entry)) at (errorResult fault) r (now (out .exit)) ⌝ }
+    requires { ⌜ at + errorMost < 2 ^ 64 ⌝ }
+    ensures { λ r. ⌜ Put errorMost (now (out .entry)) at (errorResult fault) r (now (out .exit)) ⌝ }
 {
     let r = put_bytes(out, at, b"{\"error\":\"");
     let w = put_words(out, r, fault);

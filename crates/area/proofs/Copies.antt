@@ -2,42 +2,47 @@
 use mathlib.Core.Path.{_≡_, refl, sym, ap, _∙_}
 use mathlib.Core.List.{List, [], _∷_, _++_, append-assoc, append-nil}
 use Prim.Native.Nat.{ℕ, zero, suc, _+_, _-_, _*_, _≤_, _<_}
+use native.Mathlib.Nat.{add-comm, mul-suc, mul-zero}
 use native.Mathlib.Numerals.{add-one}
 use native.Mathlib.Omega.{arith}
 use lib.ListN.{length, take, drop, getD, set, length-drop, drop-of-length-le}
-use lib.Seq.{drop-cons, drop-drop, take-suc, take-all, take-at, set-at, length-take-le, getD-take, getD-drop}
-use Rattle.model.specs.Octets.{part}
+use lib.Seq.{drop-cons, drop-drop, take-add, take-suc, take-all, take-at, set-at, length-take-le, getD-take, getD-drop}
+use Rattle.model.specs.Octets.{part, chunks}
 use Rattle.model.specs.Base.{flat}
 use Rattle.model.specs.Records.{cut}
 use Rattle.area.specs.Layout.{rowsIn, bytesOf}
 
--- a list that is filled from its front with the elements of another
-module _ {A : Type 0} (out src : List A) (d : A) where
-  abbrev pub copied : ℕ → List A
-  copied k = take k src ++ drop k out
+-- parts of one width, the cells of bytes among them, and the rows
+module _ (w : ℕ) where
+  pub chunks-length : (n : ℕ) (b : List ℕ) → length (chunks w n b) ≡ n
+  chunks-length zero b = refl
+  chunks-length (suc n) b = ap suc (chunks-length n (drop w b))
 
-  pub copied-more : (k : ℕ) → k < length src → k < length out → set (copied k) k (getD src k d) ≡ copied (k + 1)
-  copied-more k h g =
-      ap (λ (q : List A). set (take k src ++ q) k (getD src k d)) (drop-cons out k d g)
-      ∙ set-at (take k src) (getD out k d) (drop (suc k) out) (getD src k d) k (length-take-le k src (omega arith))
-      ∙ sym (append-assoc (take k src) (getD src k d ∷ []) (drop (suc k) out))
-      ∙ ap (λ (q : List A). q ++ drop (suc k) out) (sym (take-suc src k d h))
-      ∙ ap copied (sym (add-one k))
+  pub chunks-at : (n j : ℕ) (b : List ℕ) → j < n → getD (chunks w n b) j [] ≡ part (w * j) w b
+  chunks-at zero j b h = absurd (omega arith)
+  chunks-at (suc n) zero b h = ap (λ (k : ℕ). part k w b) (sym (mul-zero w))
+  chunks-at (suc n) (suc j) b h =
+      let e : w + w * j ≡ w * suc j = add-comm w (w * j) ∙ sym (mul-suc w j) in
+      chunks-at n j (drop w b) (omega arith) ∙ ap (take w) (drop-drop (w * j) w b ∙ ap (λ (k : ℕ). drop k b) e)
 
-  pub copied-end : (k : ℕ) → length src ≡ k → length out ≡ k → copied k ≡ src
-  copied-end k h g = rw (take-all k src (omega arith), drop-of-length-le out {i = k} (omega arith)) (append-nil src)
+  -- from a place on
+  pub chunk-from : (a : List ℕ) (at n j : ℕ) → j < n → getD (chunks w n (drop at a)) j [] ≡ part (at + w * j) w a
+  chunk-from a at n j h = chunks-at n j (drop at a) h ∙ ap (take w) (drop-drop (w * j) at a)
 
--- the cells of bytes, and the rows
+  pub byte-in : (a : List ℕ) (at k : ℕ) → k < w → getD (part at w a) k 0 ≡ getD a (at + k) 0
+  byte-in a at k h = getD-take w (drop at a) k 0 h ∙ getD-drop at a k 0
+
+  pub part-size : (a : List ℕ) (at : ℕ) → at + w ≤ length a → length (part at w a) ≡ w
+  part-size a at h = length-take-le w (drop at a) (omega (arith, length-drop at a))
+
+  pub flat-chunks : (n : ℕ) (b : List ℕ) → w * n ≤ length b → flat (chunks w n b) ≡ take (w * n) b
+  flat-chunks zero b h = ap (λ (k : ℕ). take k b) (sym (mul-zero w))
+  flat-chunks (suc n) b h =
+      let e : w + w * n ≡ w * suc n = add-comm w (w * n) ∙ sym (mul-suc w n) in
+      ap (λ (l : List ℕ). take w b ++ l) (flat-chunks n (drop w b) (omega (arith, length-drop w b, e))) ∙ sym (take-add w (w * n) b) ∙ ap (λ (k : ℕ). take k b) e
+
 pub cut-length : (n : ℕ) (b : List ℕ) → length (cut n b) ≡ n
-cut-length zero b = refl
-cut-length (suc n) b = ap suc (cut-length n (drop 25 b))
-
-pub cut-at : (n j : ℕ) (b : List ℕ) → j < n → getD (cut n b) j [] ≡ part (25 * j) 25 b
-cut-at zero j b h = absurd (omega arith)
-cut-at (suc n) zero b h = refl
-cut-at (suc n) (suc j) b h =
-    let e : 25 + 25 * j ≡ 25 * suc j = omega arith in
-    cut-at n j (drop 25 b) (omega arith) ∙ ap (take 25) (drop-drop (25 * j) 25 b ∙ ap (λ (k : ℕ). drop k b) e)
+cut-length n b = chunks-length 25 n b
 
 pub rows-length : (n : ℕ) (b : List ℕ) → length (rowsIn n b) ≡ n
 rows-length zero b = refl
@@ -53,16 +58,16 @@ rows-at (suc n) (suc i) b h =
 -- the same from a place on
 module _ (a : List ℕ) (at : ℕ) where
   pub byte-at : (k : ℕ) → k < 25 → getD (part at 25 a) k 0 ≡ getD a (at + k) 0
-  byte-at k h = getD-take 25 (drop at a) k 0 h ∙ getD-drop at a k 0
+  byte-at k h = byte-in 25 a at k h
 
   pub cell-from : (j : ℕ) → j < 25 → getD (cut 25 (drop at a)) j [] ≡ part (at + 25 * j) 25 a
-  cell-from j h = cut-at 25 j (drop at a) h ∙ ap (take 25) (drop-drop (25 * j) at a)
+  cell-from j h = chunk-from 25 a at 25 j h
 
   pub row-from : (n i : ℕ) → i < n → getD (rowsIn n (drop at a)) i [] ≡ cut 25 (drop (at + 625 * i) a)
   row-from n i h = rows-at n i (drop at a) h ∙ ap (cut 25) (drop-drop (625 * i) at a)
 
   pub part-length : at + 25 ≤ length a → length (part at 25 a) ≡ 25
-  part-length h = length-take-le 25 (drop at a) (omega (arith, length-drop at a))
+  part-length h = part-size 25 a at h
 
 -- the front of a list that is filled beyond it
 pub take-copied : {A : Type 0} (out src : List A) (n : ℕ) → length src ≡ n → take n (src ++ drop n out) ≡ src

@@ -8,22 +8,23 @@ use borrow.Author.Tests.{leb-true, le-leb}
 use lib.Dec.{eqb, leb}
 use lib.ListN.{length, getD, take, drop, replicate, length-drop, length-append, length-replicate}
 use lib.Seq.{drop-drop, take-at, drop-at, take-all, length-take-le}
+use Rattle.model.specs.Limits.{countOffset, rowsOffset, storeBytes}
 use Rattle.model.specs.Octets.{big, value, part}
 use Rattle.model.specs.Base.{all, every, flat}
 use Rattle.model.specs.Schema.{Schema, columnsOf}
-use Rattle.inner.specs.Packed as packed
+use Rattle.model.specs.Catalog as packed
 use Rattle.model.specs.Value.{zeros, canonicalFor}
 use Rattle.model.specs.Rows.{Row}
 use Rattle.model.specs.Records.{cut}
-use Rattle.model.specs.Areas.{rowCells, rowFrom, rowsFrom, rowsBytes, textFrom, tablesIn, Store, encodeStore, decodeStore, ascends, distinctIds, rowPasses, rowsPass, headTests}
+use Rattle.model.specs.Areas.{rowCells, rowFrom, rowsFrom, rowsBytes, Store, encodeStore, entriesIn, databaseIn, decodeStore, ascends, distinctIds, rowPasses, rowsPass, headTests}
 use Rattle.inner.specs.Working.{working, tableIn, TidyRow, Tidy}
 use Rattle.model.proofs.Tests.{and-l, and-r, whole, parts}
 use Rattle.model.proofs.Lists.{all-head, all-tail, all-take, all-drop, all-cons, all-same}
 use Rattle.model.proofs.Octets.{octet, value-big-fits}
 use Rattle.model.proofs.Accepted.{narrow}
 use Rattle.model.proofs.Lengths.{narrow-at}
-use Rattle.model.proofs.Areas.{Sized, AllSized, Fits, row-read, row-cut, row-length, rows-length, read-text, read-count, read-rest}
-use Rattle.area.specs.Layout.{rowsIn, tidyFrom, rowGood, rowsGood, textLength, rowCount, restZero, partGood}
+use Rattle.model.proofs.Areas.{Sized, AllSized, Fits, row-read, row-cut, row-length, rows-length, read-count, read-rest}
+use Rattle.area.specs.Layout.{rowsIn, tidyFrom, rowGood, rowsGood, rowCount, restZero, partGood}
 use Rattle.area.proofs.Copies.{cut-length, rows-length as count-is}
 use Rattle.area.proofs.Tidied.{Cells, tidy-of, of-tidy}
 use Rattle.area.proofs.Whole.{rows-are, rows-count, store-back}
@@ -56,27 +57,24 @@ module _ (schema : List (List ℕ)) (slim : narrow (packed.packedTables schema) 
 
 -- what a part that passes holds
 pub record Holds (a : List ℕ) : Type 0 where
-  pub encoded : encodeStore (decodeStore a) ≡ take 24107 a
-  pub pass : rowsPass canonicalFor (tablesIn (textFrom a)) (decodeStore a .rows) ≡ true
+  pub encoded : encodeStore (decodeStore a) ≡ take storeBytes a
+  pub pass : rowsPass canonicalFor (databaseIn a .tables) (decodeStore a .rows) ≡ true
   pub few : rowCount a ≤ 32
-  pub short : textLength a ≤ 4096
-  pub tidy : Tidy (tablesIn (textFrom a)) (rowsIn (rowCount a) (drop 4107 a))
-  pub rows : decodeStore a .rows ≡ map (rowFrom (tablesIn (textFrom a))) (rowsIn (rowCount a) (drop 4107 a))
+  pub tidy : Tidy (databaseIn a .tables) (rowsIn (rowCount a) (drop rowsOffset a))
+  pub rows : decodeStore a .rows ≡ map (rowFrom (databaseIn a .tables)) (rowsIn (rowCount a) (drop rowsOffset a))
 
-module _ (schema : List (List ℕ)) (a : List ℕ) (size : 24107 ≤ length a) (bytes : all octet a ≡ true) (same : packed.packedTables schema ≡ tablesIn (textFrom a)) (slim : narrow (packed.packedTables schema) ≡ true) where
+module _ (schema : List (List ℕ)) (a : List ℕ) (size : storeBytes ≤ length a) (bytes : all octet a ≡ true) (same : packed.packedTables schema ≡ databaseIn a .tables) (written : packed.catalogOf (databaseIn a) ≡ entriesIn a) (slim : narrow (packed.packedTables schema) ≡ true) where
   abbrev n : ℕ
   n = rowCount a
 
   abbrev b : List ℕ
-  b = drop 4107 a
+  b = drop rowsOffset a
 
   pub part-holds : partGood schema a ≡ true → Holds a
   unfolding partGood restZero rowsGood working decodeStore rowsPass
   part-holds h =
-      let rest = and-r (leb (textLength a) 4096) _ h in
-      let short : textLength a ≤ 4096 = leb-true (textLength a) 4096 (and-l (leb (textLength a) 4096) _ h) in
-      let few : n ≤ 32 = leb-true n 32 (and-l (leb n 32) _ rest) in
-      let y = and-r (leb n 32) _ rest in
+      let few : n ≤ 32 = leb-true n 32 (and-l (leb n 32) _ h) in
+      let y = and-r (leb n 32) _ h in
       let z = and-l (restZero a) _ y in
       let g = and-r (restZero a) _ y in
       let t = take-all n (rowsIn n b) (omega (arith, count-is n b)) in
@@ -85,14 +83,13 @@ module _ (schema : List (List ℕ)) (a : List ℕ) (size : 24107 ≤ length a) (
       let w = ap (map (rowFrom (packed.packedTables schema))) t ∙ sym (rows-are (packed.packedTables schema) n b) in
       let up : ascends (rowsFrom (packed.packedTables schema) n b) ≡ true = ap ascends (sym w) ∙ and-l (ascends (working (packed.packedTables schema) n (rowsIn n b))) _ order in
       let apart : distinctIds (rowsFrom (packed.packedTables schema) n b) ≡ true = ap distinctIds (sym w) ∙ and-r (ascends (working (packed.packedTables schema) n (rowsIn n b))) _ order in
-      let tidy : Tidy (tablesIn (textFrom a)) (rowsIn n b) = rw same at (rows-tidy schema slim n b (omega (arith, length-drop 4107 a)) (all-drop octet 4107 a bytes) each) in
+      let tidy : Tidy (databaseIn a .tables) (rowsIn n b) = rw same at (rows-tidy schema slim n b (omega (arith, length-drop rowsOffset a)) (all-drop octet rowsOffset a bytes) each) in
       record {
-        encoded = store-back a size bytes short few (and-l (zeros (part (10 + textLength a) (4096 - textLength a) a)) _ z) (and-r (zeros (part (10 + textLength a) (4096 - textLength a) a)) _ z) tidy;
+        encoded = store-back a size bytes few written z tidy;
         pass = rw (← same) (whole (leb (length (rowsFrom (packed.packedTables schema) n b)) 32 ∷ ascends (rowsFrom (packed.packedTables schema) n b) ∷ distinctIds (rowsFrom (packed.packedTables schema) n b) ∷ all (rowPasses canonicalFor (packed.packedTables schema)) (rowsFrom (packed.packedTables schema) n b) ∷ []) (ap (λ (k : ℕ). leb k 32) (rows-count (packed.packedTables schema) n b) ∙ le-leb n 32 few, (up, (apart, (rows-pass schema slim n b each, tt)))));
         few = few;
-        short = short;
         tidy = tidy;
-        rows = rows-are (tablesIn (textFrom a)) n b;
+        rows = rows-are (databaseIn a .tables) n b;
       }
 
 -- ── a store passes ──
@@ -137,65 +134,39 @@ module _ (st : Store) (tail : List ℕ) (f : Fits st) where
   abbrev area : List ℕ
   area = encodeStore st ++ tail
 
-  abbrev size : ℕ
-  size = length (st .schema)
-
   abbrev count : ℕ
   count = length (st .rows)
-
-  text-length : textLength area ≡ size
-  unfolding encodeStore
-  text-length = value-big-fits 2 size (omega (arith, f .short))
-
-  -- what stands behind the text
-  behind : List ℕ
-  behind = (count ∷ rowsBytes (st .rows) ++ replicate (625 * (32 - count)) 0) ++ tail
-
-  text-on : drop 10 area ≡ st .schema ++ (replicate (4096 - size) 0 ++ behind)
-  unfolding encodeStore behind
-  text-on =
-      append-assoc (st .schema ++ replicate (4096 - size) 0) (count ∷ rowsBytes (st .rows) ++ replicate (625 * (32 - count)) 0) tail
-      ∙ append-assoc (st .schema) (replicate (4096 - size) 0) behind
 
   zeros-zero : (k : ℕ) → zeros (replicate k 0) ≡ true
   zeros-zero k = all-same (λ (x : ℕ). eqb x 0) k 0 refl
 
-  text-rest : zeros (part (10 + size) (4096 - size) area) ≡ true
-  text-rest =
-      ap zeros
-      (ap (take (4096 - size)) (sym (drop-drop size 10 area) ∙ ap (drop size) text-on ∙ drop-at (st .schema) (replicate (4096 - size) 0 ++ behind) size refl)
-      ∙ take-at (replicate (4096 - size) 0) behind (4096 - size) (length-replicate (4096 - size) 0))
-      ∙ zeros-zero (4096 - size)
-
-  rows-rest : zeros (part (4107 + 625 * count) (625 * (32 - count)) area) ≡ true
+  rows-rest : zeros (part (rowsOffset + 625 * count) (625 * (32 - count)) area) ≡ true
   rows-rest =
       let z : List ℕ = replicate (625 * (32 - count)) 0 in
       ap zeros
       (ap (take (625 * (32 - count)))
-      (sym (drop-drop (625 * count) 4107 area) ∙ ap (drop (625 * count)) (read-rest st f tail) ∙ drop-at (rowsBytes (st .rows)) (z ++ tail) (625 * count) (rows-length (tablesIn (st .schema)) (st .rows) (f .rows)))
+      (sym (drop-drop (625 * count) rowsOffset area) ∙ ap (drop (625 * count)) (read-rest st f tail) ∙ drop-at (rowsBytes (st .rows)) (z ++ tail) (625 * count) (rows-length (st .database .tables) (st .rows) (f .rows)))
       ∙ take-at z tail (625 * (32 - count)) (length-replicate (625 * (32 - count)) 0))
       ∙ zeros-zero (625 * (32 - count))
 
   rest-is : restZero area ≡ true
   unfolding restZero
-  rest-is =
-      (λ j. zeros (part (10 + text-length j) (4096 - text-length j) area) && zeros (part (4107 + 625 * read-count st f tail j) (625 * (32 - read-count st f tail j)) area))
-      ∙ (λ j. text-rest j && rows-rest j)
+  rest-is = (λ j. zeros (part (rowsOffset + 625 * read-count st f tail j) (625 * (32 - read-count st f tail j)) area)) ∙ rows-rest
 
-  module _ (schema : List (List ℕ)) (slim : narrow (packed.packedTables schema) ≡ true) (same : packed.packedTables schema ≡ tablesIn (st .schema)) (bytes : all octet area ≡ true)
+  module _ (schema : List (List ℕ)) (slim : narrow (packed.packedTables schema) ≡ true) (same : packed.packedTables schema ≡ st .database .tables) (bytes : all octet area ≡ true)
       (pass : rowsPass canonicalFor (packed.packedTables schema) (st .rows) ≡ true) where
-    rows-are-good : rowsGood schema count (rowsIn count (drop 4107 area)) ≡ true
+    rows-are-good : rowsGood schema count (rowsIn count (drop rowsOffset area)) ≡ true
     unfolding rowsGood working rowsPass
     rows-are-good =
         let d = packed.packedTables schema in
         let rest = replicate (625 * (32 - count)) 0 ++ tail in
         let p = parts (leb count 32 ∷ ascends (st .rows) ∷ distinctIds (st .rows) ∷ all (rowPasses canonicalFor d) (st .rows) ∷ []) pass in
         let e = read-rest st f tail in
-        let o : all octet (rowsBytes (st .rows) ++ rest) ≡ true = ap (all octet) (sym e) ∙ all-drop octet 4107 area bytes in
+        let o : all octet (rowsBytes (st .rows) ++ rest) ≡ true = ap (all octet) (sym e) ∙ all-drop octet rowsOffset area bytes in
         let z : AllSized d (st .rows) = rw same (f .rows) in
         let g = rows-good schema slim (st .rows) rest z o (p .1 .1 .1 .0) in
         let l = ap (rowsIn count) e in
-        let t : take count (rowsIn count (drop 4107 area)) ≡ rowsIn count (rowsBytes (st .rows) ++ rest) = take-all count (rowsIn count (drop 4107 area)) (omega (arith, count-is count (drop 4107 area))) ∙ l in
+        let t : take count (rowsIn count (drop rowsOffset area)) ≡ rowsIn count (rowsBytes (st .rows) ++ rest) = take-all count (rowsIn count (drop rowsOffset area)) (omega (arith, count-is count (drop rowsOffset area))) ∙ l in
         (λ j. all (rowGood schema) (t j) && (ascends (map (rowFrom d) (t j)) && distinctIds (map (rowFrom d) (t j))))
         ∙ (λ j. g .0 j && (ascends (g .1 j) && distinctIds (g .1 j)))
         ∙ (λ j. p .1 .0 j && p .1 .1 .0 j)
@@ -204,5 +175,5 @@ module _ (st : Store) (tail : List ℕ) (f : Fits st) where
     unfolding partGood
     part-passes =
         let n = read-count st f tail in
-        (λ j. leb (text-length j) 4096 && (leb (n j) 32 && (rest-is j && rowsGood schema (n j) (rowsIn (n j) (drop 4107 area)))))
-        ∙ (λ j. le-leb size 4096 (f .short) j && (le-leb count 32 (f .few) j && rows-are-good j))
+        (λ j. leb (n j) 32 && (rest-is j && rowsGood schema (n j) (rowsIn (n j) (drop rowsOffset area))))
+        ∙ (λ j. le-leb count 32 (f .few) j && rows-are-good j)

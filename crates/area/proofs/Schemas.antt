@@ -9,16 +9,18 @@ use borrow.Author.Tests.{lt-ltb, le-ltb, lt-leb, le-leb}
 use lib.Dec.{eqb, ltb, leb}
 use lib.ListN.{length, getD, take, drop, length-map, drop-of-length-le}
 use lib.Seq.{drop-cons, drop-drop, getD-drop, take-all}
+use Rattle.model.specs.Limits.{rowsOffset}
 use Rattle.model.specs.Base.{all}
 use Rattle.model.specs.Schema.{Column, Schema, columnsOf}
-use Rattle.inner.specs.Packed.{columnFrom, tableFrom, tablesFrom, packedTables}
+use Rattle.model.specs.Catalog.{columnFrom, tableFrom, tablesFrom, packedTables}
 use Rattle.model.specs.Value.{Value, canonicalFor}
 use Rattle.model.specs.Records.{known}
 use Rattle.model.specs.Areas.{columnsFrom, rowFrom, valuesPass, rowPasses, ascends, distinctIds}
 use Rattle.inner.specs.Working.{working, tableIn, idIn, valueIn}
 use Rattle.model.proofs.Tests.{clash}
 use Rattle.area.proofs.Walks.{and-true}
-use Rattle.area.specs.Layout.{rowsIn, tidyFrom, canonicalFrom, columnCells, rowGood, rowsGood, textLength, rowCount, restZero, partGood, Judged}
+use Rattle.area.specs.Layout.{rowsIn, tidyFrom, canonicalFrom, rowGood, rowsGood, rowCount, restZero, partGood, Judged}
+use Rattle.catalog.specs.Entries.{columnCells}
 
 pub tables-count : (cells : List (List ℕ)) (t n : ℕ) → length (tablesFrom cells t n) ≡ n
 tables-count cells t zero = refl
@@ -162,26 +164,19 @@ rows-same schema n x y e l =
 -- ── the tests of the part of an area that stores and mirrors share, one after another ──
 module _ (schema : List (List ℕ)) (a : List ℕ) where
   abbrev rows-test : Bool
-  rows-test = rowsGood schema (rowCount a) (rowsIn (rowCount a) (drop 4107 a))
-
-  pub part-long : 4096 < textLength a → partGood schema a ≡ false
-  unfolding partGood
-  part-long h = ap (λ (b : Bool). b && (leb (rowCount a) 32 && (restZero a && rows-test))) (lt-leb (textLength a) 4096 h)
+  rows-test = rowsGood schema (rowCount a) (rowsIn (rowCount a) (drop rowsOffset a))
 
   pub part-many : 32 < rowCount a → partGood schema a ≡ false
   unfolding partGood
-  part-many h = ap (λ (b : Bool). leb (textLength a) 4096 && (b && (restZero a && rows-test))) (lt-leb (rowCount a) 32 h) ∙ and-false (leb (textLength a) 4096)
+  part-many h = ap (λ (b : Bool). b && (restZero a && rows-test)) (lt-leb (rowCount a) 32 h)
 
   pub part-rest : restZero a ≡ false → partGood schema a ≡ false
   unfolding partGood
-  part-rest h =
-      ap (λ (b : Bool). leb (textLength a) 4096 && (leb (rowCount a) 32 && (b && rows-test))) h
-      ∙ ap (λ (b : Bool). leb (textLength a) 4096 && b) (and-false (leb (rowCount a) 32))
-      ∙ and-false (leb (textLength a) 4096)
+  part-rest h = ap (λ (b : Bool). leb (rowCount a) 32 && (b && rows-test)) h ∙ and-false (leb (rowCount a) 32)
 
-  pub part-rows : textLength a ≤ 4096 → rowCount a ≤ 32 → restZero a ≡ true → partGood schema a ≡ rows-test
+  pub part-rows : rowCount a ≤ 32 → restZero a ≡ true → partGood schema a ≡ rows-test
   unfolding partGood
-  part-rows h g z = λ j. le-leb (textLength a) 4096 h j && (le-leb (rowCount a) 32 g j && (z j && rows-test))
+  part-rows g z = λ j. le-leb (rowCount a) 32 g j && (z j && rows-test)
 
   pub judged-no : (cells : List (List (List ℕ))) → partGood schema a ≡ false → Judged a schema cells false
   judged-no cells e = record { good = sym e; rows = λ q. absurd (clash false q refl) }

@@ -9,20 +9,24 @@ use borrow.Author.Tests.{leb-true, lt-ltb}
 use lib.Dec.{eqb, leb, ltb}
 use lib.ListN.{length, getD, take, drop, length-take, length-drop, take-append-drop, drop-of-length-le}
 use lib.Seq.{drop-at, drop-drop, drop-cons, take-all, getD-drop, length-take-le}
+use Rattle.model.specs.Limits.{countOffset, rowsOffset, storeBytes, mirrorBytes}
+use Rattle.model.specs.Schema.{Database}
 use Rattle.model.specs.Octets.{big, value, part, eqBytes}
-use Rattle.model.specs.Base.{all, every, isSome}
-use Rattle.inner.specs.Packed as packed
+use Rattle.model.specs.Base.{all, every, eqLists}
+use Rattle.model.specs.Catalog as packed
 use Rattle.model.specs.Value.{canonicalFor, meets}
-use Rattle.model.specs.SchemaText.{readSchema}
+use Rattle.model.specs.Sane.{sane}
 use Rattle.model.specs.Commit.{lawful}
-use Rattle.model.specs.Areas.{textFrom, tablesIn, Store, encodeStore, decodeStore, MirrorState, bit, storePart, encodeMirror, decodeMirror, rowsPass, headTests, stateOf, storeGood, storeOf, mirrorTests, mirrorGood, mirrorOf}
-use Rattle.model.proofs.Tests.{split, clash, and-l, and-r, parts, whole, bytes-self, bytes-same}
+use Rattle.model.specs.Areas.{Store, encodeStore, entriesIn, databaseIn, decodeStore, MirrorState, storePart, encodeMirror, decodeMirror, rowsPass, headTests, stateOf, storeGood, storeOf, mirrorTests, mirrorGood, mirrorOf}
+use Rattle.model.specs.Catalog.{bit}
+use Rattle.model.proofs.Tests.{split, clash, and-l, and-r, parts, whole, bytes-self, bytes-same, lists-self, lists-same}
 use Rattle.model.proofs.Lists.{all-take, all-drop}
 use Rattle.model.proofs.Octets.{octet, part-lt, big-value}
 use Rattle.model.proofs.GoodOrder.{meets-pass}
-use Rattle.model.proofs.Accepted.{narrow, text-kept, text-short}
-use Rattle.model.proofs.Areas.{Fits, pass-fits, store-length, mirror-length, store-of-encode, store-of-length}
-use Rattle.area.specs.Layout.{textLength, partGood}
+use Rattle.model.proofs.Accepted.{narrow, sane-kept}
+use Rattle.model.proofs.Areas.{Fits, pass-fits, read-catalog, store-length, mirror-length, store-of-encode, store-of-length}
+use Rattle.catalog.specs.Accepted.{isAccepted}
+use Rattle.area.specs.Layout.{partGood}
 use Rattle.area.specs.Writing.{topIn, numberIn, tailGood, when}
 use Rattle.area.proofs.Good.{Holds, part-holds, part-passes}
 
@@ -76,36 +80,46 @@ own-back b l o h w =
     drop-cons b 4 0 (omega arith) ∙ ap (λ (q : List ℕ). getD b 4 0 ∷ q) (drop-cons b 5 0 (omega arith) ∙ ap (λ (q : List ℕ). getD b 5 0 ∷ q) (drop-of-length-le b {i = 6} (omega arith))) in
     (λ j. x j ++ y j ∷ z j ∷ []) ∙ ap (λ (q : List ℕ). take 4 b ++ q) (sym d) ∙ take-append-drop 4 b
 
--- an area whose schema's text is accepted and lies in cells
-module _ (schema : List (List ℕ)) (a : List ℕ) (size : 24107 ≤ length a) (bytes : all octet a ≡ true) (same : packed.packedTables schema ≡ tablesIn (textFrom a))
-    (accepted : isSome (readSchema (textFrom a)) ≡ true) where
+-- an area whose catalog is accepted
+module _ (schema : List (List ℕ)) (a : List ℕ) (size : storeBytes ≤ length a) (bytes : all octet a ≡ true) (there : schema ≡ entriesIn a) (accepted : isAccepted schema ≡ true) where
+  same : packed.packedTables schema ≡ databaseIn a .tables
+  same = ap packed.packedTables there
+
+  sound : sane (databaseIn a) ≡ true
+  unfolding isAccepted
+  sound = ap (λ (l : List (List ℕ)). sane (packed.databaseFrom l)) (sym there) ∙ and-r (eqLists (packed.catalogOf (packed.databaseFrom schema)) schema) (sane (packed.databaseFrom schema)) accepted
+
+  written : packed.catalogOf (databaseIn a) ≡ entriesIn a
+  unfolding isAccepted
+  written = lists-same (packed.catalogOf (databaseIn a)) (entriesIn a) (ap (λ (l : List (List ℕ)). eqLists (packed.catalogOf (packed.databaseFrom l)) l) (sym there) ∙ and-l (eqLists (packed.catalogOf (packed.databaseFrom schema)) schema) (sane (packed.databaseFrom schema)) accepted)
+
   slim : narrow (packed.packedTables schema) ≡ true
-  slim = rw same (text-kept (textFrom a) .narrow)
+  slim = rw same (sane-kept (databaseIn a) sound .narrow)
 
   number-fits : (at : ℕ) → ltb (value (part at 4 a)) (256 ^ 4) ≡ true
   number-fits at = lt-ltb (value (part at 4 a)) (256 ^ 4) (part-lt at 4 a bytes)
 
   head-passes : every (headTests (decodeStore a)) ≡ true
   unfolding decodeStore
-  head-passes = whole (headTests (decodeStore a)) (accepted, (number-fits 0, (number-fits 4, tt)))
+  head-passes = whole (headTests (decodeStore a)) (sound, (number-fits 0, (number-fits 4, tt)))
 
-  holds : partGood schema a ≡ true → Holds a
-  holds = part-holds schema a size bytes same slim
+  pub part-passed : partGood schema a ≡ true → Holds a
+  part-passed = part-holds schema a size bytes same written slim
 
   -- the other way round
-  module _ (st : Store) (tail : List ℕ) (e : encodeStore st ++ tail ≡ a) (t : st .schema ≡ textFrom a) (f : Fits st) (p : rowsPass canonicalFor (tablesIn (st .schema)) (st .rows) ≡ true) where
+  module _ (st : Store) (tail : List ℕ) (e : encodeStore st ++ tail ≡ a) (t : st .database ≡ databaseIn a) (f : Fits st) (p : rowsPass canonicalFor (st .database .tables) (st .rows) ≡ true) where
     passes : partGood schema a ≡ true
     passes =
-        let q : packed.packedTables schema ≡ tablesIn (st .schema) = same ∙ ap tablesIn (sym t) in
+        let q : packed.packedTables schema ≡ st .database .tables = same ∙ ap (λ (d : Database). d .tables) (sym t) in
         rw (← e) (part-passes st tail f schema slim q (rw e bytes) (rw q p))
 
   -- ── a store ──
-  module _ (long : length a ≡ 24107) where
+  module _ (long : length a ≡ storeBytes) where
     -- "Good order, for a store": the tests of its bytes, that values meet their types, and the commit rules
-    pub store-is : storeOf a ≡ when (partGood schema a && (rowsPass meets (tablesIn (textFrom a)) (decodeStore a .rows) && lawful (tablesIn (textFrom a)) (decodeStore a .rows))) (decodeStore a)
+    pub store-is : storeOf a ≡ when (partGood schema a && (rowsPass meets (databaseIn a .tables) (decodeStore a .rows) && lawful (databaseIn a .tables) (decodeStore a .rows))) (decodeStore a)
     unfolding storeOf storeGood decodeStore
     store-is =
-        let d = tablesIn (textFrom a) in
+        let d = databaseIn a .tables in
         let rows = decodeStore a .rows in
         let m = rowsPass meets d rows in
         let l = lawful d rows in
@@ -113,7 +127,7 @@ module _ (schema : List (List ℕ)) (a : List ℕ) (size : 24107 ≤ length a) (
         state-when encodeStore decodeStore storeGood a (partGood schema a && (m && l))
         (λ h.
         let r = and-r (partGood schema a) (m && l) h in
-        (holds (and-l (partGood schema a) (m && l) h) .encoded ∙ take-all 24107 a (omega arith), and-true (heads && m) l (and-true heads m head-passes (and-l m l r)) (and-r m l r)))
+        (part-passed (and-l (partGood schema a) (m && l) h) .encoded ∙ take-all storeBytes a (omega arith), and-true (heads && m) l (and-true heads m head-passes (and-l m l r)) (and-r m l r)))
         (λ e g.
         let x = and-l (heads && m) l g in
         let y = meets-pass d rows (and-r heads m x) in
@@ -121,9 +135,9 @@ module _ (schema : List (List ℕ)) (a : List ℕ) (size : 24107 ≤ length a) (
         and-true (partGood schema a) (m && l) p (and-true m l (and-r heads m x) (and-r (heads && m) l g)))
 
   -- ── a mirror ──
-  module _ (long : length a ≡ 24113) where
+  module _ (long : length a ≡ mirrorBytes) where
     abbrev b : List ℕ
-    b = drop 24107 a
+    b = drop storeBytes a
 
     abbrev heard : ℕ
     heard = getD b 4 0
@@ -147,8 +161,8 @@ module _ (schema : List (List ℕ)) (a : List ℕ) (size : 24107 ≤ length a) (
     tail-is : tailGood a ≡ (flags && counts && quiet && whole-zero)
     unfolding tailGood
     tail-is =
-        let x = sym (getD-drop 24107 a 4 0) in
-        let y = sym (getD-drop 24107 a 5 0) in
+        let x = sym (getD-drop storeBytes a 4 0) in
+        let y = sym (getD-drop storeBytes a 5 0) in
         λ j. leb (x j) 1 && leb (y j) 1 && counts && (eqb (x j) 1 || eqb (topIn a) 0) && (eqb (y j) 1 || not (eqb (numberIn a) 0))
 
     own-passes : every (mirrorTests (decodeMirror a .mirror)) ≡ true → flags ≡ true → tailGood a ≡ true
@@ -163,7 +177,7 @@ module _ (schema : List (List ℕ)) (a : List ℕ) (size : 24107 ≤ length a) (
         let t : (flags && counts && quiet && whole-zero) ≡ true = sym tail-is ∙ h in
         let u = and-l (flags && counts && quiet) whole-zero t in
         let v = and-l (flags && counts) quiet u in
-        (whole (mirrorTests (decodeMirror a .mirror)) (number-fits 24107, (and-r flags counts v, (and-r (flags && counts) quiet u, (and-r (flags && counts && quiet) whole-zero t, tt)))), and-l flags counts v)
+        (whole (mirrorTests (decodeMirror a .mirror)) (number-fits storeBytes, (and-r flags counts v, (and-r (flags && counts) quiet u, (and-r (flags && counts && quiet) whole-zero t, tt)))), and-l flags counts v)
 
     part-is : storePart (decodeMirror a) ≡ decodeStore a
     unfolding decodeMirror
@@ -177,12 +191,12 @@ module _ (schema : List (List ℕ)) (a : List ℕ) (size : 24107 ≤ length a) (
     flags-are : encodeMirror (decodeMirror a) ≡ a → Fits (decodeStore a) → flags ≡ true
     unfolding own
     flags-are e f =
-        let d : own b ≡ b = sym (drop-at (encodeStore (decodeStore a)) (own b) 24107 (store-length (decodeStore a) f)) ∙ ap (drop 24107) (sym own-is ∙ e) in
+        let d : own b ≡ b = sym (drop-at (encodeStore (decodeStore a)) (own b) storeBytes (store-length (decodeStore a) f)) ∙ ap (drop storeBytes) (sym own-is ∙ e) in
         and-true (leb heard 1) (leb ends 1)
         (ap (λ (q : List ℕ). leb (getD q 4 0) 1) (sym d) ∙ bit-small (eqb heard 1))
         (ap (λ (q : List ℕ). leb (getD q 5 0) 1) (sym d) ∙ bit-small (eqb ends 1))
 
-    text-is : decodeStore a .schema ≡ textFrom a
+    text-is : decodeStore a .database ≡ databaseIn a
     unfolding decodeStore
     text-is = refl
 
@@ -190,18 +204,18 @@ module _ (schema : List (List ℕ)) (a : List ℕ) (size : 24107 ≤ length a) (
     unfolding mirrorGood decodeMirror decodeStore
     good k q =
         let heads = every (headTests (decodeStore a)) in
-        let rows = rowsPass canonicalFor (tablesIn (textFrom a)) (decodeStore a .rows) in
+        let rows = rowsPass canonicalFor (databaseIn a .tables) (decodeStore a .rows) in
         and-true (heads && rows) (every (mirrorTests (decodeMirror a .mirror))) (and-true heads rows head-passes (k .pass)) q
 
     own-of : mirrorGood (decodeMirror a) ≡ true → every (mirrorTests (decodeMirror a .mirror)) ≡ true
     unfolding mirrorGood
-    own-of g = and-r (every (headTests (storePart (decodeMirror a))) && rowsPass canonicalFor (tablesIn (decodeMirror a .schema)) (decodeMirror a .mirror .rows)) (every (mirrorTests (decodeMirror a .mirror))) g
+    own-of g = and-r (every (headTests (storePart (decodeMirror a))) && rowsPass canonicalFor (decodeMirror a .database .tables) (decodeMirror a .mirror .rows)) (every (mirrorTests (decodeMirror a .mirror))) g
 
-    rows-of : mirrorGood (decodeMirror a) ≡ true → rowsPass canonicalFor (tablesIn (decodeStore a .schema)) (decodeStore a .rows) ≡ true
+    rows-of : mirrorGood (decodeMirror a) ≡ true → rowsPass canonicalFor (decodeStore a .database .tables) (decodeStore a .rows) ≡ true
     unfolding mirrorGood decodeMirror
     rows-of g =
         let heads = every (headTests (storePart (decodeMirror a))) in
-        let rows = rowsPass canonicalFor (tablesIn (decodeMirror a .schema)) (decodeMirror a .mirror .rows) in
+        let rows = rowsPass canonicalFor (decodeMirror a .database .tables) (decodeMirror a .mirror .rows) in
         and-r heads rows (and-l (heads && rows) (every (mirrorTests (decodeMirror a .mirror))) g)
 
     -- "For a mirror: the same of schema and ids, values canonical, n at most the highest heard"
@@ -210,9 +224,9 @@ module _ (schema : List (List ℕ)) (a : List ℕ) (size : 24107 ≤ length a) (
     mirror-is =
         state-when encodeMirror decodeMirror mirrorGood a (partGood schema a && tailGood a)
         (λ h.
-        let k = holds (and-l (partGood schema a) (tailGood a) h) in
+        let k = part-passed (and-l (partGood schema a) (tailGood a) h) in
         let q = passes-own (and-r (partGood schema a) (tailGood a) h) in (
-          own-is ∙ (λ j. k .encoded j ++ own-back b (omega (arith, length-drop 24107 a)) (all-drop octet 24107 a bytes) (and-l (leb heard 1) (leb ends 1) (q .1)) (and-r (leb heard 1) (leb ends 1) (q .1)) j) ∙ take-append-drop 24107 a,
+          own-is ∙ (λ j. k .encoded j ++ own-back b (omega (arith, length-drop storeBytes a)) (all-drop octet storeBytes a bytes) (and-l (leb heard 1) (leb ends 1) (q .1)) (and-r (leb heard 1) (leb ends 1) (q .1)) j) ∙ take-append-drop storeBytes a,
           good k (q .0),
         ))
         (λ e g.
@@ -231,42 +245,41 @@ module _ (a : List ℕ) where
   unfolding mirrorGood decodeMirror
   mirror-fits g =
       let heads = every (headTests (decodeStore a)) in
-      let rows = rowsPass canonicalFor (tablesIn (decodeStore a .schema)) (decodeStore a .rows) in
+      let rows = rowsPass canonicalFor (decodeStore a .database .tables) (decodeStore a .rows) in
       let x = and-l (heads && rows) (every (mirrorTests (decodeMirror a .mirror))) g in
       pass-fits (decodeStore a) (and-l heads rows x) (and-r heads rows x)
 
-  mirror-accepted : mirrorGood (decodeMirror a) ≡ true → isSome (readSchema (textFrom a)) ≡ true
-  unfolding mirrorGood decodeMirror decodeStore
-  mirror-accepted g =
+  -- an area that is the encoding of a store whose catalog keeps the rules has an accepted catalog
+  encoded-accepted : (tail : List ℕ) → Fits (decodeStore a) → encodeStore (decodeStore a) ++ tail ≡ a → isAccepted (entriesIn a) ≡ true
+  unfolding isAccepted decodeStore
+  encoded-accepted tail f e =
+      let c : packed.catalogOf (databaseIn a) ≡ entriesIn a = sym (read-catalog (decodeStore a) f tail) ∙ ap entriesIn e in
+      rw (ap (λ (l : List (List ℕ)). eqLists l (entriesIn a)) c ∙ lists-self (entriesIn a), f .accepted)
+
+  mirror-accepted : encodeMirror (decodeMirror a) ≡ a → mirrorGood (decodeMirror a) ≡ true → isAccepted (entriesIn a) ≡ true
+  unfolding encodeMirror decodeMirror
+  mirror-accepted e g = encoded-accepted _ (mirror-fits g) e
+
+  store-fits : storeGood (decodeStore a) ≡ true → Fits (decodeStore a)
+  unfolding storeGood
+  store-fits g =
       let heads = every (headTests (decodeStore a)) in
-      let rows = rowsPass canonicalFor (tablesIn (decodeStore a .schema)) (decodeStore a .rows) in
-      parts (headTests (decodeStore a)) (and-l heads rows (and-l (heads && rows) (every (mirrorTests (decodeMirror a .mirror))) g)) .0
+      let rows = rowsPass meets (decodeStore a .database .tables) (decodeStore a .rows) in
+      let x = and-l (heads && rows) (lawful (decodeStore a .database .tables) (decodeStore a .rows)) g in
+      pass-fits (decodeStore a) (and-l heads rows x) (meets-pass (decodeStore a .database .tables) (decodeStore a .rows) (and-r heads rows x))
 
-  store-accepted : storeGood (decodeStore a) ≡ true → isSome (readSchema (textFrom a)) ≡ true
-  unfolding storeGood decodeStore
-  store-accepted g =
-      let heads = every (headTests (decodeStore a)) in
-      let rows = rowsPass meets (tablesIn (decodeStore a .schema)) (decodeStore a .rows) in
-      parts (headTests (decodeStore a)) (and-l heads rows (and-l (heads && rows) (lawful (tablesIn (decodeStore a .schema)) (decodeStore a .rows)) g)) .0
-
-  -- a text of more bytes than a schema has is refused
-  pub long-refused : 24107 ≤ length a → 4096 < textLength a → isSome (readSchema (textFrom a)) ≡ false
-  long-refused size h = split (isSome (readSchema (textFrom a)))
-      (λ e. absurd (omega (arith, text-short (textFrom a) e, length-take (textLength a) (drop 10 a), length-drop 10 a)))
-      (λ e. e)
-
-  pub mirror-refused : isSome (readSchema (textFrom a)) ≡ false → mirrorOf a ≡ none
+  pub mirror-refused : isAccepted (entriesIn a) ≡ false → mirrorOf a ≡ none
   unfolding mirrorOf
-  mirror-refused h = state-none encodeMirror decodeMirror mirrorGood a (λ e g. clash (isSome (readSchema (textFrom a))) (mirror-accepted g) h)
+  mirror-refused h = state-none encodeMirror decodeMirror mirrorGood a (λ e g. clash (isAccepted (entriesIn a)) (mirror-accepted e g) h)
 
-  pub store-refused : isSome (readSchema (textFrom a)) ≡ false → storeOf a ≡ none
+  pub store-refused : isAccepted (entriesIn a) ≡ false → storeOf a ≡ none
   unfolding storeOf
-  store-refused h = state-none encodeStore decodeStore storeGood a (λ e g. clash (isSome (readSchema (textFrom a))) (store-accepted g) h)
+  store-refused h = state-none encodeStore decodeStore storeGood a (λ e g. clash (isAccepted (entriesIn a)) (encoded-accepted [] (store-fits g) (append-nil (encodeStore (decodeStore a)) ∙ e)) h)
 
-  pub mirror-other : (length a ≡ 24113 → ⊥) → mirrorOf a ≡ none
+  pub mirror-other : (length a ≡ mirrorBytes → ⊥) → mirrorOf a ≡ none
   unfolding mirrorOf decodeMirror
   mirror-other h = state-none encodeMirror decodeMirror mirrorGood a (λ e g. h (ap length (sym e) ∙ mirror-length (decodeMirror a) (mirror-fits g)))
 
-  pub store-other : (length a ≡ 24107 → ⊥) → storeOf a ≡ none
+  pub store-other : (length a ≡ storeBytes → ⊥) → storeOf a ≡ none
   unfolding storeOf
   store-other h = state-none encodeStore decodeStore storeGood a (λ e g. h (ap length (sym e) ∙ store-of-length (encodeStore (decodeStore a)) (decodeStore a) (store-of-encode (decodeStore a) g)))

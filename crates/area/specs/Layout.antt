@@ -5,13 +5,14 @@ use mathlib.Core.Bool.{Bool, true, _&&_}
 use mathlib.Core.List.{List, [], _∷_, _++_, map}
 use lib.Dec.{leb}
 use lib.ListN.{length, getD, take, drop}
-use Rattle.model.specs.Octets.{value, part}
+use Rattle.model.specs.Octets.{part}
 use Rattle.model.specs.Base.{all, flat}
+use Rattle.model.specs.Limits.{mostRows, mostElements, countsOffset, rowCellCount, rowBytes, countOffset, rowsOffset}
 use Rattle.model.specs.Schema.{columnsOf}
-use Rattle.inner.specs.Packed.{columnFrom, packedTables}
+use Rattle.model.specs.Catalog.{columnFrom, packedTables}
 use Rattle.model.specs.Value.{zeros, canonicalFor}
 use Rattle.model.specs.Records.{cut}
-use Rattle.model.specs.Areas.{rowCellCount, rowBytes, rowFrom, rowPasses, ascends, distinctIds}
+use Rattle.model.specs.Areas.{rowFrom, rowPasses, ascends, distinctIds}
 use Rattle.inner.specs.Working.{working, tableIn, valueIn}
 
 -- n rows, one after another
@@ -26,26 +27,17 @@ bytesOf (r ∷ rs) = flat r ++ bytesOf rs
 
 -- "unused bytes zero" of a row with k columns: its other counts and cells
 unfoldable pub tidyFrom : ℕ → List (List ℕ) → Bool
-tidyFrom k cells = zeros (drop (17 + k) (getD cells 0 [])) && all zeros (drop (1 + 4 * k) cells)
+tidyFrom k cells = zeros (drop (countsOffset + k) (getD cells 0 [])) && all zeros (drop (1 + mostElements * k) cells)
 
 -- n rows written to the front of a buffer
 pub record Rows (n : ℕ) (rows : List (List (List ℕ))) (entry exit : List ℕ) : Type 0 where
-  pub bytes : exit ≡ bytesOf (take n rows) ++ drop (625 * n) entry
-  pub size : length (bytesOf (take n rows)) ≡ 625 * n
+  pub bytes : exit ≡ bytesOf (take n rows) ++ drop (rowBytes * n) entry
+  pub size : length (bytesOf (take n rows)) ≡ rowBytes * n
 
 -- the columns from c on are in canonical form, by their cells of a schema
 abbrev pub canonicalFrom : ℕ → List (List ℕ) → List (List ℕ) → Bool
 canonicalFrom c [] row = true
 canonicalFrom c (cell ∷ cells) row = canonicalFor (columnFrom cell) (valueIn c row) && canonicalFrom (suc c) cells row
-
--- the cells of a table's columns
-abbrev pub columnCells : List (List ℕ) → ℕ → List (List ℕ)
-columnCells schema t = take (getD (getD schema (1 + t) []) 25 0) (drop (5 + 6 * t) schema)
-
--- "tables; columns in a table | 4; 6"
-pub record Sized (schema : List (List ℕ)) : Type 0 where
-  pub tables : getD (getD schema 0 []) 25 0 ≤ 4
-  pub columns : (t : ℕ) → t < 4 → getD (getD schema (1 + t) []) 25 0 ≤ 6
 
 -- a row passes the tests of good order, and its unused bytes are zero
 unfoldable pub rowGood : List (List ℕ) → List (List ℕ) → Bool
@@ -58,20 +50,17 @@ rowsGood schema n rows =
     all (rowGood schema) (take n rows) && (ascends (working (packedTables schema) n rows) && distinctIds (working (packedTables schema) n rows))
 
 -- ── the part of an area that stores and mirrors share ──
-abbrev pub textLength : List ℕ → ℕ
-textLength a = value (part 8 2 a)
-
 abbrev pub rowCount : List ℕ → ℕ
-rowCount a = getD a 4106 0
+rowCount a = getD a countOffset 0
 
--- "unused bytes zero" behind the text and behind the rows
+-- "unused bytes zero" behind the rows
 unfoldable pub restZero : List ℕ → Bool
-restZero a = zeros (part (10 + textLength a) (4096 - textLength a) a) && zeros (part (4107 + 625 * rowCount a) (625 * (32 - rowCount a)) a)
+restZero a = zeros (part (rowsOffset + rowBytes * rowCount a) (rowBytes * (mostRows - rowCount a)) a)
 
--- it is in good order, by the cells of its schema
+-- its rows are in good order, by its catalog
 unfoldable pub partGood : List (List ℕ) → List ℕ → Bool
-partGood schema a = leb (textLength a) 4096 && (leb (rowCount a) 32 && (restZero a && rowsGood schema (rowCount a) (rowsIn (rowCount a) (drop 4107 a))))
+partGood schema a = leb (rowCount a) mostRows && (restZero a && rowsGood schema (rowCount a) (rowsIn (rowCount a) (drop rowsOffset a)))
 
 pub record Judged (a : List ℕ) (schema : List (List ℕ)) (cells : List (List (List ℕ))) (r : Bool) : Type 0 where
   pub good : r ≡ partGood schema a
-  pub rows : r ≡ true → take (rowCount a) cells ≡ rowsIn (rowCount a) (drop 4107 a)
+  pub rows : r ≡ true → take (rowCount a) cells ≡ rowsIn (rowCount a) (drop rowsOffset a)

@@ -1,29 +1,53 @@
 // The areas of a store and a mirror: rows read and written, and what an area leaves unused.
+use model::ATOM;
+use model::Atom;
+use model::CATALOG_OFFSET;
+use model::CELLS;
+use model::COUNT_OFFSET;
+use model::COUNTS_OFFSET;
+use model::Catalog;
+use model::ELEMENTS;
+use model::ENTRIES;
+use model::ENTRY;
+use model::Entry;
+use model::HEARD_OFFSET;
+use model::NUMBER;
+use model::NUMBER_OFFSET;
+use model::ROW_BYTES;
+use model::ROWS;
+use model::ROWS_OFFSET;
+use model::RUN_OFFSET;
+use model::Row;
+use model::STORE_BYTES;
+use model::TOP_OFFSET;
+use model::WHOLE_OFFSET;
 ghost use mathlib.Core.Path.{_≡_};
 ghost use mathlib.Core.Bool.{_&&_};
 ghost use mathlib.Core.List.{List, [], _∷_, _++_};
 ghost use Prim.Native.Nat.{ℕ, _+_, _*_, _-_, _≤_, _<_};
 ghost use lib.ListN.{length, take, drop, getD, replicate};
 ghost use Rattle.model.specs.Octets.{big, value, part};
+ghost use Rattle.model.specs.Limits.{mostColumns, mostRows, atomBytes, numberBytes, rowCellCount, rowBytes, entryBytes, entryCount, catalogBytes, runOffset, numberOffset, countOffset, rowsOffset, storeBytes, topOffset, mirrorBytes};
 ghost use Rattle.model.specs.Base.{all, flat};
+ghost use Rattle.model.specs.Schema.{Schema, Database};
 ghost use Rattle.model.specs.Rows.{hasId};
-ghost use Rattle.inner.specs.Packed.{columnFrom};
 ghost use Rattle.model.specs.Value.{zeros, canonicalFor};
-ghost use Rattle.model.specs.Schema.{Schema};
 ghost use Rattle.model.specs.Records.{cut};
-ghost use Rattle.model.specs.Areas.{ascends, distinctIds, bit, textBytes, encodeStore};
+ghost use Rattle.model.specs.Catalog.{columnFrom, catalogOf};
+ghost use Rattle.model.specs.Areas.{ascends, distinctIds, encodeStore, entriesIn};
 ghost use Rattle.inner.specs.Working.{working, idIn, valueIn, Tidy};
-ghost use Rattle.area.specs.Layout.{rowsIn, Rows, tidyFrom, canonicalFrom, columnCells, Sized, rowGood, rowsGood, Judged};
+ghost use Rattle.catalog.specs.Accepted.{Accepted};
+ghost use Rattle.area.specs.Layout.{rowsIn, Rows, tidyFrom, canonicalFrom, rowGood, rowsGood, Judged};
 ghost use Rattle.area.specs.Writing.{tailGood, tailBytes, placed, rowsPart, storeIn};
 
 // A cell in an area.
-fn cell_at(area: &[u8], at: usize) -> [u8; 25]
-    requires { ⌜ at + 25 ≤ length (now area) ⌝ }
-    ensures { λ r. ⌜ r ≡ part at 25 (now (area .entry)) ⌝ }
+fn cell_at(area: &[u8], at: usize) -> Atom
+    requires { ⌜ at + atomBytes ≤ length (now area) ⌝ }
+    ensures { λ r. ⌜ r ≡ part at atomBytes (now (area .entry)) ⌝ }
 {
-    let mut cell = [0u8; 25];
+    let mut cell = [0u8; ATOM];
     let mut k = 0;
-    while k < 25 {
+    while k < ATOM {
         cell[k] = area[at + k];
         k += 1;
     }
@@ -31,14 +55,14 @@ fn cell_at(area: &[u8], at: usize) -> [u8; 25]
 }
 
 // A row in an area.
-fn row_at(area: &[u8], at: usize) -> [[u8; 25]; 25]
-    requires { ⌜ at + 625 ≤ length (now area) ⌝ }
-    ensures { λ r. ⌜ r ≡ cut 25 (drop at (now (area .entry))) ⌝ }
+fn row_at(area: &[u8], at: usize) -> Row
+    requires { ⌜ at + rowBytes ≤ length (now area) ⌝ }
+    ensures { λ r. ⌜ r ≡ cut rowCellCount (drop at (now (area .entry))) ⌝ }
 {
-    let mut row = [[0u8; 25]; 25];
+    let mut row = [[0u8; ATOM]; CELLS];
     let mut j = 0;
-    while j < 25 {
-        let cell = cell_at(area, at + 25 * j);
+    while j < CELLS {
+        let cell = cell_at(area, at + ATOM * j);
         row[j] = cell;
         j += 1;
     }
@@ -46,40 +70,40 @@ fn row_at(area: &[u8], at: usize) -> [[u8; 25]; 25]
 }
 
 // The rows of an area, read from a place on.
-pub fn read_rows(area: &[u8], at: usize, rows: &mut [[[u8; 25]; 25]], n: usize)
-    requires { ⌜ (at + 625 * n ≤ length (now area)) × (n ≤ length (now rows)) ⌝ }
+pub fn read_rows(area: &[u8], at: usize, rows: &mut [Row], n: usize)
+    requires { ⌜ (at + rowBytes * n ≤ length (now area)) × (n ≤ length (now rows)) ⌝ }
     ensures { λ _. ⌜ take n (now (rows .exit)) ≡ rowsIn n (drop at (now (area .entry))) ⌝ }
 {
     let mut i = 0;
     while i < n {
-        let row = row_at(area, at + 625 * i);
+        let row = row_at(area, at + ROW_BYTES * i);
         rows[i] = row;
         i += 1;
     }
 }
 
 // A row written to the front of a buffer.
-fn put_row(out: &mut [u8], row: &[[u8; 25]])
-    requires { ⌜ (length (now row) ≡ 25) × (625 ≤ length (now out)) ⌝ }
-    ensures { λ _. ⌜ (now (out .exit) ≡ flat (now (row .entry)) ++ drop 625 (now (out .entry))) × (length (flat (now (row .entry))) ≡ 625) ⌝ }
+fn put_row(out: &mut [u8], row: &[Atom])
+    requires { ⌜ (length (now row) ≡ rowCellCount) × (rowBytes ≤ length (now out)) ⌝ }
+    ensures { λ _. ⌜ (now (out .exit) ≡ flat (now (row .entry)) ++ drop rowBytes (now (out .entry))) × (length (flat (now (row .entry))) ≡ rowBytes) ⌝ }
 {
     let mut j = 0;
-    while j < 25 {
+    while j < CELLS {
         let cell = &row[j];
-        octets::put_bytes(&mut out[25 * j..], &cell[..]);
+        octets::put_bytes(&mut out[ATOM * j..], &cell[..]);
         j += 1;
     }
 }
 
 // Rows written to the front of a buffer, one after another.
-fn put_rows(out: &mut [u8], rows: &[[[u8; 25]; 25]], n: usize)
-    requires { ⌜ (n ≤ length (now rows)) × (625 * n ≤ length (now out)) ⌝ }
+fn put_rows(out: &mut [u8], rows: &[Row], n: usize)
+    requires { ⌜ (n ≤ length (now rows)) × (rowBytes * n ≤ length (now out)) ⌝ }
     ensures { λ _. ⌜ Rows n (now (rows .entry)) (now (out .entry)) (now (out .exit)) ⌝ }
 {
     let mut i = 0;
     while i < n {
         let row = &rows[i];
-        put_row(&mut out[625 * i..], &row[..]);
+        put_row(&mut out[ROW_BYTES * i..], &row[..]);
         i += 1;
     }
 }
@@ -98,7 +122,7 @@ pub fn zeros_from(area: &[u8], at: usize) -> bool
 }
 
 // Whether cells from a place on are zero.
-fn blank_cells(cells: &[[u8; 25]], at: usize) -> bool
+fn blank_cells(cells: &[Atom], at: usize) -> bool
     requires { ⌜ at ≤ length (now cells) ⌝ }
     ensures { λ r. ⌜ r ≡ all zeros (drop at (now (cells .entry))) ⌝ }
 {
@@ -113,18 +137,18 @@ fn blank_cells(cells: &[[u8; 25]], at: usize) -> bool
 }
 
 // Whether a row with k columns leaves its other counts and cells zero.
-pub fn tidy_row(row: &[[u8; 25]; 25], k: usize) -> bool
-    requires { ⌜ k ≤ 6 ⌝ }
+pub fn tidy_row(row: &Row, k: usize) -> bool
+    requires { ⌜ k ≤ mostColumns ⌝ }
     ensures { λ r. ⌜ r ≡ tidyFrom k (now (row .entry)) ⌝ }
 {
-    if !atom::blank_from(&row[0], 17 + k) {
+    if !atom::blank_from(&row[0], COUNTS_OFFSET + k) {
         return false;
     }
-    blank_cells(&row[..], 1 + 4 * k)
+    blank_cells(&row[..], 1 + ELEMENTS * k)
 }
 
 // Whether rows are in the order of their keys.
-pub fn ascending(rows: &[[[u8; 25]; 25]], n: usize) -> bool
+pub fn ascending(rows: &[Row], n: usize) -> bool
     requires { ⌜ n ≤ length (now rows) ⌝ }
     ensures { λ r. ⌜ ((s : Schema) → r ≡ ascends (working s n (now (rows .entry)))) ⌝ }
 {
@@ -139,7 +163,7 @@ pub fn ascending(rows: &[[[u8; 25]; 25]], n: usize) -> bool
 }
 
 // Whether a row from a place on has the id of a row.
-fn again(rows: &[[[u8; 25]; 25]], n: usize, row: &[[u8; 25]; 25], at: usize) -> bool
+fn again(rows: &[Row], n: usize, row: &Row, at: usize) -> bool
     requires { ⌜ (n ≤ length (now rows)) × (at ≤ n) ⌝ }
     ensures { λ r. ⌜ ((s : Schema) → r ≡ hasId (idIn (now (row .entry))) (drop at (working s n (now (rows .entry))))) ⌝ }
 {
@@ -154,7 +178,7 @@ fn again(rows: &[[[u8; 25]; 25]], n: usize, row: &[[u8; 25]; 25], at: usize) -> 
 }
 
 // Whether all ids are different.
-pub fn distinct(rows: &[[[u8; 25]; 25]], n: usize) -> bool
+pub fn distinct(rows: &[Row], n: usize) -> bool
     requires { ⌜ n ≤ length (now rows) ⌝ }
     ensures { λ r. ⌜ ((s : Schema) → r ≡ distinctIds (working s n (now (rows .entry)))) ⌝ }
 {
@@ -169,22 +193,21 @@ pub fn distinct(rows: &[[[u8; 25]; 25]], n: usize) -> bool
 }
 
 // Whether a column of a row is in canonical form, by the column's cell of the schema.
-fn canonical_column(cell: &[u8; 48], row: &[[u8; 25]; 25], c: usize) -> bool
-    requires { ⌜ c < 6 ⌝ }
+fn canonical_column(cell: &Entry, row: &Row, c: usize) -> bool
+    requires { ⌜ c < mostColumns ⌝ }
     ensures { λ r. ⌜ r ≡ canonicalFor (columnFrom (now (cell .entry))) (valueIn c (now (row .entry))) ⌝ }
 {
-    let one = (cell[28] == 1) & (cell[29] == 1);
     value::canonical(
-        cell[25],
-        one,
+        catalog::kind(cell),
+        catalog::is_scalar(cell),
         rows::count_of(row, c),
         rows::atoms_in(row, c),
     )
 }
 
 // Whether the columns of a row are in canonical form, by their cells of the schema.
-fn canonical_row(cells: &[[u8; 48]], row: &[[u8; 25]; 25]) -> bool
-    requires { ⌜ length (now cells) ≤ 6 ⌝ }
+fn canonical_row(cells: &[Entry], row: &Row) -> bool
+    requires { ⌜ length (now cells) ≤ mostColumns ⌝ }
     ensures { λ r. ⌜ r ≡ canonicalFrom 0 (now (cells .entry)) (now (row .entry)) ⌝ }
 {
     let mut c = 0;
@@ -197,30 +220,19 @@ fn canonical_row(cells: &[[u8; 48]], row: &[[u8; 25]; 25]) -> bool
     true
 }
 
-// The cells of a table's columns in a schema, lent.
-pub fn columns_of<'s>(schema: &'s [[u8; 48]; 29], t: usize) -> &'s [[u8; 48]]
-    requires { ⌜ (t < 4) × (getD (getD (now schema) (1 + t) []) 25 0 ≤ 6) ⌝ }
-    ensures { λ r. ⌜ (now r ≡ columnCells (now (schema .entry)) t) × (length (now r) ≤ 6) ⌝ }
-{
-    let cells = &schema[..];
-    let k = atom::wide(schema[1 + t][25]);
-    let first = 5 + 6 * t;
-    &cells[first..first + k]
-}
-
 // Whether a row passes: a table of the schema, an id, canonical values, and nothing in what it leaves unused.
-fn row_good(schema: &[[u8; 48]; 29], row: &[[u8; 25]; 25]) -> bool
-    requires { ⌜ Sized (now schema) ⌝ }
+fn row_good(schema: &Catalog, row: &Row) -> bool
+    requires { ⌜ Accepted (now schema) ⌝ }
     ensures { λ r. ⌜ r ≡ rowGood (now (schema .entry)) (now (row .entry)) ⌝ }
 {
     let t = rows::table_of(row);
-    if schema[0][25] <= t {
+    if catalog::table_count(&schema[0]) <= t {
         return false;
     }
     if !rows::has_some_id(row) {
         return false;
     }
-    let cells = columns_of(schema, atom::wide(t));
+    let cells = catalog::columns_of(schema, leaf::wide(t));
     if !tidy_row(row, cells.len()) {
         return false;
     }
@@ -228,8 +240,8 @@ fn row_good(schema: &[[u8; 48]; 29], row: &[[u8; 25]; 25]) -> bool
 }
 
 // Whether each row passes.
-fn each_good(schema: &[[u8; 48]; 29], rows: &[[[u8; 25]; 25]], n: usize) -> bool
-    requires { ⌜ Sized (now schema) ⌝ }
+fn each_good(schema: &Catalog, rows: &[Row], n: usize) -> bool
+    requires { ⌜ Accepted (now schema) ⌝ }
     requires { ⌜ n ≤ length (now rows) ⌝ }
     ensures { λ r. ⌜ r ≡ all (rowGood (now (schema .entry))) (take n (now (rows .entry))) ⌝ }
 {
@@ -244,8 +256,8 @@ fn each_good(schema: &[[u8; 48]; 29], rows: &[[[u8; 25]; 25]], n: usize) -> bool
 }
 
 // Whether rows pass: each by itself, in order, and with ids all different.
-pub fn rows_good(schema: &[[u8; 48]; 29], rows: &[[[u8; 25]; 25]], n: usize) -> bool
-    requires { ⌜ Sized (now schema) ⌝ }
+pub fn rows_good(schema: &Catalog, rows: &[Row], n: usize) -> bool
+    requires { ⌜ Accepted (now schema) ⌝ }
     requires { ⌜ n ≤ length (now rows) ⌝ }
     ensures { λ r. ⌜ r ≡ rowsGood (now (schema .entry)) n (now (rows .entry)) ⌝ }
 {
@@ -258,106 +270,111 @@ pub fn rows_good(schema: &[[u8; 48]; 29], rows: &[[[u8; 25]; 25]], n: usize) -> 
     distinct(rows, n)
 }
 
-// How long the text of the schema is.
-pub fn text_length(area: &[u8]) -> usize
-    requires { ⌜ 24107 ≤ length (now area) ⌝ }
-    ensures { λ r. ⌜ r ≡ value (part 8 2 (now (area .entry))) ⌝ }
-{
-    let n = octets::number(&area[8..10], 2);
-    n as usize
-}
-
 // How many rows there are.
 pub fn row_count(area: &[u8]) -> usize
-    requires { ⌜ 24107 ≤ length (now area) ⌝ }
-    ensures { λ r. ⌜ r ≡ getD (now (area .entry)) 4106 0 ⌝ }
+    requires { ⌜ storeBytes ≤ length (now area) ⌝ }
+    ensures { λ r. ⌜ r ≡ getD (now (area .entry)) countOffset 0 ⌝ }
 {
-    atom::wide(area[4106])
+    leaf::wide(area[COUNT_OFFSET])
 }
 
-// Whether what the text and the rows leave is zero.
-fn rest_blank(area: &[u8], k: usize, n: usize) -> bool
-    requires { ⌜ (24107 ≤ length (now area)) × (k ≤ 4096) × (n ≤ 32) ⌝ }
-    ensures { λ r. ⌜ r ≡ (zeros (part (10 + k) (4096 - k) (now (area .entry))) && zeros (part (4107 + 625 * n) (625 * (32 - n)) (now (area .entry)))) ⌝ }
+// Whether what the rows leave is zero.
+fn rest_blank(area: &[u8], n: usize) -> bool
+    requires { ⌜ (storeBytes ≤ length (now area)) × (n ≤ mostRows) ⌝ }
+    ensures { λ r. ⌜ r ≡ zeros (part (rowsOffset + rowBytes * n) (rowBytes * (mostRows - n)) (now (area .entry))) ⌝ }
 {
-    if !zeros_from(&area[10 + k..4106], 0) {
-        return false;
+    zeros_from(&area[ROWS_OFFSET + ROW_BYTES * n..STORE_BYTES], 0)
+}
+
+// An entry in an area.
+fn entry_at(area: &[u8], at: usize) -> Entry
+    requires { ⌜ at + entryBytes ≤ length (now area) ⌝ }
+    ensures { λ r. ⌜ r ≡ part at entryBytes (now (area .entry)) ⌝ }
+{
+    let mut entry = [0u8; ENTRY];
+    let mut k = 0;
+    while k < ENTRY {
+        entry[k] = area[at + k];
+        k += 1;
     }
-    zeros_from(&area[4107 + 625 * n..24107], 0)
+    entry
 }
 
-// Whether the part of an area that stores and mirrors share is in good order, by the cells of its schema. Its rows are read on the way.
-pub fn part_good(area: &[u8], schema: &[[u8; 48]; 29], rows: &mut [[[u8; 25]; 25]]) -> bool
-    requires { ⌜ Sized (now schema) ⌝ }
-    requires { ⌜ (24107 ≤ length (now area)) × (32 ≤ length (now rows)) ⌝ }
+// The catalog of an area.
+pub fn catalog_of(area: &[u8]) -> Catalog
+    requires { ⌜ storeBytes ≤ length (now area) ⌝ }
+    ensures { λ r. ⌜ r ≡ entriesIn (now (area .entry)) ⌝ }
+{
+    let mut catalog = [[0u8; ENTRY]; ENTRIES];
+    let mut j = 0;
+    while j < ENTRIES {
+        let entry = entry_at(area, CATALOG_OFFSET + ENTRY * j);
+        catalog[j] = entry;
+        j += 1;
+    }
+    catalog
+}
+
+// Whether the rows of the part of an area that stores and mirrors share are in good order, by its catalog. They are read on the way.
+pub fn part_good(area: &[u8], schema: &Catalog, rows: &mut [Row]) -> bool
+    requires { ⌜ Accepted (now schema) ⌝ }
+    requires { ⌜ (storeBytes ≤ length (now area)) × (mostRows ≤ length (now rows)) ⌝ }
     ensures { λ r. ⌜ Judged (now (area .entry)) (now (schema .entry)) (now (rows .exit)) r ⌝ }
 {
-    let k = text_length(area);
     let n = row_count(area);
-    if 4096 < k {
+    if ROWS < n {
         return false;
     }
-    if 32 < n {
+    if !rest_blank(area, n) {
         return false;
     }
-    if !rest_blank(area, k, n) {
-        return false;
-    }
-    read_rows(area, 4107, rows, n);
+    read_rows(area, ROWS_OFFSET, rows, n);
     rows_good(schema, rows, n)
 }
 
 // The number in four bytes at a place.
 fn word_at(area: &[u8], at: usize) -> u32
-    requires { ⌜ at + 4 ≤ length (now area) ⌝ }
-    ensures { λ r. ⌜ r ≡ value (part at 4 (now (area .entry))) ⌝ }
+    requires { ⌜ at + numberBytes ≤ length (now area) ⌝ }
+    ensures { λ r. ⌜ r ≡ value (part at numberBytes (now (area .entry))) ⌝ }
 {
-    octets::number(&area[at..], 4) as u32
+    octets::number(&area[at..], NUMBER) as u32
 }
 
 // The run.
 pub fn run_of(area: &[u8]) -> u32
-    requires { ⌜ 24107 ≤ length (now area) ⌝ }
-    ensures { λ r. ⌜ r ≡ value (part 0 4 (now (area .entry))) ⌝ }
+    requires { ⌜ storeBytes ≤ length (now area) ⌝ }
+    ensures { λ r. ⌜ r ≡ value (part runOffset numberBytes (now (area .entry))) ⌝ }
 {
-    word_at(area, 0)
+    word_at(area, RUN_OFFSET)
 }
 
 // The number: a store's last, a mirror's n.
 pub fn number_of(area: &[u8]) -> u32
-    requires { ⌜ 24107 ≤ length (now area) ⌝ }
-    ensures { λ r. ⌜ r ≡ value (part 4 4 (now (area .entry))) ⌝ }
+    requires { ⌜ storeBytes ≤ length (now area) ⌝ }
+    ensures { λ r. ⌜ r ≡ value (part numberOffset numberBytes (now (area .entry))) ⌝ }
 {
-    word_at(area, 4)
+    word_at(area, NUMBER_OFFSET)
 }
 
 // The highest number that a mirror has heard.
 pub fn top_of(area: &[u8]) -> u32
-    requires { ⌜ 24113 ≤ length (now area) ⌝ }
-    ensures { λ r. ⌜ r ≡ value (part 24107 4 (now (area .entry))) ⌝ }
+    requires { ⌜ mirrorBytes ≤ length (now area) ⌝ }
+    ensures { λ r. ⌜ r ≡ value (part topOffset numberBytes (now (area .entry))) ⌝ }
 {
-    word_at(area, 24107)
+    word_at(area, TOP_OFFSET)
 }
 
 // Whether a mirror's own bytes are in good order.
 pub fn mirror_part(area: &[u8]) -> bool
-    requires { ⌜ 24113 ≤ length (now area) ⌝ }
+    requires { ⌜ mirrorBytes ≤ length (now area) ⌝ }
     ensures { λ r. ⌜ r ≡ tailGood (now (area .entry)) ⌝ }
 {
     let n = number_of(area);
     let top = top_of(area);
-    let heard = area[24111];
-    let whole = area[24112];
+    let heard = area[HEARD_OFFSET];
+    let whole = area[WHOLE_OFFSET];
     let flags = (heard <= 1) & (whole <= 1) & (n <= top);
     flags & ((heard == 1) | (top == 0)) & ((whole == 1) | (n != 0))
-}
-
-// The first byte is b.
-fn put_byte(out: &mut [u8], b: u8)
-    requires { ⌜ 1 ≤ length (now out) ⌝ }
-    ensures { λ _. ⌜ now (out .exit) ≡ b ∷ drop 1 (now (out .entry)) ⌝ }
-{
-    out[0] = b;
 }
 
 // The first n bytes are zero.
@@ -368,25 +385,27 @@ fn put_zeros(out: &mut [u8], n: usize)
     octets::clear(&mut out[0..n]);
 }
 
-// A schema's text to the front of a buffer: its length, the text, zeros.
-fn put_text(out: &mut [u8], text: &[u8])
-    requires { ⌜ (length (now text) ≤ 4096) × (4098 ≤ length (now out)) ⌝ }
-    ensures { λ _. ⌜ now (out .exit) ≡ textBytes (now (text .entry)) ++ drop 4098 (now (out .entry)) ⌝ }
+// A catalog to the front of a buffer.
+fn put_catalog(out: &mut [u8], catalog: &[Entry])
+    requires { ⌜ (length (now catalog) ≡ entryCount) × (catalogBytes ≤ length (now out)) ⌝ }
+    ensures { λ _. ⌜ (now (out .exit) ≡ flat (now (catalog .entry)) ++ drop catalogBytes (now (out .entry))) × (length (flat (now (catalog .entry))) ≡ catalogBytes) ⌝ }
 {
-    let k = text.len();
-    octets::put_number(out, k as u64, 2);
-    octets::put_bytes(&mut out[2..], text);
-    put_zeros(&mut out[2 + k..], 4096 - k);
+    let mut j = 0;
+    while j < ENTRIES {
+        let entry = &catalog[j];
+        octets::put_bytes(&mut out[ENTRY * j..], &entry[..]);
+        j += 1;
+    }
 }
 
 // Rows to the front of a buffer: how many, the rows, zeros.
-fn put_counted(out: &mut [u8], rows: &[[[u8; 25]; 25]], n: usize)
-    requires { ⌜ (n ≤ length (now rows)) × (n ≤ 32) × (20001 ≤ length (now out)) ⌝ }
-    ensures { λ _. ⌜ now (out .exit) ≡ rowsPart n (now (rows .entry)) ++ drop 20001 (now (out .entry)) ⌝ }
+fn put_counted(out: &mut [u8], rows: &[Row], n: usize)
+    requires { ⌜ (n ≤ length (now rows)) × (n ≤ mostRows) × (1 + rowBytes * mostRows ≤ length (now out)) ⌝ }
+    ensures { λ _. ⌜ now (out .exit) ≡ rowsPart n (now (rows .entry)) ++ drop (1 + rowBytes * mostRows) (now (out .entry)) ⌝ }
 {
-    put_byte(out, n as u8);
+    leaf::put_byte(out, n as u8);
     put_rows(&mut out[1..], rows, n);
-    put_zeros(&mut out[1 + 625 * n..], 625 * (32 - n));
+    put_zeros(&mut out[1 + ROW_BYTES * n..], ROW_BYTES * (ROWS - n));
 }
 
 // A store, or the part of a mirror that is like it, written whole.
@@ -394,58 +413,52 @@ pub fn write_store(
     area: &mut [u8],
     run: u32,
     number: u32,
-    schema: &[u8],
-    rows: &[[[u8; 25]; 25]],
+    catalog: &Catalog,
+    rows: &[Row],
     n: usize,
 )
-    requires { ⌜ (24107 ≤ length (now area)) × (length (now schema) ≤ 4096) ⌝ }
-    requires { ⌜ (n ≤ length (now rows)) × (n ≤ 32) ⌝ }
-    ensures { λ _. ⌜ ((s : Schema) → Tidy s (take n (now (rows .entry))) → now (area .exit) ≡ encodeStore (storeIn s run number (now (schema .entry)) n (now (rows .entry))) ++ drop 24107 (now (area .entry))) ⌝ }
+    requires { ⌜ storeBytes ≤ length (now area) ⌝ }
+    requires { ⌜ (n ≤ length (now rows)) × (n ≤ mostRows) ⌝ }
+    ensures { λ _. ⌜ ((d : Database) → catalogOf d ≡ now (catalog .entry) → Tidy (d .tables) (take n (now (rows .entry))) → now (area .exit) ≡ encodeStore (storeIn d run number n (now (rows .entry))) ++ drop storeBytes (now (area .entry))) ⌝ }
 {
-    octets::put_number(area, run as u64, 4);
-    octets::put_number(&mut area[4..], number as u64, 4);
-    put_text(&mut area[8..], schema);
-    put_counted(&mut area[4106..], rows, n);
+    octets::put_number(area, run as u64, NUMBER);
+    octets::put_number(&mut area[NUMBER_OFFSET..], number as u64, NUMBER);
+    put_catalog(&mut area[CATALOG_OFFSET..], &catalog[..]);
+    put_counted(&mut area[COUNT_OFFSET..], rows, n);
 }
 
 // The number of an area written anew.
 pub fn write_number(area: &mut [u8], number: u32)
-    requires { ⌜ 24107 ≤ length (now area) ⌝ }
-    ensures { λ _. ⌜ now (area .exit) ≡ placed 4 4 (big 4 number) (now (area .entry)) ⌝ }
+    requires { ⌜ storeBytes ≤ length (now area) ⌝ }
+    ensures { λ _. ⌜ now (area .exit) ≡ placed numberOffset numberBytes (big numberBytes number) (now (area .entry)) ⌝ }
 {
-    octets::put_number(&mut area[4..], number as u64, 4);
+    octets::put_number(&mut area[NUMBER_OFFSET..], number as u64, NUMBER);
 }
 
 // The rows of an area written anew.
-pub fn write_rows(area: &mut [u8], rows: &[[[u8; 25]; 25]], n: usize)
-    requires { ⌜ (n ≤ length (now rows)) × (n ≤ 32) × (24107 ≤ length (now area)) ⌝ }
-    ensures { λ _. ⌜ now (area .exit) ≡ placed 4106 20001 (rowsPart n (now (rows .entry))) (now (area .entry)) ⌝ }
+pub fn write_rows(area: &mut [u8], rows: &[Row], n: usize)
+    requires { ⌜ (n ≤ length (now rows)) × (n ≤ mostRows) × (storeBytes ≤ length (now area)) ⌝ }
+    ensures { λ _. ⌜ now (area .exit) ≡ placed countOffset (1 + rowBytes * mostRows) (rowsPart n (now (rows .entry))) (now (area .entry)) ⌝ }
 {
-    put_counted(&mut area[4106..], rows, n);
-}
-
-fn bit_of(b: bool) -> u8
-    ensures { λ r. ⌜ r ≡ bit b ⌝ }
-{
-    if b { 1 } else { 0 }
+    put_counted(&mut area[COUNT_OFFSET..], rows, n);
 }
 
 // A mirror's own bytes to the front of a buffer.
 fn put_tail(out: &mut [u8], top: u32, heard: u8, whole: u8)
-    requires { ⌜ 6 ≤ length (now out) ⌝ }
-    ensures { λ _. ⌜ now (out .exit) ≡ (big 4 top ++ heard ∷ whole ∷ []) ++ drop 6 (now (out .entry)) ⌝ }
+    requires { ⌜ numberBytes + 2 ≤ length (now out) ⌝ }
+    ensures { λ _. ⌜ now (out .exit) ≡ (big numberBytes top ++ heard ∷ whole ∷ []) ++ drop (numberBytes + 2) (now (out .entry)) ⌝ }
 {
-    octets::put_number(out, top as u64, 4);
-    put_byte(&mut out[4..], heard);
-    put_byte(&mut out[5..], whole);
+    octets::put_number(out, top as u64, NUMBER);
+    leaf::put_byte(&mut out[NUMBER..], heard);
+    leaf::put_byte(&mut out[NUMBER + 1..], whole);
 }
 
 // A mirror's own bytes written anew.
 pub fn write_tail(area: &mut [u8], top: u32, heard: bool, whole: bool)
-    requires { ⌜ 24113 ≤ length (now area) ⌝ }
-    ensures { λ _. ⌜ now (area .exit) ≡ placed 24107 6 (tailBytes top heard whole) (now (area .entry)) ⌝ }
+    requires { ⌜ mirrorBytes ≤ length (now area) ⌝ }
+    ensures { λ _. ⌜ now (area .exit) ≡ placed topOffset (numberBytes + 2) (tailBytes top heard whole) (now (area .entry)) ⌝ }
 {
-    let h = bit_of(heard);
-    let w = bit_of(whole);
-    put_tail(&mut area[24107..], top, h, w);
+    let h = leaf::bit(heard);
+    let w = leaf::bit(whole);
+    put_tail(&mut area[TOP_OFFSET..], top, h, w);
 }

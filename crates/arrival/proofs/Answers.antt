@@ -13,7 +13,7 @@ use Rattle.model.specs.Records.{Change, act, fits, sound, isEnd, Record, number
 use Rattle.model.specs.Mirror.{Mirror, Step, bad, onRead}
 use Rattle.model.specs.declared.Answer.{Answer}
 use Rattle.model.specs.declared.Answer.the-variants.{BadRecord, OtherRun, Repeat, Behind, Heard, Applied}
-use Rattle.inner.specs.Packed.{packedTables}
+use Rattle.model.specs.Catalog.{packedTables}
 use Rattle.inner.specs.Working.{working}
 use Rattle.model.proofs.Tests.{clash, or-l, or-r, or-true}
 use Rattle.arrival.specs.Steps.{headOf, soundRecord, fitsRecord, badRecord, actRecord, mirrorOf, hearsOf, appliesOf, stepOf, Welcome, Left, Stepped}

@@ -1,27 +1,27 @@
 -- What a record does to rows in cells. Assumes nothing.
 use mathlib.Core.Path.{_≡_, refl, sym, ap, _∙_}
-use mathlib.Core.Bool.{true, false}
-use mathlib.Core.List.{List, [], _∷_, _++_, map, append-assoc, append-nil}
+use mathlib.Core.Bool.{true}
+use mathlib.Core.List.{List, [], _∷_, _++_, append-nil}
 use mathlib.Core.Option.{Option, none, some}
 use Prim.Native.Nat.{ℕ, zero, suc, _+_, _-_, _*_, _≤_, _<_}
-use native.Mathlib.Numerals.{add-one}
 use native.Mathlib.Omega.{arith}
 use borrow.Author.Tests.{eqb-true}
 use borrow.Rule.Slice.PartMut.{midOf, putMid}
 use lib.Dec.{eqb}
-use lib.ListN.{length, getD, take, drop, set, replicate, length-map, drop-of-length-le}
-use lib.Seq.{length-take-le, take-suc, take-all, take-set-lt, set-at, getD-take, getD-drop, drop-drop}
+use Rattle.catalog.specs.Accepted.{Accepted}
+use lib.ListN.{length, getD, take, drop, set, replicate, drop-of-length-le}
+use lib.Seq.{length-take-le, take-set-lt, getD-take, getD-drop, drop-drop}
 use Rattle.model.specs.Base.{nth, flat}
 use Rattle.model.specs.Schema.{Column, Schema, columnsOf}
 use Rattle.model.specs.Value.{Value}
 use Rattle.model.specs.Rows.{Row, keyOf, key, find, setColumn, change}
 use Rattle.model.specs.Records.{known, valueBytes}
 use Rattle.model.specs.Mirror.{valueAnswer, rowAnswer}
-use Rattle.inner.specs.Packed.{packedTables}
+use Rattle.model.specs.Catalog.{packedTables}
 use Rattle.model.specs.Areas.{columnsFrom, rowFrom}
 use Rattle.model.proofs.Order.{Fine, AllFine, Good}
-use Rattle.inner.specs.Working.{working, tableIn, valueIn, minimums, TidyRow, Tidy}
-use Rattle.model.proofs.Tests.{split, clash}
+use Rattle.inner.specs.Working.{working, tableIn, valueIn, TidyRow, Tidy}
+use Rattle.model.proofs.Tests.{split}
 use Rattle.inner.proofs.Working.{working-length, working-at, row-table}
 use Rattle.inner.proofs.Places.{Placed, Absent, working-set, tidy-set, tidy-at}
 use Rattle.model.proofs.Heart.{key-is}
@@ -30,25 +30,8 @@ use Rattle.rows.specs.Post.{ColumnSet}
 use Rattle.record.proofs.Laws.{first}
 use Rattle.octets.proofs.Rests.{write-next}
 use Rattle.area.proofs.Schemas.{tables-count}
-use Rattle.arrival.specs.Steps.{columnIn, columnOf, Held, Left}
+use Rattle.arrival.specs.Steps.{columnIn, columnOf, Left}
 use Rattle.arrival.proofs.Records.{columns-count}
-
--- ── a table's minimums, filled in one after another ──
-pub fill-more : (l : List ℕ) (c : ℕ) → c < length l → length l ≤ 6 → set (take c l ++ replicate (6 - c) 0) c (getD l c 0) ≡ take (c + 1) l ++ replicate (6 - (c + 1)) 0
-fill-more l c h g =
-    let e : 6 - c ≡ suc (6 - (c + 1)) = omega arith in
-    rw (e, add-one c)
-    (set-at (take c l) 0 (replicate (6 - suc c) 0) (getD l c 0) c (length-take-le c l (omega arith))
-    ∙ sym (ap (λ (q : List ℕ). q ++ replicate (6 - suc c) 0) (take-suc l c 0 h) ∙ append-assoc (take c l) (getD l c 0 ∷ []) (replicate (6 - suc c) 0)))
-
-fill-end : (l : List ℕ) (c : ℕ) → length l ≡ c → take c l ++ replicate (6 - c) 0 ≡ l ++ replicate (6 - length l) 0
-fill-end l c e = rw (take-all c l (omega arith), e)
-
-pub fill-minimums : (cs : List Column) (c : ℕ) → length (map (λ (x : Column). x .min) cs) ≡ c → take c (map (λ (x : Column). x .min) cs) ++ replicate (6 - c) 0 ≡ minimums cs
-unfolding minimums
-fill-minimums cs c e =
-    let l = map (λ (x : Column). x .min) cs in
-    fill-end l c e ∙ ap (λ (k : ℕ). l ++ replicate (6 - k) 0) (length-map cs (λ (x : Column). x .min))
 
 -- ── a row's column set ──
 -- the row that is found has the key, and is fine where all are
@@ -116,7 +99,7 @@ module _ (s : Schema) (row : List (List ℕ)) where
   column-missing c h = nth-none (length (columnsOf s (tableIn row))) c (drop 17 (getD row 0 [])) (drop 1 row) h
 
 -- what is told of a column, by what the cells of the schema say of the row's table
-module _ (cells : List (List ℕ)) (held : Held cells) (row : List (List ℕ)) (c t : ℕ) (here : t ≡ tableIn row) where
+module _ (cells : List (List ℕ)) (held : Accepted cells) (row : List (List ℕ)) (c t : ℕ) (here : t ≡ tableIn row) where
   past : (s : Schema) (t : ℕ) → length s ≤ t → columnsOf s t ≡ []
   past [] t h = refl
   past (x ∷ s) zero h = absurd (omega arith)

@@ -7,13 +7,15 @@ use native.Mathlib.Omega.{arith}
 use borrow.Author.Tests.{ltb-true}
 use lib.Dec.{ltb}
 use lib.ListN.{length, getD, take}
+use Rattle.catalog.specs.Accepted.{Accepted}
+use Rattle.catalog.proofs.Laws.{few-tables, few-columns}
 use Rattle.model.specs.Octets.{value}
 use Rattle.model.specs.Schema.{Schema, columnsOf}
 use Rattle.model.specs.Value.{Value}
 use Rattle.model.specs.Rows.{Row, keyOf, has, hasId}
 use Rattle.model.specs.Records.{act, known, allows, born, gone, column, end}
 use Rattle.model.specs.Areas.{rowCells, rowFrom}
-use Rattle.inner.specs.Packed.{packedTables}
+use Rattle.model.specs.Catalog.{packedTables}
 use Rattle.inner.specs.Working.{working, newRow, Tidy}
 use Rattle.model.proofs.Tests.{clash, and-l, and-r}
 use Rattle.inner.proofs.NewRows.{new-row-read, new-row-tidy}
@@ -26,7 +28,7 @@ use Rattle.record.specs.declared.Arrival.{Arrival}
 use Rattle.record.specs.declared.Arrival.the-variants as arrival
 use Rattle.rows.specs.Post.{Added}
 use Rattle.area.proofs.Schemas.{tables-count}
-use Rattle.arrival.specs.Steps.{soundRecord, fitsRecord, canonicalRecord, actRecord, Held, Welcome, Left}
+use Rattle.arrival.specs.Steps.{soundRecord, fitsRecord, canonicalRecord, actRecord, Welcome, Left}
 use Rattle.arrival.proofs.Records.{columns-count, sound-is, listed-table, listed-column}
 
 -- the same rows by another name
@@ -34,7 +36,7 @@ pub left-as : (s : Schema) (x y : List Row) (n : ℕ) (cells : List (List (List 
 left-as s x y n cells l exit e h = record { same = h .same ∙ e; few = h .few; tidy = h .tidy }
 
 -- a new row put in
-module _ (cells : List (List ℕ)) (held : Held cells) (t i : ℕ) (k : known (packedTables cells) t i ≡ true) where
+module _ (cells : List (List ℕ)) (held : Accepted cells) (t i : ℕ) (k : known (packedTables cells) t i ≡ true) where
   abbrev s : Schema
   s = packedTables cells
 
@@ -44,8 +46,8 @@ module _ (cells : List (List ℕ)) (held : Held cells) (t i : ℕ) (k : known (p
   pub narrow : length (columnsOf s t) ≤ 6
   narrow =
       let h = known-here in
-      let f = held .fit .tables in
-      omega (arith, columns-count cells held t h, held .fit .columns t (omega arith))
+      let f = few-tables _ (held) in
+      omega (arith, columns-count cells held t h, few-columns _ (held) t (omega arith))
 
   pub added-left : (n : ℕ) (rows exit : List (List (List ℕ))) (row : List (List ℕ)) → n < 32 → row ≡ rowCells (newRow t i (columnsOf s t)) → Added n row rows exit → Left s (act s (born t i) (working s n rows)) n rows (n + 1) exit
   added-left n rows exit row h e a =
@@ -57,7 +59,7 @@ module _ (cells : List (List ℕ)) (held : Held cells) (t i : ℕ) (k : known (p
       }
 
 -- ── what is known of a welcome arrival ──
-module _ (cells : List (List ℕ)) (held : Held cells) (a : Arrival) (bytes : List ℕ) (rows : List Row) (w : Welcome (packedTables cells) rows (arrivalRecord a bytes)) where
+module _ (cells : List (List ℕ)) (held : Accepted cells) (a : Arrival) (bytes : List ℕ) (rows : List Row) (w : Welcome (packedTables cells) rows (arrivalRecord a bytes)) where
   pub born-known : (r : record-born.Born) → a ≡ arrival.Born r → known (packedTables cells) (r .table) (value (idIn bytes)) ≡ true
   unfolding arrivalRecord soundRecord
   born-known r e = rw e at (w .sound)

@@ -3,19 +3,19 @@ use mathlib.Core.Path.{_≡_}
 use mathlib.Core.Bool.{Bool, true, false}
 use mathlib.Core.List.{List, []}
 use mathlib.Core.Option.{Option, none, some}
-use Prim.Native.Nat.{ℕ, _+_, _≤_, _<_, max}
-use lib.ListN.{length, getD, take}
+use Prim.Native.Nat.{ℕ, _+_, _≤_, max}
+use lib.ListN.{length, take}
 use Rattle.model.specs.Base.{nth}
+use Rattle.model.specs.Limits.{mostRows, entryCount}
 use Rattle.model.specs.Schema.{Schema}
 use Rattle.model.specs.Rows.{Row}
-use Rattle.model.specs.Records.{Change, act, fits, sound, isEnd, Record, numbered, mark}
+use Rattle.model.specs.Records.{act, fits, sound, isEnd, Record, numbered, mark}
 use Rattle.model.specs.Mirror.{Mirror, Step, bad, step, level, valueAnswer, columnAnswer}
 use Rattle.model.specs.Areas.{rowFrom}
 use Rattle.model.proofs.Order.{Good}
-use Rattle.inner.specs.Packed.{packedTables}
+use Rattle.model.specs.Catalog.{packedTables}
 use Rattle.inner.specs.Working.{working, Tidy}
 use Rattle.record.specs.Reading.{canonicalIn}
-use Rattle.area.specs.Layout.{Sized}
 use Rattle.arrival.specs.declared.Head.{Head}
 use Rattle.arrival.specs.declared.Numbers.{Numbers}
 use Rattle.arrival.specs.declared.Outcome.{Outcome}
@@ -83,15 +83,10 @@ unfoldable pub columnOf : List Row → ℕ → ℕ → ℕ → List ℕ
 columnOf rows t i c = columnAnswer (record { rows = rows; n = 0; top = 0; heard = false; whole = false }) t i c
 
 -- ── what the code needs and leaves ──
--- a schema in all its cells
-pub record Held (schema : List (List ℕ)) : Type 0 where
-  pub size : length schema ≡ 29
-  pub fit : Sized schema
-
 -- "rows in all tables together | 32"
 pub record Ready (count : ℕ) (cells : List (List (List ℕ))) : Type 0 where
-  pub few : count ≤ 32
-  pub room : 32 ≤ length cells
+  pub few : count ≤ mostRows
+  pub room : mostRows ≤ length cells
 
 -- a record that is neither unsound nor unfit
 pub record Welcome (s : Schema) (rows : List Row) (o : Option Record) : Type 0 where
@@ -101,12 +96,12 @@ pub record Welcome (s : Schema) (rows : List Row) (o : Option Record) : Type 0 w
 -- the rows that a change leaves, as many as `left`; unused bytes stay zero
 pub record Left (s : Schema) (rows : List Row) (count : ℕ) (entry : List (List (List ℕ))) (left : ℕ) (exit : List (List (List ℕ))) : Type 0 where
   pub same : working s left exit ≡ rows
-  pub few : left ≤ 32
+  pub few : left ≤ mostRows
   pub tidy : Good s (working s count entry) → Tidy s (take count entry) → Tidy s (take left exit)
 
 -- an arrival: the answer and the mirror are the model's
 pub record Stepped (schema : List (List ℕ)) (run : ℕ) (m : Numbers) (bytes : List ℕ) (count : ℕ) (entry exit : List (List (List ℕ))) (r : Outcome) : Type 0 where
   pub answer : r .answer ≡ stepOf (packedTables schema) run (mirrorOf m (working (packedTables schema) count entry)) bytes .answer
   pub next : mirrorOf (r .numbers) (working (packedTables schema) (r .count) exit) ≡ stepOf (packedTables schema) run (mirrorOf m (working (packedTables schema) count entry)) bytes .next
-  pub few : r .count ≤ 32
+  pub few : r .count ≤ mostRows
   pub tidy : Good (packedTables schema) (working (packedTables schema) count entry) → Tidy (packedTables schema) (take count entry) → Tidy (packedTables schema) (take (r .count) exit)

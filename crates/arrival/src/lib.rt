@@ -1,24 +1,34 @@
 // An arrival at a mirror, on working rows: whether it is refused, what it does to the rows, and what the mirror's numbers are then; and what a mirror tells of itself.
 use model::Answer;
+use model::Atom;
+use model::Atoms;
+use model::Catalog;
+use model::Entry;
 use model::Found;
+use model::ID;
+use model::ROW_RECORD;
+use model::ROWS;
+use model::Row;
+use model::TABLES;
 use record::Arrival;
+use record::ID_AT;
 ghost use mathlib.Core.Path.{_≡_};
 ghost use mathlib.Core.Bool.{true, false};
-ghost use mathlib.Core.List.{List, []};
-ghost use mathlib.Core.Option.{some};
-ghost use Prim.Native.Nat.{ℕ, suc, _+_, _-_, _≤_, _<_, max};
-ghost use lib.ListN.{length, getD, take};
+ghost use mathlib.Core.List.{List};
+ghost use Prim.Native.Nat.{ℕ, _+_, _-_, _≤_, _<_, max};
+ghost use lib.ListN.{length, take};
+ghost use Rattle.model.specs.Limits.{mostRows, mostColumns, rowRecordBytes, valueWidth};
 ghost use Rattle.model.specs.Octets.{value};
 ghost use Rattle.model.specs.Schema.{Schema, columnsOf};
 ghost use Rattle.model.specs.Value.{canonicalFor};
 ghost use Rattle.model.specs.Rows.{Row, keyOf, has};
 ghost use Rattle.model.specs.Records.{act, known, born, gone, column, valueBytes};
-ghost use Rattle.inner.specs.Packed.{columnFrom, packedTables};
-ghost use Rattle.inner.specs.Working.{working, valueIn, minimums};
+ghost use Rattle.model.specs.Catalog.{columnFrom, packedTables, tableCount};
+ghost use Rattle.inner.specs.Working.{working, valueIn};
 ghost use Rattle.record.specs.Reading.{idIn, arrivalRecord, columnCounts, listedRecord};
 ghost use Rattle.record.specs.Reading.{Sized as Long};
-ghost use Rattle.area.specs.Layout.{Sized};
-ghost use Rattle.arrival.specs.Steps.{headOf, canonicalRecord, soundRecord, fitsRecord, badRecord, actRecord, levelOf, columnIn, columnOf, hearsOf, appliesOf, Held, Ready, Welcome, Left, Stepped};
+ghost use Rattle.catalog.specs.Accepted.{Accepted};
+ghost use Rattle.arrival.specs.Steps.{headOf, canonicalRecord, soundRecord, fitsRecord, badRecord, actRecord, levelOf, columnIn, columnOf, hearsOf, appliesOf, Ready, Welcome, Left, Stepped};
 
 // A mirror's numbers: n, the highest heard, whether anything was heard, whether n is 0 or ends a commit.
 pub struct Numbers {
@@ -88,45 +98,54 @@ fn head_of(arrival: Arrival) -> Head
 }
 
 // The id that a record names.
-fn id_of(bytes: &[u8]) -> [u8; 16]
-    requires { ⌜ 26 ≤ length (now bytes) ⌝ }
+fn id_of(bytes: &[u8]) -> [u8; ID]
+    requires { ⌜ rowRecordBytes ≤ length (now bytes) ⌝ }
     ensures { λ r. ⌜ r ≡ idIn (now (bytes .entry)) ⌝ }
 {
-    let mut id = [0u8; 16];
-    octets::put_bytes(&mut id, &bytes[10..26]);
+    let mut id = [0u8; ID];
+    octets::put_bytes(&mut id, &bytes[ID_AT..ROW_RECORD]);
     id
 }
 
 // How many columns each table has.
-fn counts_of(schema: &[[u8; 48]]) -> [u8; 4]
-    requires { ⌜ Held (now schema) ⌝ }
-    ensures { λ r. ⌜ take (getD (getD (now (schema .entry)) 0 []) 25 0) r ≡ columnCounts (packedTables (now (schema .entry))) ⌝ }
+fn counts_of(schema: &Catalog) -> [u8; TABLES]
+    requires { ⌜ Accepted (now schema) ⌝ }
+    ensures { λ r. ⌜ take (tableCount (now (schema .entry))) r ≡ columnCounts (packedTables (now (schema .entry))) ⌝ }
 {
-    [schema[1][25], schema[2][25], schema[3][25], schema[4][25]]
+    [
+        catalog::width(&schema[1]),
+        catalog::width(&schema[2]),
+        catalog::width(&schema[3]),
+        catalog::width(&schema[4]),
+    ]
 }
 
 // Whether the schema lists the table and the column that a record names, and the id is not all zero.
-fn listed(schema: &[[u8; 48]], arrival: Arrival, bytes: &[u8]) -> bool
-    requires { ⌜ Held (now schema) ⌝ }
+fn listed(schema: &Catalog, arrival: Arrival, bytes: &[u8]) -> bool
+    requires { ⌜ Accepted (now schema) ⌝ }
     requires { ⌜ Long arrival (length (now bytes)) ⌝ }
     ensures { λ r. ⌜ r ≡ listedRecord (columnCounts (packedTables (now (schema .entry)))) (arrivalRecord arrival (now (bytes .entry))) ⌝ }
 {
     let counts = counts_of(schema);
-    let tables = atom::wide(schema[0][25]);
+    let tables = leaf::wide(catalog::table_count(&schema[0]));
     record::listed(arrival, bytes, &counts[..tables])
 }
 
-// Whether a value is in canonical form, by its column's cell of the schema.
-fn canonical_by(cell: &[u8; 48], count: u8, atoms: &[[u8; 25]]) -> bool
-    ensures { λ r. ⌜ r ≡ canonicalFor (columnFrom (now (cell .entry))) (record { count = count; atoms = now (atoms .entry) }) ⌝ }
+// Whether a value is in canonical form, by its column's entry of the catalog.
+fn canonical_by(entry: &Entry, count: u8, atoms: &[Atom]) -> bool
+    ensures { λ r. ⌜ r ≡ canonicalFor (columnFrom (now (entry .entry))) (record { count = count; atoms = now (atoms .entry) }) ⌝ }
 {
-    let one = (cell[28] == 1) & (cell[29] == 1);
-    value::canonical(cell[25], one, count, atoms)
+    value::canonical(
+        catalog::kind(entry),
+        catalog::is_scalar(entry),
+        count,
+        atoms,
+    )
 }
 
 // Whether the value of a record is in canonical form for its column.
-fn canonical(schema: &[[u8; 48]], arrival: Arrival, bytes: &[u8]) -> bool
-    requires { ⌜ Held (now schema) ⌝ }
+fn canonical(schema: &Catalog, arrival: Arrival, bytes: &[u8]) -> bool
+    requires { ⌜ Accepted (now schema) ⌝ }
     requires { ⌜ Long arrival (length (now bytes)) ⌝ }
     requires { ⌜ listedRecord (columnCounts (packedTables (now schema))) (arrivalRecord arrival (now bytes)) ≡ true ⌝ }
     ensures { λ r. ⌜ r ≡ canonicalRecord (packedTables (now (schema .entry))) (arrivalRecord arrival (now (bytes .entry))) ⌝ }
@@ -135,10 +154,10 @@ fn canonical(schema: &[[u8; 48]], arrival: Arrival, bytes: &[u8]) -> bool
         Arrival::Born(_) => true,
         Arrival::Gone(_) => true,
         Arrival::Column(r) => {
-            let t = atom::wide(r.table);
-            let c = atom::wide(r.column);
+            let t = leaf::wide(r.table);
+            let c = leaf::wide(r.column);
             let atoms = record::atoms(bytes);
-            canonical_by(&schema[5 + 6 * t + c], r.count, &atoms[..])
+            canonical_by(catalog::column(schema, t, c), r.count, &atoms[..])
         }
         Arrival::End(_) => true,
         Arrival::Mark(_) => true,
@@ -147,8 +166,8 @@ fn canonical(schema: &[[u8; 48]], arrival: Arrival, bytes: &[u8]) -> bool
 }
 
 // Whether a record is sound, whatever the rows are.
-fn sound(schema: &[[u8; 48]], arrival: Arrival, bytes: &[u8]) -> bool
-    requires { ⌜ Held (now schema) ⌝ }
+fn sound(schema: &Catalog, arrival: Arrival, bytes: &[u8]) -> bool
+    requires { ⌜ Accepted (now schema) ⌝ }
     requires { ⌜ Long arrival (length (now bytes)) ⌝ }
     ensures { λ r. ⌜ r ≡ soundRecord (packedTables (now (schema .entry))) (arrivalRecord arrival (now (bytes .entry))) ⌝ }
 {
@@ -159,7 +178,7 @@ fn sound(schema: &[[u8; 48]], arrival: Arrival, bytes: &[u8]) -> bool
 }
 
 // Whether a record's change fits the rows: one that is born has a new id and room, any other one its row.
-fn fits(rows: &[[[u8; 25]; 25]], count: usize, arrival: Arrival, bytes: &[u8]) -> bool
+fn fits(rows: &[Row], count: usize, arrival: Arrival, bytes: &[u8]) -> bool
     requires { ⌜ Ready count (now rows) ⌝ }
     requires { ⌜ Long arrival (length (now bytes)) ⌝ }
     ensures { λ r. ⌜ ((s : Schema) → r ≡ fitsRecord (working s count (now (rows .entry))) (arrivalRecord arrival (now (bytes .entry)))) ⌝ }
@@ -168,7 +187,7 @@ fn fits(rows: &[[[u8; 25]; 25]], count: usize, arrival: Arrival, bytes: &[u8]) -
         Arrival::Born(_) => {
             let id = id_of(bytes);
             let there = rows::has_id(rows, count, &id);
-            !there & (count < 32)
+            !there & (count < ROWS)
         }
         Arrival::Gone(r) => {
             let id = id_of(bytes);
@@ -185,15 +204,8 @@ fn fits(rows: &[[[u8; 25]; 25]], count: usize, arrival: Arrival, bytes: &[u8]) -
 }
 
 // Whether a record is refused for what it says: it is not sound, its number is 0, or it is the next one and does not fit the rows.
-fn bad(
-    schema: &[[u8; 48]],
-    rows: &[[[u8; 25]; 25]],
-    count: usize,
-    n: u32,
-    arrival: Arrival,
-    bytes: &[u8],
-) -> bool
-    requires { ⌜ Held (now schema) ⌝ }
+fn bad(schema: &Catalog, rows: &[Row], count: usize, n: u32, arrival: Arrival, bytes: &[u8]) -> bool
+    requires { ⌜ Accepted (now schema) ⌝ }
     requires { ⌜ Ready count (now rows) ⌝ }
     requires { ⌜ Long arrival (length (now bytes)) ⌝ }
     ensures { λ r. ⌜ r ≡ badRecord (packedTables (now (schema .entry))) n (working (packedTables (now (schema .entry))) count (now (rows .entry))) (arrivalRecord arrival (now (bytes .entry))) ⌝ }
@@ -258,36 +270,20 @@ pub fn level(m: Numbers) -> bool
     m.heard & (m.n == m.top) & m.whole
 }
 
-// The minimums of a table's columns, and zeros for those that it lacks.
-fn minimums_of(schema: &[[u8; 48]], t: usize) -> [u8; 6]
-    requires { ⌜ Held (now schema) ⌝ }
-    requires { ⌜ t < getD (getD (now schema) 0 []) 25 0 ⌝ }
-    ensures { λ r. ⌜ r ≡ minimums (columnsOf (packedTables (now (schema .entry))) t) ⌝ }
-{
-    let k = atom::wide(schema[1 + t][25]);
-    let mut mins = [0u8; 6];
-    let mut c = 0;
-    while c < k {
-        mins[c] = schema[5 + 6 * t + c][28];
-        c += 1;
-    }
-    mins
-}
-
 // A new row with the insert defaults.
-fn born(schema: &[[u8; 48]], rows: &mut [[[u8; 25]; 25]], count: usize, table: u8, id: &[u8; 16])
-    requires { ⌜ Held (now schema) ⌝ }
-    requires { ⌜ (count < 32) × (32 ≤ length (now rows)) ⌝ }
+fn born(schema: &Catalog, rows: &mut [Row], count: usize, table: u8, id: &[u8; ID])
+    requires { ⌜ Accepted (now schema) ⌝ }
+    requires { ⌜ (count < mostRows) × (mostRows ≤ length (now rows)) ⌝ }
     requires { ⌜ known (packedTables (now schema)) table (value (now id)) ≡ true ⌝ }
     ensures { λ _. ⌜ Left (packedTables (now (schema .entry))) (act (packedTables (now (schema .entry))) (born table (value (now (id .entry)))) (working (packedTables (now (schema .entry))) count (now (rows .entry)))) count (now (rows .entry)) (count + 1) (now (rows .exit)) ⌝ }
 {
-    let mins = minimums_of(schema, atom::wide(table));
+    let mins = catalog::minimums_of(catalog::columns_of(schema, leaf::wide(table)));
     let row = rows::new_row(table, id, &mins);
     rows::add(rows, count, &row);
 }
 
 // A row taken away.
-fn gone(rows: &mut [[[u8; 25]; 25]], count: usize, table: u8, id: &[u8; 16])
+fn gone(rows: &mut [Row], count: usize, table: u8, id: &[u8; ID])
     requires { ⌜ Ready count (now rows) ⌝ }
     ensures { λ _. ⌜ ((s : Schema) → has (keyOf table (value (now (id .entry)))) (working s count (now (rows .entry))) ≡ true → Left s (act s (gone table (value (now (id .entry)))) (working s count (now (rows .entry)))) count (now (rows .entry)) (count - 1) (now (rows .exit))) ⌝ }
 {
@@ -300,17 +296,17 @@ fn gone(rows: &mut [[[u8; 25]; 25]], count: usize, table: u8, id: &[u8; 16])
 
 // A column of a row set.
 fn set(
-    rows: &mut [[[u8; 25]; 25]],
+    rows: &mut [Row],
     count: usize,
     table: u8,
-    id: &[u8; 16],
+    id: &[u8; ID],
     c: usize,
     elements: u8,
-    atoms: &[[u8; 25]; 4],
+    atoms: &Atoms,
 )
     requires { ⌜ Ready count (now rows) ⌝ }
-    requires { ⌜ c < 6 ⌝ }
-    ensures { λ _. ⌜ ((s : Schema) → known s table (value (now (id .entry))) ≡ true → c < length (columnsOf s table) → length (columnsOf s table) ≤ 6 → Left s (act s (column table (value (now (id .entry))) c (record { count = elements; atoms = now (atoms .entry) })) (working s count (now (rows .entry)))) count (now (rows .entry)) count (now (rows .exit))) ⌝ }
+    requires { ⌜ c < mostColumns ⌝ }
+    ensures { λ _. ⌜ ((s : Schema) → known s table (value (now (id .entry))) ≡ true → c < length (columnsOf s table) → length (columnsOf s table) ≤ mostColumns → Left s (act s (column table (value (now (id .entry))) c (record { count = elements; atoms = now (atoms .entry) })) (working s count (now (rows .entry)))) count (now (rows .entry)) count (now (rows .exit))) ⌝ }
 {
     let found = rows::find(rows, count, table, id);
     match found {
@@ -320,14 +316,8 @@ fn set(
 }
 
 // What a record does to the rows: how many there are then.
-fn acts(
-    schema: &[[u8; 48]],
-    rows: &mut [[[u8; 25]; 25]],
-    count: usize,
-    arrival: Arrival,
-    bytes: &[u8],
-) -> usize
-    requires { ⌜ Held (now schema) ⌝ }
+fn acts(schema: &Catalog, rows: &mut [Row], count: usize, arrival: Arrival, bytes: &[u8]) -> usize
+    requires { ⌜ Accepted (now schema) ⌝ }
     requires { ⌜ Ready count (now rows) ⌝ }
     requires { ⌜ Long arrival (length (now bytes)) ⌝ }
     requires { ⌜ Welcome (packedTables (now schema)) (working (packedTables (now schema)) count (now rows)) (arrivalRecord arrival (now bytes)) ⌝ }
@@ -352,7 +342,7 @@ fn acts(
                 count,
                 r.table,
                 &id,
-                atom::wide(r.column),
+                leaf::wide(r.column),
                 r.count,
                 &atoms,
             );
@@ -366,20 +356,21 @@ fn acts(
 
 // One arrival.
 pub fn step(
-    schema: &[[u8; 48]; 29],
-    rows: &mut [[[u8; 25]; 25]],
+    schema: &Catalog,
+    rows: &mut [Row],
     count: usize,
     m: Numbers,
     run: u32,
     bytes: &[u8],
 ) -> Outcome
-    requires { ⌜ Sized (now schema) ⌝ }
+    requires { ⌜ Accepted (now schema) ⌝ }
     requires { ⌜ Ready count (now rows) ⌝ }
     ensures { λ r. ⌜ Stepped (now (schema .entry)) run m (now (bytes .entry)) count (now (rows .entry)) (now (rows .exit)) r ⌝ }
 {
+    // That all its entries are there is known of the slice.
     let cells = &schema[..];
     let arrival = record::read(bytes);
-    if bad(cells, rows, count, m.n, arrival, bytes) {
+    if bad(schema, rows, count, m.n, arrival, bytes) {
         return Outcome {
             answer: Answer::BadRecord,
             numbers: m,
@@ -416,7 +407,7 @@ pub fn step(
             count,
         };
     }
-    let left = acts(cells, rows, count, arrival, bytes);
+    let left = acts(schema, rows, count, arrival, bytes);
     Outcome {
         answer: Answer::Applied,
         numbers: applies(m, number, head.ends),
@@ -425,9 +416,9 @@ pub fn step(
 }
 
 // The count and the atoms of a row's column.
-fn put_value(row: &[[u8; 25]; 25], c: usize, out: &mut [u8])
-    requires { ⌜ c < 6 ⌝ }
-    requires { ⌜ length (now out) ≡ 101 ⌝ }
+fn put_value(row: &Row, c: usize, out: &mut [u8])
+    requires { ⌜ c < mostColumns ⌝ }
+    requires { ⌜ length (now out) ≡ valueWidth ⌝ }
     ensures { λ _. ⌜ now (out .exit) ≡ valueBytes (valueIn c (now (row .entry))) ⌝ }
 {
     out[0] = rows::count_of(row, c);
@@ -435,18 +426,18 @@ fn put_value(row: &[[u8; 25]; 25], c: usize, out: &mut [u8])
 }
 
 // The count and the atoms of a row's column, all zero where the column is missing.
-fn put_column(schema: &[[u8; 48]], row: &[[u8; 25]; 25], c: usize, out: &mut [u8])
-    requires { ⌜ Held (now schema) ⌝ }
-    requires { ⌜ length (now out) ≡ 101 ⌝ }
+fn put_column(schema: &Catalog, row: &Row, c: usize, out: &mut [u8])
+    requires { ⌜ Accepted (now schema) ⌝ }
+    requires { ⌜ length (now out) ≡ valueWidth ⌝ }
     ensures { λ _. ⌜ now (out .exit) ≡ columnIn (packedTables (now (schema .entry))) (now (row .entry)) c ⌝ }
 {
-    let t = atom::wide(rows::table_of(row));
-    let tables = atom::wide(schema[0][25]);
+    let t = leaf::wide(rows::table_of(row));
+    let tables = leaf::wide(catalog::table_count(&schema[0]));
     if tables <= t {
         octets::clear(out);
         return;
     }
-    let columns = atom::wide(schema[1 + t][25]);
+    let columns = leaf::wide(catalog::width(&schema[1 + t]));
     if columns <= c {
         octets::clear(out);
         return;
@@ -456,23 +447,24 @@ fn put_column(schema: &[[u8; 48]], row: &[[u8; 25]; 25], c: usize, out: &mut [u8
 
 // A column's count and atoms, all zero where the row or the column is missing.
 pub fn column(
-    schema: &[[u8; 48]; 29],
-    rows: &[[[u8; 25]; 25]],
+    schema: &Catalog,
+    rows: &[Row],
     count: usize,
     table: u8,
-    id: &[u8; 16],
+    id: &[u8; ID],
     c: u8,
     out: &mut [u8],
 )
-    requires { ⌜ Sized (now schema) ⌝ }
+    requires { ⌜ Accepted (now schema) ⌝ }
     requires { ⌜ Ready count (now rows) ⌝ }
-    requires { ⌜ length (now out) ≡ 101 ⌝ }
+    requires { ⌜ length (now out) ≡ valueWidth ⌝ }
     ensures { λ _. ⌜ now (out .exit) ≡ columnOf (working (packedTables (now (schema .entry))) count (now (rows .entry))) table (value (now (id .entry))) c ⌝ }
 {
+    // That all its entries are there is known of the slice.
     let cells = &schema[..];
     let found = rows::find(rows, count, table, id);
     match found {
-        Found::At(i) => put_column(cells, &rows[i], atom::wide(c), out),
+        Found::At(i) => put_column(schema, &rows[i], leaf::wide(c), out),
         Found::Nothing => octets::clear(out),
     }
 }

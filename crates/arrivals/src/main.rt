@@ -2,6 +2,10 @@
 // A call's first byte says which: 1 a start (run, schema's text), 2 an arrival (its bytes), 3 a row (table, id), 4 a column (table, id, column),
 // 5 a byte put into the area (where, in two bytes, and the byte), 6 all of these on an area that lacks its last byte.
 use model::Answer;
+use model::ID;
+use model::MIRROR_BYTES;
+use model::VALUE_BYTES;
+ghost use Rattle.model.specs.Limits.{idBytes, mirrorBytes};
 ghost use mathlib.Core.Path.{_≡_};
 ghost use Prim.Native.Nat.{_+_, _≤_, _<_};
 ghost use lib.ListN.{length};
@@ -69,11 +73,11 @@ fn put_used(s: &[u8]) {
 }
 
 // The id that begins at `at`.
-fn id_at(call: &[u8], at: usize) -> [u8; 16]
-    requires { ⌜ at + 16 ≤ length (now call) ⌝ }
+fn id_at(call: &[u8], at: usize) -> [u8; ID]
+    requires { ⌜ at + idBytes ≤ length (now call) ⌝ }
 {
-    let mut id = [0u8; 16];
-    octets::put_bytes(&mut id, &call[at..at + 16]);
+    let mut id = [0u8; ID];
+    octets::put_bytes(&mut id, &call[at..at + ID]);
     id
 }
 
@@ -126,7 +130,7 @@ fn column(area: &[u8], call: &[u8]) {
         return;
     }
     let id = id_at(call, 2);
-    let mut out = [255u8; 101];
+    let mut out = [255u8; VALUE_BYTES];
     let answer = mirror::column(area, call[1], &id, call[18], &mut out);
     put(b"column ");
     put_answer(answer);
@@ -179,13 +183,13 @@ fn one(area: &mut [u8], call: &[u8]) {
 
 // A call on the area, or on the area without its last byte where it begins with 6.
 fn line(area: &mut [u8], call: &[u8])
-    requires { ⌜ length (now area) ≡ 24113 ⌝ }
+    requires { ⌜ length (now area) ≡ mirrorBytes ⌝ }
 {
     if call.len() == 0 {
         return;
     }
     if call[0] == 6 {
-        one(&mut area[..24112], &call[1..]);
+        one(&mut area[..MIRROR_BYTES - 1], &call[1..]);
     } else {
         one(area, call);
     }
@@ -194,7 +198,7 @@ fn line(area: &mut [u8], call: &[u8])
 // The call whose length stands at `at`, and where the next one's stands, which is the end where this one is not whole.
 fn next(calls: &[u8], at: usize, area: &mut [u8]) -> usize
     requires { ⌜ at < length (now calls) ⌝ }
-    requires { ⌜ length (now area) ≡ 24113 ⌝ }
+    requires { ⌜ length (now area) ≡ mirrorBytes ⌝ }
     ensures { λ r. ⌜ (at < r) × (r ≤ length (now (calls .entry))) ⌝ }
 {
     let left = calls.len() - at;
@@ -214,7 +218,7 @@ fn next(calls: &[u8], at: usize, area: &mut [u8]) -> usize
 
 // The calls, one after another.
 fn lines(calls: &[u8], area: &mut [u8])
-    requires { ⌜ length (now area) ≡ 24113 ⌝ }
+    requires { ⌜ length (now area) ≡ mirrorBytes ⌝ }
 {
     let mut at = 0;
     while at < calls.len() {
@@ -225,6 +229,6 @@ fn lines(calls: &[u8], area: &mut [u8])
 fn main() {
     let mut space = io::large_buffer();
     let n = io::read_full(0, &mut space);
-    let mut area = [0u8; 24113];
+    let mut area = [0u8; MIRROR_BYTES];
     lines(&space[..n], &mut area);
 }

@@ -23,9 +23,9 @@ use Rattle.model.specs.Value.{blank, elements, valueOf, atomInLimits, allInLimi
 use Rattle.model.specs.Faults.{rank, earlier, check}
 use Rattle.model.specs.Written.{Names, memberNamed, rowFault, written}
 use Rattle.model.specs.Operations.{knownNames, columnWritten, columnsWritten, defaultFault}
-use Rattle.inner.specs.Packed.{columnFrom}
+use Rattle.model.specs.Catalog.{columnFrom}
 use Rattle.nav.proofs.Walk.{members-in, pass-end, pass-rest, pass-fine, pass-name}
-use Rattle.names.specs.Names.{foundAt}
+use Rattle.catalog.specs.Entries.{foundAt}
 use Rattle.lookup.specs.Lookup.{columnIn}
 use Rattle.uuids.specs.Named.{namesAt}
 use Rattle.assign.specs.Assigned.{absentBy, namedBy, writtenRow, faultOf, faultsOf}

@@ -16,7 +16,7 @@ use Rattle.model.specs.Schema.{Column}
 use Rattle.model.specs.Faults.{isFine, check}
 use Rattle.model.specs.Written.{Names, memberNamed, elementsIn, rowFault, written}
 use Rattle.model.specs.Operations.{knownNames, valueWritten, columnWritten, columnsWritten}
-use Rattle.inner.specs.Packed.{columnFrom}
+use Rattle.model.specs.Catalog.{columnFrom}
 use Rattle.model.proofs.Lists.{all-cons, all-at}
 use Rattle.model.proofs.Sets.{sorted-length}
 use Rattle.model.proofs.FaultLaws.{earlier-fine}

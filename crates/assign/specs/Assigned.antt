@@ -6,6 +6,7 @@ use mathlib.Core.List.{List, map}
 use mathlib.Core.Option.{Option, none, some}
 use lib.Dec.{eqb}
 use lib.ListN.{length, take}
+use Rattle.model.specs.Limits.{mostColumns}
 use Rattle.model.specs.declared.Fault.{Fault}
 use Rattle.model.specs.declared.Found.{Found}
 use Rattle.model.specs.Base.{all}
@@ -20,7 +21,7 @@ use Rattle.model.specs.Written.{Names, memberNamed}
 use Rattle.model.specs.Conditions.{Test, matches}
 use Rattle.model.specs.Operations.{valueWritten, columnWritten, columnsWritten, rowOf, defaultFault, immutableFault, noFault, assigned, updateRow}
 use Rattle.model.specs.Areas.{rowFrom}
-use Rattle.inner.specs.Packed.{columnFrom}
+use Rattle.model.specs.Catalog.{columnFrom}
 use Rattle.inner.specs.Working.{working, tableIn, TidyRow, Tidy}
 use Rattle.uuids.specs.Named.{namesAt}
 
@@ -71,7 +72,7 @@ putColumns os r = record { table = r .table; id = r .id; columns = assigned os (
 
 pub record ColumnAssigned (c : ℕ) (o : Option Value) (entry exit : List (List ℕ)) : Type 0 where
   pub row : (s : Schema) → rowFrom s exit ≡ putColumn c o (rowFrom s entry)
-  pub tidy : (s : Schema) → c < length (columnsOf s (tableIn entry)) → length (columnsOf s (tableIn entry)) ≤ 6 → TidyRow s entry → TidyRow s exit
+  pub tidy : (s : Schema) → c < length (columnsOf s (tableIn entry)) → length (columnsOf s (tableIn entry)) ≤ mostColumns → TidyRow s entry → TidyRow s exit
 
 pub record RowAssigned (os : List (Option Value)) (entry exit : List (List ℕ)) : Type 0 where
   pub row : (s : Schema) → rowFrom s exit ≡ putColumns os (rowFrom s entry)

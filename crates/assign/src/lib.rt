@@ -1,60 +1,36 @@
 // A row as written in insert and update: its fault, a new row made of it, and rows changed by it.
+use model::ATOM;
+use model::Entry;
 use model::Fault;
 use model::Found;
+use model::ID;
+use model::Row;
 ghost use mathlib.Core.Path.{_≡_};
 ghost use mathlib.Core.Bool.{true, false};
 ghost use mathlib.Core.List.{map};
 ghost use Prim.Native.Nat.{_≤_, _<_};
 ghost use lib.ListN.{length};
+ghost use Rattle.model.specs.Limits.{mostColumns};
 ghost use Rattle.model.specs.Octets.{value};
 ghost use Rattle.inner.specs.Positions.{Says, wellAt, treeAt, itemsFine};
 ghost use Rattle.model.specs.Members.{membersIn};
 ghost use Rattle.model.specs.Faults.{isFine, rank, earlier};
 ghost use Rattle.model.specs.Operations.{knownNames};
-ghost use Rattle.inner.specs.Packed.{columnFrom};
+ghost use Rattle.model.specs.Catalog.{columnFrom};
 ghost use Rattle.inner.specs.Working.{minimums};
 ghost use Rattle.uuids.specs.Named.{namesAt, Running};
 ghost use Rattle.conditions.specs.Tests.{testsAt};
 ghost use Rattle.assign.specs.Assigned.{absentBy, namedBy, writtenRow, faultOf, faultsOf, valueFor, valuesFor, soundFor, allSound, ColumnAssigned, RowAssigned, Inserted, Updated};
 
-// A fault's place in the order of checks.
-fn rank(f: Fault) -> u8
-    ensures { λ r. ⌜ r ≡ rank f ⌝ }
-{
-    match f {
-        Fault::Syntax => 0,
-        Fault::Resources => 1,
-        Fault::Duplicate => 2,
-        Fault::Constraint => 3,
-        Fault::Domain => 4,
-        Fault::Range => 5,
-        Fault::Aborted => 6,
-        Fault::Integrity => 7,
-        Fault::Fine => 8,
-    }
-}
-
-// Of two faults the one whose check comes earlier.
-fn earlier(f: Fault, g: Fault) -> Fault
-    ensures { λ r. ⌜ r ≡ earlier f g ⌝ }
-{
-    let a = rank(f);
-    let b = rank(g);
-    if a <= b {
-        return f;
-    }
-    g
-}
-
 // How a column is judged that is not named: in an insert by its default.
-fn absent_fault(insert: bool, column: &[u8; 48]) -> Fault
+fn absent_fault(insert: bool, column: &Entry) -> Fault
     ensures { λ r. ⌜ r ≡ absentBy insert (columnFrom (now (column .entry))) ⌝ }
 {
     if insert {
-        if column[28] == 0 {
+        if catalog::minimum(column) == 0 {
             return Fault::Fine;
         }
-        let atom = [0u8; 25];
+        let atom = [0u8; ATOM];
         let fits = sets::within(column, &atom);
         if fits {
             return Fault::Fine;
@@ -65,13 +41,13 @@ fn absent_fault(insert: bool, column: &[u8; 48]) -> Fault
 }
 
 // How a column is judged that is named, besides its value: in an update it must be mutable.
-fn named_fault(insert: bool, column: &[u8; 48]) -> Fault
+fn named_fault(insert: bool, column: &Entry) -> Fault
     ensures { λ r. ⌜ r ≡ namedBy insert (columnFrom (now (column .entry))) ⌝ }
 {
     if insert {
         return Fault::Fine;
     }
-    if column[30] == 1 {
+    if catalog::is_mutable(column) {
         return Fault::Fine;
     }
     Fault::Constraint
@@ -84,19 +60,19 @@ fn column_fault(
     ops: Found,
     fresh: &[u8],
     insert: bool,
-    column: &[u8; 48],
+    column: &Entry,
     at: usize,
 ) -> Fault
     requires { ⌜ Running (now text) (now ends) ops (now fresh) ⌝ }
     requires { ⌜ wellAt (now text) at ≡ true ⌝ }
     ensures { λ r. ⌜ r ≡ faultOf insert (namesAt (now (text .entry)) ops (now (fresh .entry))) (columnFrom (now (column .entry))) (membersIn (treeAt (now (text .entry)) at)) ⌝ }
 {
-    let f = text::find(text, ends, at, names::cell_name(column));
+    let f = text::find(text, ends, at, catalog::name_of(column));
     match f {
         Found::At(p) => {
             let v = judged::row_fault(text, ends, ops, fresh, column, p);
             let w = named_fault(insert, column);
-            earlier(v, w)
+            leaf::earlier(v, w)
         }
         Found::Nothing => absent_fault(insert, column),
     }
@@ -109,7 +85,7 @@ fn columns_fault(
     ops: Found,
     fresh: &[u8],
     insert: bool,
-    columns: &[[u8; 48]],
+    columns: &[Entry],
     at: usize,
 ) -> Fault
     requires { ⌜ Running (now text) (now ends) ops (now fresh) ⌝ }
@@ -121,18 +97,18 @@ fn columns_fault(
     while 0 < c {
         c -= 1;
         let g = column_fault(text, ends, ops, fresh, insert, &columns[c], at);
-        f = earlier(g, f);
+        f = leaf::earlier(g, f);
     }
     f
 }
 
 // Whether each member of the object at `at` has the name of a column.
-fn known(text: &[u8], ends: &[u16], columns: &[[u8; 48]], at: usize) -> bool
+fn known(text: &[u8], ends: &[u16], columns: &[Entry], at: usize) -> bool
     requires { ⌜ Says (now text) (now ends) ⌝ }
     requires { ⌜ wellAt (now text) at ≡ true ⌝ }
     ensures { λ r. ⌜ r ≡ knownNames (map columnFrom (now (columns .entry))) (membersIn (treeAt (now (text .entry)) at)) ⌝ }
 {
-    let mut g = nav::first(text, at, 123, 125);
+    let mut g = nav::first(text, at, b'{', b'}');
     loop {
         match g {
             Found::At(p) => {
@@ -154,7 +130,7 @@ pub fn row_fault(
     ops: Found,
     fresh: &[u8],
     insert: bool,
-    columns: &[[u8; 48]],
+    columns: &[Entry],
     at: usize,
 ) -> Fault
     requires { ⌜ Running (now text) (now ends) ops (now fresh) ⌝ }
@@ -174,18 +150,18 @@ fn assign_column(
     ends: &[u16],
     ops: Found,
     fresh: &[u8],
-    column: &[u8; 48],
+    column: &Entry,
     at: usize,
     c: usize,
-    row: &mut [[u8; 25]; 25],
+    row: &mut Row,
 )
     requires { ⌜ Running (now text) (now ends) ops (now fresh) ⌝ }
     requires { ⌜ wellAt (now text) at ≡ true ⌝ }
     requires { ⌜ soundFor (namesAt (now text) ops (now fresh)) (membersIn (treeAt (now text) at)) (columnFrom (now column)) ≡ true ⌝ }
-    requires { ⌜ c < 6 ⌝ }
+    requires { ⌜ c < mostColumns ⌝ }
     ensures { λ _. ⌜ ColumnAssigned c (valueFor (namesAt (now (text .entry)) ops (now (fresh .entry))) (membersIn (treeAt (now (text .entry)) at)) (columnFrom (now (column .entry)))) (now (row .entry)) (now (row .exit)) ⌝ }
 {
-    let f = text::find(text, ends, at, names::cell_name(column));
+    let f = text::find(text, ends, at, catalog::name_of(column));
     match f {
         Found::At(p) => {
             let n = judged::count_at(text, ends, p);
@@ -202,14 +178,14 @@ fn assign_row(
     ends: &[u16],
     ops: Found,
     fresh: &[u8],
-    columns: &[[u8; 48]],
+    columns: &[Entry],
     at: usize,
-    row: &mut [[u8; 25]; 25],
+    row: &mut Row,
 )
     requires { ⌜ Running (now text) (now ends) ops (now fresh) ⌝ }
     requires { ⌜ wellAt (now text) at ≡ true ⌝ }
     requires { ⌜ allSound (namesAt (now text) ops (now fresh)) (membersIn (treeAt (now text) at)) (map columnFrom (now columns)) ≡ true ⌝ }
-    requires { ⌜ length (now columns) ≤ 6 ⌝ }
+    requires { ⌜ length (now columns) ≤ mostColumns ⌝ }
     ensures { λ _. ⌜ RowAssigned (valuesFor (namesAt (now (text .entry)) ops (now (fresh .entry))) (membersIn (treeAt (now (text .entry)) at)) (map columnFrom (now (columns .entry)))) (now (row .entry)) (now (row .exit)) ⌝ }
 {
     let mut c = 0;
@@ -219,41 +195,27 @@ fn assign_row(
     }
 }
 
-// The minimums of columns, and zeros for those that a table lacks.
-fn minimums_of(columns: &[[u8; 48]]) -> [u8; 6]
-    requires { ⌜ length (now columns) ≤ 6 ⌝ }
-    ensures { λ r. ⌜ r ≡ minimums (map columnFrom (now (columns .entry))) ⌝ }
-{
-    let mut mins = [0u8; 6];
-    let mut c = 0;
-    while c < columns.len() {
-        mins[c] = columns[c][28];
-        c += 1;
-    }
-    mins
-}
-
 // A new row of a table, with what the row at `at` says, added to the rows.
 pub fn insert_row(
     text: &[u8],
     ends: &[u16],
     ops: Found,
     fresh: &[u8],
-    columns: &[[u8; 48]],
+    columns: &[Entry],
     at: usize,
     table: u8,
-    id: &[u8; 16],
-    rows: &mut [[[u8; 25]; 25]],
+    id: &[u8; ID],
+    rows: &mut [Row],
     n: usize,
 )
     requires { ⌜ Running (now text) (now ends) ops (now fresh) ⌝ }
     requires { ⌜ wellAt (now text) at ≡ true ⌝ }
-    requires { ⌜ length (now columns) ≤ 6 ⌝ }
+    requires { ⌜ length (now columns) ≤ mostColumns ⌝ }
     requires { ⌜ isFine (writtenRow true (now text) ops (now fresh) (now columns) at .fault) ≡ true ⌝ }
     requires { ⌜ n < length (now rows) ⌝ }
     ensures { λ _. ⌜ Inserted (map columnFrom (now (columns .entry))) (writtenRow true (now (text .entry)) ops (now (fresh .entry)) (now (columns .entry)) at .got) table (value (now (id .entry))) n (now (rows .entry)) (now (rows .exit)) ⌝ }
 {
-    let mins = minimums_of(columns);
+    let mins = catalog::minimums_of(columns);
     let mut row = rows::new_row(table, id, &mins);
     assign_row(text, ends, ops, fresh, columns, at, &mut row);
     rows::add(rows, n, &row);
@@ -265,18 +227,18 @@ pub fn update_rows(
     ends: &[u16],
     ops: Found,
     fresh: &[u8],
-    columns: &[[u8; 48]],
+    columns: &[Entry],
     table: u8,
     tests: Found,
     at: usize,
-    rows: &mut [[[u8; 25]; 25]],
+    rows: &mut [Row],
     n: usize,
 )
     requires { ⌜ Running (now text) (now ends) ops (now fresh) ⌝ }
     requires { ⌜ itemsFine (now text) tests ≡ true ⌝ }
     requires { ⌜ isFine (testsAt (now text) ops (now fresh) (now columns) tests .fault) ≡ true ⌝ }
     requires { ⌜ wellAt (now text) at ≡ true ⌝ }
-    requires { ⌜ length (now columns) ≤ 6 ⌝ }
+    requires { ⌜ length (now columns) ≤ mostColumns ⌝ }
     requires { ⌜ isFine (writtenRow false (now text) ops (now fresh) (now columns) at .fault) ≡ true ⌝ }
     requires { ⌜ n ≤ length (now rows) ⌝ }
     ensures { λ _. ⌜ Updated (map columnFrom (now (columns .entry))) (testsAt (now (text .entry)) ops (now (fresh .entry)) (now (columns .entry)) tests .got) (writtenRow false (now (text .entry)) ops (now (fresh .entry)) (now (columns .entry)) at .got) table n (now (rows .entry)) (now (rows .exit)) ⌝ }

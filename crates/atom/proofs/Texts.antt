@@ -16,7 +16,8 @@ use Rattle.model.specs.Text.{begins, chars}
 use Rattle.model.specs.Value.{utf8From}
 use Rattle.model.proofs.Tests.{split}
 use Rattle.model.proofs.Utf8.{Lead, one, two, three-low, three, three-cut, three-high, four-low, four, four-high, lead-at, no-lead, rest-of}
-use Rattle.atom.specs.Bytes.{secondLow, secondHigh, dueRanges, moreAfter, fitsAt, dueAfter, lowAfter, highAfter, ones}
+use Rattle.atom.specs.Bytes.{dueRanges, moreAfter, fitsAt, dueAfter, lowAfter, highAfter, ones}
+use Rattle.leaf.specs.Bytes.{secondLow, secondHigh}
 
 -- what follows a byte that fits, and that nothing follows one that does not
 abbrev goesOn : Bool → ℕ → ℕ → ℕ → List ℕ → Bool

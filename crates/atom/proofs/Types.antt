@@ -8,10 +8,10 @@ use lib.Signed.{ltZ}
 use borrow.Author.Tests.{ne-eqb, lt-ltb, le-ltb, ltb-true, ltb-false}
 use Rattle.model.specs.Octets.{ltBytes}
 use Rattle.model.specs.Schema.{integer, boolean, text, uuid}
-use Rattle.inner.specs.Packed.{baseNumbered}
+use Rattle.model.specs.Catalog.{baseNumbered}
 use Rattle.model.specs.Value.{fromTwos, lessAtom}
 use Rattle.model.proofs.Tests.{split}
-use Rattle.atom.specs.Bytes.{halves}
+use Rattle.leaf.specs.Bytes.{halves}
 
 pub base-integer : (k : ℕ) → k ≡ 0 → baseNumbered k ≡ integer
 unfolding baseNumbered

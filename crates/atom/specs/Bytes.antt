@@ -5,20 +5,11 @@ use mathlib.Core.Bool.{Bool, true, false, not, _&&_}
 use mathlib.Core.List.{List, [], _∷_}
 use lib.Dec.{eqb, ltb, leb}
 use lib.ListN.{length}
+use Rattle.model.specs.Limits.{atomBytes}
 use Rattle.model.specs.Base.{all}
 use Rattle.model.specs.Strings.{Range, _to_}
 use Rattle.model.specs.Text.{begins}
-
--- the two halves of 64 bits of two's complement, the upper of which is negative, in the order of the integers
-unfoldable pub halves : ℕ → ℕ
-halves x = elim (ltb x 9223372036854775808) [ true ↦ x + 9223372036854775808 | false ↦ x - 9223372036854775808 ]
-
--- the bounds of the byte after a lead byte (RFC 3629 §4)
-unfoldable pub secondLow : ℕ → ℕ
-secondLow b = elim (eqb b 224) [ true ↦ 160 | false ↦ elim (eqb b 240) [ true ↦ 144 | false ↦ 128 ] ]
-
-unfoldable pub secondHigh : ℕ → ℕ
-secondHigh b = elim (eqb b 237) [ true ↦ 159 | false ↦ elim (eqb b 244) [ true ↦ 143 | false ↦ 191 ] ]
+use Rattle.leaf.specs.Bytes.{secondLow, secondHigh}
 
 -- the ranges of the bytes that are due, the next of them from low to high
 abbrev pub dueRanges : ℕ → ℕ → ℕ → List Range
@@ -59,5 +50,5 @@ ones b = elim (begins b) [ true ↦ 1 | false ↦ 0 ]
 
 -- what an atom's type says of it, where its bytes from `at` on are looked at
 pub record Typed (at : ℕ) (a : List ℕ) : Type 0 where
-  pub size : length a ≡ 25
-  pub bytes : at < 25 → all (λ b. ltb b 256) a ≡ true
+  pub size : length a ≡ atomBytes
+  pub bytes : at < atomBytes → all (λ b. ltb b 256) a ≡ true

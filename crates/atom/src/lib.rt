@@ -1,23 +1,28 @@
-// Atoms of 25 bytes: equality, order by base type, texts, and which are well formed.
+// Atoms: equality, order by base type, texts, and which are well formed.
+use model::ATOM;
+use model::Atom;
+use model::ID;
+use model::TEXT;
 ghost use mathlib.Core.Path.{_≡_};
 ghost use mathlib.Core.Bool.{true};
 ghost use lib.ListN.{length, drop};
 ghost use Rattle.model.specs.Octets.{eqBytes};
 ghost use Rattle.model.specs.Schema.{integer, boolean, text};
-ghost use Rattle.inner.specs.Packed.{baseNumbered};
+ghost use Rattle.model.specs.Catalog.{baseNumbered};
 ghost use Rattle.model.specs.Text.{chars};
 ghost use Rattle.model.specs.Value.{zeros, textOf, isUtf8, lessAtom, wellAtom, byteAtom};
-ghost use Rattle.atom.specs.Bytes.{halves, secondLow, secondHigh, moreAfter, fitsAt, dueAfter, lowAfter, highAfter, ones, Typed};
+ghost use Rattle.atom.specs.Bytes.{moreAfter, fitsAt, dueAfter, lowAfter, highAfter, ones, Typed};
+ghost use Rattle.leaf.specs.Bytes.{halves, secondLow, secondHigh};
 
 // Whether a and b are the same atom.
-pub fn same(a: &[u8; 25], b: &[u8; 25]) -> bool
+pub fn same(a: &Atom, b: &Atom) -> bool
     ensures { λ r. ⌜ r ≡ eqBytes (now (a .entry)) (now (b .entry)) ⌝ }
 {
     let x = &a[..];
     let y = &b[..];
     let mut ok = true;
     let mut k = 0;
-    while k < 25 {
+    while k < ATOM {
         ok = ok & (x[k] == y[k]);
         k += 1;
     }
@@ -25,14 +30,14 @@ pub fn same(a: &[u8; 25], b: &[u8; 25]) -> bool
 }
 
 // Whether an atom's bytes from `at` on are zero; and what its type says of it.
-pub fn blank_from(a: &[u8; 25], at: usize) -> bool
+pub fn blank_from(a: &Atom, at: usize) -> bool
     ensures { λ r. ⌜ r ≡ zeros (drop at (now (a .entry))) ⌝ }
     ensures { λ _. ⌜ Typed at (now (a .entry)) ⌝ }
 {
     let x = &a[..];
     let mut ok = true;
     let mut k = at;
-    while k < 25 {
+    while k < ATOM {
         ok = ok & (x[k] == 0);
         k += 1;
     }
@@ -40,26 +45,19 @@ pub fn blank_from(a: &[u8; 25], at: usize) -> bool
 }
 
 // How many bytes the text of an atom has: its first byte, as far as the atom goes.
-pub fn text_size(a: &[u8; 25]) -> usize
+pub fn text_size(a: &Atom) -> usize
     ensures { λ r. ⌜ r ≡ length (textOf (now (a .entry))) ⌝ }
 {
     let x = &a[..];
-    let n = wide(x[0]);
-    if 24 < n {
-        return 24;
+    let n = leaf::wide(x[0]);
+    if TEXT < n {
+        return TEXT;
     }
     n
 }
 
-// A byte as a number.
-pub fn wide(b: u8) -> usize
-    ensures { λ r. ⌜ r ≡ b ⌝ }
-{
-    b as usize
-}
-
 // The text of an atom.
-pub fn text_of<'a>(a: &'a [u8; 25]) -> &'a [u8]
+pub fn text_of<'a>(a: &'a Atom) -> &'a [u8]
     ensures { λ r. ⌜ now r ≡ textOf (now (a .entry)) ⌝ }
 {
     let n = text_size(a);
@@ -68,24 +66,14 @@ pub fn text_of<'a>(a: &'a [u8; 25]) -> &'a [u8]
 }
 
 // The order of integers: of their bytes as 64 bits, the upper half of which is negative.
-pub fn less_integers(a: &[u8; 25], b: &[u8; 25]) -> bool
+pub fn less_integers(a: &Atom, b: &Atom) -> bool
     ensures { λ r. ⌜ r ≡ lessAtom integer (now (a .entry)) (now (b .entry)) ⌝ }
 {
-    turned(octets::number(a, 8)) < turned(octets::number(b, 8))
-}
-
-// 64 bits whose order is that of the integers that x and others are in two's complement.
-fn turned(x: u64) -> u64
-    ensures { λ r. ⌜ r ≡ halves x ⌝ }
-{
-    if x < 9223372036854775808 {
-        return x + 9223372036854775808;
-    }
-    x - 9223372036854775808
+    leaf::turn(octets::number(a, 8)) < leaf::turn(octets::number(b, 8))
 }
 
 // Whether a is before b, of a base type by its number.
-pub fn less(kind: u8, a: &[u8; 25], b: &[u8; 25]) -> bool
+pub fn less(kind: u8, a: &Atom, b: &Atom) -> bool
     ensures { λ r. ⌜ r ≡ lessAtom (baseNumbered kind) (now (a .entry)) (now (b .entry)) ⌝ }
 {
     if kind == 0 {
@@ -122,31 +110,6 @@ fn more(b: u8) -> u8
     4
 }
 
-// The bounds of the byte after the lead byte b.
-fn second_low(b: u8) -> u8
-    ensures { λ r. ⌜ r ≡ secondLow b ⌝ }
-{
-    if b == 224 {
-        return 160;
-    }
-    if b == 240 {
-        return 144;
-    }
-    128
-}
-
-fn second_high(b: u8) -> u8
-    ensures { λ r. ⌜ r ≡ secondHigh b ⌝ }
-{
-    if b == 237 {
-        return 159;
-    }
-    if b == 244 {
-        return 143;
-    }
-    191
-}
-
 // A byte of a text of which `due` more bytes of a character are due, the next of them from low to high: whether it fits, and what is due after it.
 fn fits(due: u8, low: u8, high: u8, b: u8) -> bool
     ensures { λ r. ⌜ r ≡ fitsAt due low high b ⌝ }
@@ -170,7 +133,7 @@ fn low_after(due: u8, b: u8) -> u8
     ensures { λ r. ⌜ r ≡ lowAfter due b ⌝ }
 {
     if due == 0 {
-        return second_low(b);
+        return leaf::second_low(b as u16);
     }
     128
 }
@@ -179,7 +142,7 @@ fn high_after(due: u8, b: u8) -> u8
     ensures { λ r. ⌜ r ≡ highAfter due b ⌝ }
 {
     if due == 0 {
-        return second_high(b);
+        return leaf::second_high(b as u16);
     }
     191
 }
@@ -231,7 +194,7 @@ pub fn count_chars(t: &[u8]) -> usize
     n
 }
 
-fn well_boolean(a: &[u8; 25]) -> bool
+fn well_boolean(a: &Atom) -> bool
     ensures { λ r. ⌜ r ≡ wellAtom boolean (now (a .entry)) ⌝ }
     ensures { λ r. ⌜ (r ≡ true → byteAtom (now (a .entry)) ≡ true) ⌝ }
 {
@@ -239,12 +202,12 @@ fn well_boolean(a: &[u8; 25]) -> bool
     (a[0] < 2) & z
 }
 
-fn well_text(a: &[u8; 25]) -> bool
+fn well_text(a: &Atom) -> bool
     ensures { λ r. ⌜ r ≡ wellAtom text (now (a .entry)) ⌝ }
     ensures { λ r. ⌜ (r ≡ true → byteAtom (now (a .entry)) ≡ true) ⌝ }
 {
-    let n = wide(a[0]);
-    if 24 < n {
+    let n = leaf::wide(a[0]);
+    if TEXT < n {
         return false;
     }
     let u = is_utf8(text_of(a));
@@ -252,8 +215,8 @@ fn well_text(a: &[u8; 25]) -> bool
     u & z
 }
 
-// Whether an atom is well formed for a base type by its number; such a one is 25 bytes.
-pub fn well_atom(kind: u8, a: &[u8; 25]) -> bool
+// Whether an atom is well formed for a base type by its number; such a one is bytes, as many as an atom has.
+pub fn well_atom(kind: u8, a: &Atom) -> bool
     ensures { λ r. ⌜ r ≡ wellAtom (baseNumbered kind) (now (a .entry)) ⌝ }
     ensures { λ r. ⌜ (r ≡ true → byteAtom (now (a .entry)) ≡ true) ⌝ }
 {
@@ -266,5 +229,5 @@ pub fn well_atom(kind: u8, a: &[u8; 25]) -> bool
     if kind == 2 {
         return well_text(a);
     }
-    blank_from(a, 16)
+    blank_from(a, ID)
 }

@@ -16,13 +16,14 @@ use Rattle.model.specs.Value.{Value}
 use Rattle.model.specs.Rows.{Row, keyOf, key, find, has}
 use Rattle.model.proofs.Order.{Fine, AllFine}
 use Rattle.model.specs.Mirror.{Mirror, columnBytes, valueAnswer, rowAnswer, columnAnswer}
-use Rattle.model.specs.Areas.{tablesIn, MirrorState, mirrorBytes, mirrorOf}
+use Rattle.model.specs.Areas.{MirrorState, mirrorOf}
+use Rattle.model.specs.Limits.{mirrorBytes}
 use Rattle.model.specs.Calls.{asked, Presence, noPresence, presenceOf, mirrorHasRow, Contents, noContents, contentsOf, mirrorColumn}
 use Rattle.model.specs.declared.Answer.{Answer}
 use Rattle.model.specs.declared.Answer.the-variants.{Accepted, Disordered, WrongLength}
 use Rattle.model.proofs.Tests.{split}
 use Rattle.model.proofs.GoodOrder.{known-table}
-use Rattle.model.proofs.Accepted.{Kept, narrow, text-kept}
+use Rattle.model.proofs.Accepted.{Kept, narrow, sane-kept}
 use Rattle.model.proofs.Lengths.{narrow-at, typed-length}
 use Rattle.model.proofs.Areas.{mirror-of-is}
 use Rattle.model.proofs.States.{mirror-parts}
@@ -68,20 +69,23 @@ alike f a h t =
     (λ e. let q : 255 ≤ min t 255 = omega (arith, ltb-false t 255 e) in h t (omega (arith, ltb-false t 255 e)) ∙ sym (h (min t 255) q))
 
 module _ (a : List ℕ) (m : MirrorState) (e : mirrorOf a ≡ some m) where
-  fine : AllFine (tablesIn (m .schema)) (m .mirror .rows)
+  fine : AllFine (m .database .tables) (m .mirror .rows)
   fine = mirror-parts m (mirror-of-is a m e .1) .rows .fine
+
+  kept : Kept (m .database .tables)
+  kept = sane-kept (m .database) (mirror-parts m (mirror-of-is a m e .1) .accepted)
 
   has-alike : (t i : ℕ) → has (keyOf t i) (m .mirror .rows) ≡ has (keyOf (min t 255) i) (m .mirror .rows)
   has-alike t i =
       alike (λ (u : ℕ). has (keyOf u i) (m .mirror .rows)) false
-      (λ u l. has-beyond (tablesIn (m .schema)) u i (omega (arith, l, text-kept (m .schema) .few)) (m .mirror .rows) fine) t
+      (λ u l. has-beyond (m .database .tables) u i (omega (arith, l, kept .few)) (m .mirror .rows) fine) t
 
   column-alike : (t i c : ℕ) → columnAnswer (m .mirror) t i c ≡ columnAnswer (m .mirror) (min t 255) i (min c 255)
   column-alike t i c =
       alike (λ (u : ℕ). rowAnswer (find (keyOf u i) (m .mirror .rows)) c) (replicate columnBytes 0)
-      (λ u l. ap (λ (o : Option Row). rowAnswer o c) (find-beyond (tablesIn (m .schema)) u i (omega (arith, l, text-kept (m .schema) .few)) (m .mirror .rows) fine)) t
+      (λ u l. ap (λ (o : Option Row). rowAnswer o c) (find-beyond (m .database .tables) u i (omega (arith, l, kept .few)) (m .mirror .rows) fine)) t
       ∙ alike (λ (d : ℕ). rowAnswer (find (keyOf (min t 255) i) (m .mirror .rows)) d) (replicate columnBytes 0)
-      (λ d l. column-beyond (tablesIn (m .schema)) (keyOf (min t 255) i) d (text-kept (m .schema) .narrow) (omega (arith, l)) (m .mirror .rows) fine) c
+      (λ d l. column-beyond (m .database .tables) (keyOf (min t 255) i) d (kept .narrow) (omega (arith, l)) (m .mirror .rows) fine) c
 
 -- ── questions ──
 module _ {A : Type 0} (refuse : Answer → A) where

@@ -10,7 +10,9 @@ use lib.ListN.{length, drop, set, replicate}
 use Rattle.model.specs.Octets.{big}
 use Rattle.model.specs.Refusals.{numberOf}
 use Rattle.model.specs.Base.{isSome}
-use Rattle.model.specs.Areas.{bit, mirrorBytes, mirrorOf}
+use Rattle.model.specs.Areas.{mirrorOf}
+use Rattle.model.specs.Limits.{mirrorBytes}
+use Rattle.model.specs.Catalog.{bit}
 use Rattle.model.specs.Calls.{zeroed, Progress, mirrorProgress, Presence, mirrorHasRow}
 use Rattle.model.specs.declared.Answer.{Answer}
 use Rattle.model.specs.FirstRefusal.{askNumber}

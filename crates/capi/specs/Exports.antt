@@ -8,7 +8,7 @@ use Rattle.model.specs.declared.Answer.{Answer}
 use Rattle.model.specs.declared.Answer.the-variants.{WrongLength}
 use Rattle.model.specs.Octets.{big}
 use Rattle.model.specs.Refusals.{numberOf}
-use Rattle.model.specs.Areas.{bit}
+use Rattle.model.specs.Catalog.{bit}
 use Rattle.model.specs.FirstRefusal.{given, askConditions}
 use Rattle.model.specs.Calls.{zeroed, Progress, mirrorProgress, Presence, mirrorHasRow}
 

@@ -1,10 +1,14 @@
 // The C library: include/maqdufesh.h. Each function is the call of `store` or `mirror` of that name; a slice is a pointer and a length, 0 is accepted, a refusal is its number.
 
 use model::Answer;
+use model::ID;
+use model::MIRROR_BYTES;
+use model::STORE_BYTES;
 ghost use mathlib.Core.Path.{_≡_};
 ghost use Prim.Native.Nat.{min};
 ghost use Rattle.model.specs.Refusals.{numberOf};
-ghost use Rattle.model.specs.Areas.{storeBytes, mirrorBytes, bit};
+ghost use Rattle.model.specs.Limits.{storeBytes, mirrorBytes};
+ghost use Rattle.model.specs.Catalog.{bit};
 ghost use Rattle.model.specs.Calls.{storeStart, storeTransact, storeMark, mirrorStart, mirrorHear, mirrorColumn};
 ghost use Rattle.model.specs.FirstRefusal.{storeStartNumber, transactNumber, markNumber, mirrorStartNumber, hearNumber, columnNumber};
 ghost use Rattle.capi.specs.Exports.{progressBytes, presenceBytes, askedNumber};
@@ -56,14 +60,14 @@ fn small(x: u32) -> u8
 pub extern "C" fn maq_store_area_len() -> u64
     ensures { λ r. ⌜ r ≡ storeBytes ⌝ }
 {
-    24107
+    STORE_BYTES as u64
 }
 
 #[no_mangle]
 pub extern "C" fn maq_mirror_area_len() -> u64
     ensures { λ r. ⌜ r ≡ mirrorBytes ⌝ }
 {
-    24113
+    MIRROR_BYTES as u64
 }
 
 #[no_mangle]
@@ -138,7 +142,7 @@ pub extern "C" fn maq_mirror_progress(area: &[u8], out: &mut [u8]) -> u32
 
 // Whether a row is there, in one byte.
 #[no_mangle]
-pub extern "C" fn maq_mirror_has_row(area: &[u8], table: u32, id: &[u8; 16], out: &mut [u8]) -> u32
+pub extern "C" fn maq_mirror_has_row(area: &[u8], table: u32, id: &[u8; ID], out: &mut [u8]) -> u32
     ensures { λ r. ⌜ r ≡ askedNumber 1 (now (area .entry)) (now (out .entry)) ⌝ }
     ensures { λ r. ⌜ presenceBytes (now (area .entry)) table (now (id .entry)) (now (out .entry)) ≡ record { answer = r; out = now (out .exit) } ⌝ }
 {
@@ -157,7 +161,7 @@ pub extern "C" fn maq_mirror_has_row(area: &[u8], table: u32, id: &[u8; 16], out
 pub extern "C" fn maq_mirror_column(
     area: &[u8],
     table: u32,
-    id: &[u8; 16],
+    id: &[u8; ID],
     column: u32,
     out: &mut [u8],
 ) -> u32

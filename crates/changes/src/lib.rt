@@ -1,5 +1,8 @@
 // The change records of a commit: all gone rows, then each new row with all its columns and each changed row with its changed columns, then the end. One walk writes and counts them.
+use model::Catalog;
 use model::Found;
+use model::LAST_NUMBER;
+use model::Row;
 use record::Born;
 use record::Column;
 use record::End;
@@ -8,15 +11,15 @@ ghost use mathlib.Core.Path.{_≡_};
 ghost use mathlib.Core.List.{[], _∷_, map};
 ghost use Prim.Native.Nat.{_+_, _*_, _%_, _≤_, _<_, min};
 ghost use lib.ListN.{length};
-ghost use Rattle.model.specs.Limits.{mostRows, leastRecords};
+ghost use Rattle.model.specs.Limits.{mostRows, mostColumns, lastNumber, endBytes, rowRecordBytes, columnRecordBytes, leastRecords};
 ghost use Rattle.model.specs.Octets.{value, filled};
 ghost use Rattle.model.specs.Base.{flat};
-ghost use Rattle.model.specs.Schema.{Schema, columnsOf};
+ghost use Rattle.model.specs.Schema.{columnsOf};
 ghost use Rattle.model.specs.Areas.{rowFrom};
-ghost use Rattle.inner.specs.Packed.{packedTables};
-ghost use Rattle.inner.specs.Working.{working, tableIn, idIn, keyIn, valueIn, place};
+ghost use Rattle.model.specs.Catalog.{packedTables};
+ghost use Rattle.inner.specs.Working.{working, tableIn, idIn, valueIn};
 ghost use Rattle.model.specs.Records.{born, gone, column, end, writes, diff, numberFrom, encode};
-ghost use Rattle.references.specs.Links.{Accepted};
+ghost use Rattle.catalog.specs.Accepted.{Accepted};
 ghost use Rattle.changes.specs.Walk.{Room, Recorded, skips, rowPass, pass, rowMost};
 
 // Where the next record goes: how many there are already, and where their bytes end.
@@ -25,18 +28,21 @@ pub struct Cursor {
     pub at: usize,
 }
 
-// The number of the record that comes after `count` others, as its four bytes hold it.
+// How many numbers the bytes of one hold.
+const NUMBERS: usize = LAST_NUMBER as usize + 1;
+
+// The number of the record that comes after `count` others, as its bytes hold it.
 fn next(number: u32, count: usize) -> u32
     requires { ⌜ count ≤ leastRecords ⌝ }
-    ensures { λ r. ⌜ r ≡ (number + count + 1) % 4294967296 ⌝ }
+    ensures { λ r. ⌜ r ≡ (number + count + 1) % (lastNumber + 1) ⌝ }
 {
-    ((number as usize + count + 1) % 4294967296) as u32
+    ((number as usize + count + 1) % NUMBERS) as u32
 }
 
 // A row that went.
-fn put_gone(row: &[[u8; 25]; 25], run: u32, number: u32, to: Cursor, records: &mut [u8]) -> Cursor
-    requires { ⌜ Room 26 to (length (now records)) ⌝ }
-    ensures { λ r. ⌜ Recorded run number (gone (tableIn (now (row .entry))) (idIn (now (row .entry))) ∷ []) 26 to (now (records .entry)) r (now (records .exit)) ⌝ }
+fn put_gone(row: &Row, run: u32, number: u32, to: Cursor, records: &mut [u8]) -> Cursor
+    requires { ⌜ Room rowRecordBytes to (length (now records)) ⌝ }
+    ensures { λ r. ⌜ Recorded run number (gone (tableIn (now (row .entry))) (idIn (now (row .entry))) ∷ []) rowRecordBytes to (now (records .entry)) r (now (records .exit)) ⌝ }
 {
     let at = to.at;
     let n = next(number, to.count);
@@ -49,9 +55,9 @@ fn put_gone(row: &[[u8; 25]; 25], run: u32, number: u32, to: Cursor, records: &m
 }
 
 // A new row.
-fn put_born(row: &[[u8; 25]; 25], run: u32, number: u32, to: Cursor, records: &mut [u8]) -> Cursor
-    requires { ⌜ Room 26 to (length (now records)) ⌝ }
-    ensures { λ r. ⌜ Recorded run number (born (tableIn (now (row .entry))) (idIn (now (row .entry))) ∷ []) 26 to (now (records .entry)) r (now (records .exit)) ⌝ }
+fn put_born(row: &Row, run: u32, number: u32, to: Cursor, records: &mut [u8]) -> Cursor
+    requires { ⌜ Room rowRecordBytes to (length (now records)) ⌝ }
+    ensures { λ r. ⌜ Recorded run number (born (tableIn (now (row .entry))) (idIn (now (row .entry))) ∷ []) rowRecordBytes to (now (records .entry)) r (now (records .exit)) ⌝ }
 {
     let at = to.at;
     let n = next(number, to.count);
@@ -64,17 +70,10 @@ fn put_born(row: &[[u8; 25]; 25], run: u32, number: u32, to: Cursor, records: &m
 }
 
 // Column c of a row.
-fn put_column(
-    row: &[[u8; 25]; 25],
-    c: usize,
-    run: u32,
-    number: u32,
-    to: Cursor,
-    records: &mut [u8],
-) -> Cursor
-    requires { ⌜ Room 128 to (length (now records)) ⌝ }
-    requires { ⌜ c < 6 ⌝ }
-    ensures { λ r. ⌜ Recorded run number (column (tableIn (now (row .entry))) (idIn (now (row .entry))) c (valueIn c (now (row .entry))) ∷ []) 128 to (now (records .entry)) r (now (records .exit)) ⌝ }
+fn put_column(row: &Row, c: usize, run: u32, number: u32, to: Cursor, records: &mut [u8]) -> Cursor
+    requires { ⌜ Room columnRecordBytes to (length (now records)) ⌝ }
+    requires { ⌜ c < mostColumns ⌝ }
+    ensures { λ r. ⌜ Recorded run number (column (tableIn (now (row .entry))) (idIn (now (row .entry))) c (valueIn c (now (row .entry))) ∷ []) columnRecordBytes to (now (records .entry)) r (now (records .exit)) ⌝ }
 {
     let at = to.at;
     let n = next(number, to.count);
@@ -90,8 +89,8 @@ fn put_column(
 
 // The end of a commit.
 fn put_end(run: u32, number: u32, to: Cursor, records: &mut [u8]) -> Cursor
-    requires { ⌜ Room 9 to (length (now records)) ⌝ }
-    ensures { λ r. ⌜ Recorded run number (end ∷ []) 9 to (now (records .entry)) r (now (records .exit)) ⌝ }
+    requires { ⌜ Room endBytes to (length (now records)) ⌝ }
+    ensures { λ r. ⌜ Recorded run number (end ∷ []) endBytes to (now (records .entry)) r (now (records .exit)) ⌝ }
 {
     let at = to.at;
     let n = next(number, to.count);
@@ -102,27 +101,9 @@ fn put_end(run: u32, number: u32, to: Cursor, records: &mut [u8]) -> Cursor
     }
 }
 
-// A row's id, by value.
-fn id_at(row: &[[u8; 25]; 25]) -> [u8; 16]
-    ensures { λ r. ⌜ value r ≡ idIn (now (row .entry)) ⌝ }
-{
-    let mut id = [0u8; 16];
-    octets::put_bytes(&mut id, rows::id_of(row));
-    id
-}
-
-// The place of the row that has the table and id of this one.
-fn place_of(rows: &[[[u8; 25]; 25]], n: usize, row: &[[u8; 25]; 25]) -> Found
-    requires { ⌜ n ≤ length (now rows) ⌝ }
-    ensures { λ r. ⌜ ((s : Schema) → r ≡ place (keyIn (now (row .entry))) (working s n (now (rows .entry)))) ⌝ }
-{
-    let id = id_at(row);
-    rows::find(rows, n, rows::table_of(row), &id)
-}
-
 // Whether column c of a row is left out: never of a fresh row, and of another where it is like before.
-fn is_left(fresh: bool, old: &[[u8; 25]; 25], row: &[[u8; 25]; 25], c: usize) -> bool
-    requires { ⌜ c < 6 ⌝ }
+fn is_left(fresh: bool, old: &Row, row: &Row, c: usize) -> bool
+    requires { ⌜ c < mostColumns ⌝ }
     ensures { λ r. ⌜ r ≡ skips fresh (valueIn c (now (old .entry))) (valueIn c (now (row .entry))) ⌝ }
 {
     if fresh {
@@ -132,7 +113,7 @@ fn is_left(fresh: bool, old: &[[u8; 25]; 25], row: &[[u8; 25]; 25], c: usize) ->
 }
 
 // How many columns both rows have.
-fn width_of(schema: &[[u8; 48]], old: &[[u8; 25]; 25], row: &[[u8; 25]; 25]) -> usize
+fn width_of(schema: &Catalog, old: &Row, row: &Row) -> usize
     requires { ⌜ Accepted (now schema) ⌝ }
     ensures { λ r. ⌜ r ≡ min (length (columnsOf (packedTables (now (schema .entry))) (tableIn (now (old .entry))))) (length (columnsOf (packedTables (now (schema .entry))) (tableIn (now (row .entry))))) ⌝ }
 {
@@ -146,18 +127,18 @@ fn width_of(schema: &[[u8; 48]], old: &[[u8; 25]; 25], row: &[[u8; 25]; 25]) -> 
 
 // The columns of a row in schema order: all of a fresh row, the changed ones of another.
 fn put_columns(
-    schema: &[[u8; 48]],
+    schema: &Catalog,
     fresh: bool,
-    old: &[[u8; 25]; 25],
-    row: &[[u8; 25]; 25],
+    old: &Row,
+    row: &Row,
     run: u32,
     number: u32,
     start: Cursor,
     records: &mut [u8],
 ) -> Cursor
     requires { ⌜ Accepted (now schema) ⌝ }
-    requires { ⌜ Room 768 start (length (now records)) ⌝ }
-    ensures { λ r. ⌜ Recorded run number (writes (skips fresh) (tableIn (now (row .entry))) (idIn (now (row .entry))) 0 (rowFrom (packedTables (now (schema .entry))) (now (old .entry)) .columns) (rowFrom (packedTables (now (schema .entry))) (now (row .entry)) .columns)) 768 start (now (records .entry)) r (now (records .exit)) ⌝ }
+    requires { ⌜ Room (mostColumns * columnRecordBytes) start (length (now records)) ⌝ }
+    ensures { λ r. ⌜ Recorded run number (writes (skips fresh) (tableIn (now (row .entry))) (idIn (now (row .entry))) 0 (rowFrom (packedTables (now (schema .entry))) (now (old .entry)) .columns) (rowFrom (packedTables (now (schema .entry))) (now (row .entry)) .columns)) (mostColumns * columnRecordBytes) start (now (records .entry)) r (now (records .exit)) ⌝ }
 {
     let w = width_of(schema, old, row);
     let mut to = start;
@@ -176,9 +157,9 @@ fn put_columns(
 // Of a row after the commit: born with all its columns, where those before it lack it, else its changed columns.
 fn put_row(
     gone: bool,
-    schema: &[[u8; 48]],
-    row: &[[u8; 25]; 25],
-    others: &[[[u8; 25]; 25]],
+    schema: &Catalog,
+    row: &Row,
+    others: &[Row],
     k: usize,
     run: u32,
     number: u32,
@@ -190,7 +171,7 @@ fn put_row(
     requires { ⌜ Room (rowMost gone) to (length (now records)) ⌝ }
     ensures { λ r. ⌜ Recorded run number (rowPass gone (packedTables (now (schema .entry))) (working (packedTables (now (schema .entry))) k (now (others .entry))) (rowFrom (packedTables (now (schema .entry))) (now (row .entry)))) (rowMost gone) to (now (records .entry)) r (now (records .exit)) ⌝ }
 {
-    let found = place_of(others, k, row);
+    let found = rows::find_row(others, k, row);
     match found {
         Found::At(i) => {
             if gone {
@@ -211,10 +192,10 @@ fn put_row(
 // What rows write against the other rows, in their order: the gone ones of the rows before the commit, or the new and the changed ones of those after it.
 fn put_rows(
     gone: bool,
-    schema: &[[u8; 48]],
-    rows: &[[[u8; 25]; 25]],
+    schema: &Catalog,
+    rows: &[Row],
     n: usize,
-    others: &[[[u8; 25]; 25]],
+    others: &[Row],
     k: usize,
     run: u32,
     number: u32,
@@ -237,12 +218,12 @@ fn put_rows(
 }
 
 // The records of a commit from the rows before it to the rows after it, numbered on from `number`, and zeros behind them; and how many they are.
-// Their numbers are as their four bytes hold them: where more are asked for than are left, the caller refuses.
+// Their numbers are as their bytes hold them: where more are asked for than are left, the caller refuses.
 pub fn write(
-    schema: &[[u8; 48]],
-    before: &[[[u8; 25]; 25]],
+    schema: &Catalog,
+    before: &[Row],
     m: usize,
-    after: &[[[u8; 25]; 25]],
+    after: &[Row],
     n: usize,
     run: u32,
     number: u32,

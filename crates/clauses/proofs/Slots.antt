@@ -24,7 +24,7 @@ use Rattle.model.specs.Written.{stringIn, arrayIn, objectIn, memberNamed}
 use Rattle.model.specs.Conditions.{Test, readTests}
 use Rattle.model.specs.Mutations.{Mutation, readMutations}
 use Rattle.model.specs.Operations.{rowOf, readRow, readWhere, readMutationList, nameFault}
-use Rattle.inner.specs.Packed.{columnFrom}
+use Rattle.model.specs.Catalog.{columnFrom}
 use Rattle.model.proofs.Tests.{split, clash}
 use Rattle.model.proofs.Atoms.{textOf-textAtom}
 use Rattle.nav.proofs.FirstByte.{items-in}
@@ -73,7 +73,7 @@ module _ {s : List ℕ} {ws : List (List ℕ)} {ms : List Named} {slots : List �
 
 -- ── arrays and objects ──
 array-some : (j : Json) → isArray (kindOf j) ≡ true → arrayIn j ≡ some (itemsIn j)
-unfolding kindOf isArray itemsIn
+unfolding kindOf itemsIn
 array-some null e = cc
 array-some (bool b) e = cc
 array-some (num t) e = cc
@@ -82,7 +82,7 @@ array-some (arr xs) e = refl
 array-some (obj ms) e = cc
 
 array-none : (j : Json) → isArray (kindOf j) ≡ false → arrayIn j ≡ none
-unfolding kindOf isArray
+unfolding kindOf
 array-none null e = refl
 array-none (bool b) e = refl
 array-none (num t) e = refl
@@ -91,7 +91,7 @@ array-none (arr xs) e = cc
 array-none (obj ms) e = refl
 
 object-some : (j : Json) → isObject (kindOf j) ≡ true → objectIn j ≡ some (membersIn j)
-unfolding kindOf isObject membersIn
+unfolding kindOf membersIn
 object-some null e = cc
 object-some (bool b) e = cc
 object-some (num t) e = cc
@@ -100,7 +100,7 @@ object-some (arr xs) e = cc
 object-some (obj ms) e = refl
 
 object-none : (j : Json) → isObject (kindOf j) ≡ false → objectIn j ≡ none
-unfolding kindOf isObject
+unfolding kindOf
 object-none null e = refl
 object-none (bool b) e = refl
 object-none (num t) e = refl
@@ -110,11 +110,11 @@ object-none (obj ms) e = cc
 
 module _ (s : List ℕ) (p : ℕ) where
   null-array : eqb p 0 ≡ true → isArray (kindOf (slotTree s p)) ≡ false
-  unfolding slotTree kindOf isArray
+  unfolding slotTree kindOf
   null-array e = rw (slotTree, e)
 
   null-object : eqb p 0 ≡ true → isObject (kindOf (slotTree s p)) ≡ false
-  unfolding slotTree kindOf isObject
+  unfolding slotTree kindOf
   null-object e = rw (slotTree, e)
 
   here : isArray (kindOf (slotTree s p)) ≡ true → eqb p 0 ≡ false

@@ -18,7 +18,7 @@ use Rattle.model.specs.Written.{arrayIn, objectIn}
 use Rattle.model.specs.Conditions.{Test, readTests}
 use Rattle.model.specs.Mutations.{Mutation, readMutations}
 use Rattle.model.specs.Operations.{rowOf}
-use Rattle.inner.specs.Packed.{columnFrom}
+use Rattle.model.specs.Catalog.{columnFrom}
 use Rattle.uuids.specs.Named.{namesAt, operationsAt, placeNamed}
 use Rattle.assign.specs.Assigned.{slotted, absentBy, namedBy}
 

@@ -1,11 +1,14 @@
 // The members of an operation by the slots that keep their places: how each is judged.
+use model::Entry;
 use model::Fault;
 use model::Found;
+use model::Kind;
 ghost use mathlib.Core.Path.{_≡_};
 ghost use mathlib.Core.Bool.{true};
 ghost use mathlib.Core.List.{List};
 ghost use Prim.Native.Nat.{ℕ, _≤_};
 ghost use lib.ListN.{length};
+ghost use Rattle.model.specs.Limits.{mostColumns};
 ghost use Rattle.inner.specs.Positions.{Says, itemsFine};
 ghost use Rattle.model.specs.Operations.{nameFault};
 ghost use Rattle.uuids.specs.Named.{Running};
@@ -18,18 +21,18 @@ pub fn where_fault(
     ends: &[u16],
     ops: Found,
     fresh: &[u8],
-    columns: &[[u8; 48]],
+    columns: &[Entry],
     p: usize,
 ) -> Fault
     requires { ⌜ Running (now text) (now ends) ops (now fresh) ⌝ }
     requires { ⌜ SlotFine (now text) p ⌝ }
-    requires { ⌜ length (now columns) ≤ 6 ⌝ }
+    requires { ⌜ length (now columns) ≤ mostColumns ⌝ }
     ensures { λ r. ⌜ r ≡ whereAt (now (text .entry)) ops (now (fresh .entry)) (now (columns .entry)) p .fault ⌝ }
 {
     let k = fields::kind_in(text, p);
-    let a = nav::is_array(k);
+    let a = leaf::is_kind(k, Kind::Array);
     if a {
-        let f = nav::first(text, p, 91, 93);
+        let f = nav::first(text, p, b'[', b']');
         return conditions::tests_fault(text, ends, ops, fresh, columns, f);
     }
     Fault::Syntax
@@ -41,7 +44,7 @@ pub fn mutations_fault(
     ends: &[u16],
     ops: Found,
     fresh: &[u8],
-    columns: &[[u8; 48]],
+    columns: &[Entry],
     p: usize,
 ) -> Fault
     requires { ⌜ Running (now text) (now ends) ops (now fresh) ⌝ }
@@ -49,9 +52,9 @@ pub fn mutations_fault(
     ensures { λ r. ⌜ r ≡ mutationsIn (now (text .entry)) ops (now (fresh .entry)) (now (columns .entry)) p .fault ⌝ }
 {
     let k = fields::kind_in(text, p);
-    let a = nav::is_array(k);
+    let a = leaf::is_kind(k, Kind::Array);
     if a {
-        let f = nav::first(text, p, 91, 93);
+        let f = nav::first(text, p, b'[', b']');
         return mutations::mutations_fault(text, ends, ops, fresh, columns, f);
     }
     Fault::Syntax
@@ -64,7 +67,7 @@ pub fn row_fault(
     ops: Found,
     fresh: &[u8],
     insert: bool,
-    columns: &[[u8; 48]],
+    columns: &[Entry],
     p: usize,
 ) -> Fault
     requires { ⌜ Running (now text) (now ends) ops (now fresh) ⌝ }
@@ -72,7 +75,7 @@ pub fn row_fault(
     ensures { λ r. ⌜ r ≡ rowAt insert (now (text .entry)) ops (now (fresh .entry)) (now (columns .entry)) p .fault ⌝ }
 {
     let k = fields::kind_in(text, p);
-    let o = nav::is_object(k);
+    let o = leaf::is_kind(k, Kind::Object);
     if o {
         return assign::row_fault(text, ends, ops, fresh, insert, columns, p);
     }
@@ -107,7 +110,7 @@ pub fn name_fault(text: &[u8], ends: &[u16], ops: Found, i: usize, p: usize) -> 
         return Fault::Fine;
     }
     let k = nav::kind_at(text, p);
-    let t = nav::is_text(k);
+    let t = leaf::is_kind(k, Kind::Text);
     if t {
         let cell = names::name_at(text, p);
         let name = atom::text_of(&cell);

@@ -18,8 +18,8 @@ use Rattle.inner.specs.Positions.{wordIn}
 use Rattle.model.specs.Members.{membersIn, hasMember, memberValue}
 use Rattle.model.specs.Whole.{wholeInt}
 use Rattle.model.specs.Value.{textOf, fromTwos}
-use Rattle.inner.specs.Packed.{baseNumbered}
-use Rattle.inner.specs.Packed.{cellName, isSet, refersFrom, columnFrom}
+use Rattle.model.specs.Catalog.{baseNumbered}
+use Rattle.model.specs.Catalog.{cellName, isSet, refersFrom, columnFrom, bit}
 use Rattle.model.specs.SchemaText.{must, isId, isBool, truthOr, keyMembers, keyBase, typeMembers, typeTests, typeFits, minOf, maxOf, lowOf, highOf, columnFits, columnOf}
 use Rattle.model.proofs.Tests.{split, clash, and-l, and-r, parts}
 use Rattle.nav.proofs.Rest.{member-is, member-well}
@@ -30,8 +30,9 @@ use Rattle.fields.proofs.Slotted.{must-slot, may-slot}
 use Rattle.types.specs.declared.Shape.{Shape}
 use Rattle.types.specs.Types.{KeyRead, TypeRead}
 use Rattle.types.proofs.Keys.{both}
+use Rattle.catalog.specs.Writing.{limitBytes}
 use Rattle.columns.specs.Parts.{memberOf}
-use Rattle.columns.specs.Columns.{small, bit, limitBytes, shapeBytes, TypeIn, truthTold, columnTold, ColumnRead}
+use Rattle.columns.specs.Columns.{small, shapeBytes, TypeIn, truthTold, columnTold, ColumnRead}
 use Rattle.columns.proofs.Gathering.{cell-id, cell-short}
 use Rattle.columns.proofs.Sizes.{low-back, high-back, sizes-few}
 
@@ -40,7 +41,6 @@ unfolding small
 small-is x h = rw (small, lt-ltb x 256 (omega arith))
 
 bit-is : (b : Bool) → eqb (bit b) 1 ≡ b
-unfolding bit
 bit-is true = refl
 bit-is false = refl
 

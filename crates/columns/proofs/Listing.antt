@@ -13,7 +13,7 @@ use Rattle.model.specs.Base.{all}
 use Rattle.model.specs.Json.{Json, Named}
 use Rattle.model.specs.Nav.{kindOf, isObject}
 use Rattle.model.specs.Members.{membersIn, counting}
-use Rattle.inner.specs.Packed.{columnFrom}
+use Rattle.model.specs.Catalog.{columnFrom}
 use Rattle.model.specs.SchemaText.{names, isId, columnFits, columnOf, columnsFit}
 use Rattle.model.proofs.Tests.{split, clash, and-l, and-r}
 use Rattle.model.proofs.SchemaLaws.{counting-all}

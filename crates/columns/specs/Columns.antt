@@ -2,39 +2,30 @@
 use Prim.Native.Nat.{ℕ}
 use mathlib.Core.Path.{_≡_}
 use mathlib.Core.Bool.{Bool, true, false, _||_}
-use mathlib.Core.List.{List, [], _∷_, _++_, map}
+use mathlib.Core.List.{List, [], _∷_, map}
 use lib.Dec.{eqb, leb, ltb}
 use lib.ListN.{length, getD, take, drop}
+use Rattle.model.specs.Limits.{mostColumns}
 use Rattle.model.specs.Base.{all, every}
-use Rattle.model.specs.Octets.{big, twos}
 use Rattle.model.specs.Json.{Json, Named}
 use Rattle.model.specs.Members.{membersIn, counting}
-use Rattle.model.specs.declared.Whole.{Whole}
-use Rattle.model.specs.Whole.{wholeInt}
-use Rattle.inner.specs.Packed.{columnFrom}
+use Rattle.model.specs.Catalog.{columnFrom, bit}
+use Rattle.catalog.specs.Writing.{columnBytes}
 use Rattle.model.specs.SchemaText.{names, isBool, isId, columnFits, columnOf, columnsFit}
-use Rattle.fields.specs.Fields.{slotTree}
+use Rattle.fields.specs.Fields.{mostWords, slotTree}
 use Rattle.types.specs.declared.Shape.{Shape}
 use Rattle.types.specs.Types.{TypeRead}
 use Rattle.columns.specs.Parts.{memberOf}
 use Rattle.columns.specs.declared.Read.{Read}
 
--- a number that is a byte, 0 where it is none; a test as a byte
+-- a number that is a byte, 0 where it is none
 unfoldable pub small : ℕ → ℕ
 small x = elim (ltb x 256) [ true ↦ x | false ↦ 0 ]
 
-unfoldable pub bit : Bool → ℕ
-bit true = 1
-bit false = 0
-
--- two limits in two's complement
-unfoldable pub limitBytes : Whole → Whole → List ℕ
-limitBytes low high = big 8 (twos 64 (wholeInt low)) ++ big 8 (twos 64 (wholeInt high))
-
--- what follows the name in a column's cell: base, how it refers, target, min, max, mutable, low and high
+-- what follows the name in a column's cell
 unfoldable pub shapeBytes : Shape → Bool → List ℕ
 shapeBytes t mutable =
-    (t .key .base ∷ t .key .how ∷ t .key .target ∷ small (t .min) ∷ small (t .max) ∷ bit mutable ∷ []) ++ limitBytes (t .key .low) (t .key .high)
+    columnBytes (t .key .base) (t .key .how) (t .key .target) (small (t .min)) (small (t .max)) (bit mutable) (t .key .low) (t .key .high)
 
 -- the type in a slot
 pub record TypeIn (s : List ℕ) (tables : List (List ℕ)) (p : ℕ) (r : Shape) : Type 0 where
@@ -46,7 +37,7 @@ abbrev pub truthTold : List ℕ → ℕ → Bool
 truthTold s p = eqb p 0 || isBool (slotTree s p)
 
 unfoldable pub columnTold : List ℕ → List ℕ → Bool → Bool
-columnTold s f typed = every (eqb (getD f 9 0) 0 ∷ typed ∷ truthTold s (getD f 1 0) ∷ truthTold s (getD f 2 0) ∷ [])
+columnTold s f typed = every (eqb (getD f mostWords 0) 0 ∷ typed ∷ truthTold s (getD f 1 0) ∷ truthTold s (getD f 2 0) ∷ [])
 
 -- what was read of the column m
 pub record ColumnRead (tables : List (List ℕ)) (m : Named) (r : Read) : Type 0 where
@@ -57,11 +48,11 @@ pub record ColumnRead (tables : List (List ℕ)) (m : Named) (r : Read) : Type 0
 pub record ColumnsPut (s : List ℕ) (tables : List (List ℕ)) (n : ℕ) (places : List ℕ) (r : Bool) (before after : List (List ℕ)) : Type 0 where
   pub fits : r ≡ all (λ (m : Named). columnFits tables (m .value)) (map (memberOf s) (take n places))
   pub columns : all isId (names (map (memberOf s) (take n places))) ≡ true → r ≡ true → map columnFrom (take n after) ≡ map (columnOf tables) (map (memberOf s) (take n places))
-  pub rest : drop 6 after ≡ drop 6 before
+  pub rest : drop mostColumns after ≡ drop mostColumns before
 
--- what was read of the columns j: r of them, above 6 where they do not fit, at the front of some cells
+-- what was read of the columns j: r of them, above the most where they do not fit, at the front of some cells
 pub record ColumnsRead (tables : List (List ℕ)) (j : Json) (r : ℕ) (before after : List (List ℕ)) : Type 0 where
-  pub fits : leb r 6 ≡ columnsFit tables j
-  pub count : leb r 6 ≡ true → r ≡ length (counting (membersIn j))
-  pub columns : leb r 6 ≡ true → map columnFrom (take r after) ≡ map (columnOf tables) (counting (membersIn j))
-  pub rest : drop 6 after ≡ drop 6 before
+  pub fits : leb r mostColumns ≡ columnsFit tables j
+  pub count : leb r mostColumns ≡ true → r ≡ length (counting (membersIn j))
+  pub columns : leb r mostColumns ≡ true → map columnFrom (take r after) ≡ map (columnOf tables) (counting (membersIn j))
+  pub rest : drop mostColumns after ≡ drop mostColumns before

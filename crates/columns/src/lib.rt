@@ -1,28 +1,37 @@
 // Columns as a schema writes them, read into cells.
+use fields::Places;
+use fields::WORDS;
+use model::Atom;
+use model::COLUMNS;
+use model::ENTRY;
+use model::Entry;
 use model::Found;
+use model::Kind;
 use model::Whole;
 use types::Key;
 use types::Shape;
 ghost use mathlib.Core.Path.{_≡_};
 ghost use mathlib.Core.Bool.{true, false};
-ghost use mathlib.Core.List.{map, [], _∷_, _++_};
+ghost use mathlib.Core.List.{map, _++_};
 ghost use Prim.Native.Nat.{ℕ, _≤_, _<_};
 ghost use lib.Dec.{eqb};
 ghost use lib.ListN.{length, getD, drop};
+ghost use Rattle.model.specs.Limits.{mostTables, mostColumns};
 ghost use Rattle.model.specs.Base.{all};
 ghost use Rattle.model.specs.Json.{memberAt, valueAt};
 ghost use Rattle.inner.specs.Positions.{Says, wellAt, treeAt, membersFrom, membersFine};
 ghost use Rattle.model.specs.Nav.{isRead};
 ghost use Rattle.model.specs.Members.{hasMember};
-ghost use Rattle.inner.specs.Packed.{cellName};
+ghost use Rattle.model.specs.Catalog.{cellName};
+ghost use Rattle.catalog.specs.Writing.{columnEnd};
 ghost use Rattle.model.specs.SchemaText.{isId};
 ghost use Rattle.columns.specs.Parts.{memberOf, Collected};
-ghost use Rattle.columns.specs.Columns.{small, bit, limitBytes, shapeBytes, TypeIn, truthTold, columnTold, ColumnRead, ColumnsPut, ColumnsRead};
+ghost use Rattle.columns.specs.Columns.{small, shapeBytes, TypeIn, truthTold, columnTold, ColumnRead, ColumnsPut, ColumnsRead};
 
 // A column: whether it fits, and its cell.
 pub struct Read {
     pub fits: bool,
-    pub cell: [u8; 48],
+    pub cell: Entry,
 }
 
 fn small(x: u64) -> u8
@@ -34,64 +43,26 @@ fn small(x: u64) -> u8
     0
 }
 
-fn bit(b: bool) -> u8
-    ensures { λ r. ⌜ r ≡ bit b ⌝ }
-{
-    if b {
-        return 1;
-    }
-    0
-}
-
-// Two limits, one after the other.
-fn put_limits(out: &mut [u8], low: Whole, high: Whole)
-    requires { ⌜ 16 ≤ length (now out) ⌝ }
-    ensures { λ _. ⌜ now (out .exit) ≡ limitBytes low high ++ drop 16 (now (out .entry)) ⌝ }
-{
-    octets::put_number(out, octets::bits(low), 8);
-    octets::put_number(&mut out[8..], octets::bits(high), 8);
-}
-
-// Six bytes of a column's cell.
-fn put_six(out: &mut [u8], base: u8, how: u8, target: u8, min: u8, max: u8, mutable: u8)
-    requires { ⌜ 6 ≤ length (now out) ⌝ }
-    ensures { λ _. ⌜ now (out .exit) ≡ (base ∷ how ∷ target ∷ min ∷ max ∷ mutable ∷ []) ++ drop 6 (now (out .entry)) ⌝ }
-{
-    out[0] = base;
-    out[1] = how;
-    out[2] = target;
-    out[3] = min;
-    out[4] = max;
-    out[5] = mutable;
-}
-
-// What follows the name in a column's cell.
-fn put_shape(out: &mut [u8], t: Shape, mutable: bool)
-    requires { ⌜ 22 ≤ length (now out) ⌝ }
-    ensures { λ _. ⌜ now (out .exit) ≡ shapeBytes t mutable ++ drop 22 (now (out .entry)) ⌝ }
+// The cell of a column.
+fn put_column(out: &mut [u8], name: &Atom, t: Shape, mutable: bool)
+    requires { ⌜ columnEnd ≤ length (now out) ⌝ }
+    ensures { λ _. ⌜ now (out .exit) ≡ (now (name .entry) ++ shapeBytes t mutable) ++ drop columnEnd (now (out .entry)) ⌝ }
 {
     let k = t.key;
-    put_six(
+    let low = k.low;
+    let high = k.high;
+    catalog::put_column(
         out,
+        name,
         k.base,
         k.how,
         k.target,
         small(t.min),
         small(t.max),
-        bit(mutable),
+        leaf::bit(mutable),
+        low,
+        high,
     );
-    let low = k.low;
-    let high = k.high;
-    put_limits(&mut out[6..], low, high);
-}
-
-// The cell of a column.
-fn put_column(out: &mut [u8], name: &[u8; 25], t: Shape, mutable: bool)
-    requires { ⌜ 47 ≤ length (now out) ⌝ }
-    ensures { λ _. ⌜ now (out .exit) ≡ (now (name .entry) ++ shapeBytes t mutable) ++ drop 47 (now (out .entry)) ⌝ }
-{
-    octets::put_bytes(out, name);
-    put_shape(&mut out[25..], t, mutable);
 }
 
 // No type.
@@ -114,11 +85,11 @@ fn no_type() -> Shape
 }
 
 // The type in a slot.
-fn type_in(text: &[u8], ends: &[u16], tables: &[[u8; 48]], p: usize) -> Shape
+fn type_in(text: &[u8], ends: &[u16], tables: &[Entry], p: usize) -> Shape
     requires { ⌜ Says (now text) (now ends) ⌝ }
     requires { ⌜ (eqb p 0 ≡ false → wellAt (now text) p ≡ true) ⌝ }
     requires { ⌜ all isId (map cellName (now tables)) ≡ true ⌝ }
-    requires { ⌜ length (now tables) ≤ 4 ⌝ }
+    requires { ⌜ length (now tables) ≤ mostTables ⌝ }
     ensures { λ r. ⌜ TypeIn (now (text .entry)) (map cellName (now (tables .entry))) p r ⌝ }
 {
     if p == 0 {
@@ -132,25 +103,25 @@ fn truth_fits(text: &[u8], p: usize) -> bool
     ensures { λ r. ⌜ r ≡ truthTold (now (text .entry)) p ⌝ }
 {
     let k = fields::kind_in(text, p);
-    let t = nav::is_truth(k);
+    let t = leaf::is_kind(k, Kind::Truth);
     (p == 0) | t
 }
 
 // Whether a column fits: f has its slots, and typed says whether its type fits.
-fn column_fits(text: &[u8], f: [usize; 10], typed: bool) -> bool
+fn column_fits(text: &[u8], f: Places, typed: bool) -> bool
     ensures { λ r. ⌜ r ≡ columnTold (now (text .entry)) f typed ⌝ }
 {
     let e = truth_fits(text, f[1]);
     let m = truth_fits(text, f[2]);
-    (f[9] == 0) & (typed & (e & m))
+    (f[WORDS] == 0) & (typed & (e & m))
 }
 
 // The column that is the member at `at`.
-fn read_column(text: &[u8], ends: &[u16], at: usize, tables: &[[u8; 48]]) -> Read
+fn read_column(text: &[u8], ends: &[u16], at: usize, tables: &[Entry]) -> Read
     requires { ⌜ Says (now text) (now ends) ⌝ }
     requires { ⌜ isRead (memberAt (valueAt 12 (now text)) (now text) at .read) ≡ true ⌝ }
     requires { ⌜ all isId (map cellName (now tables)) ≡ true ⌝ }
-    requires { ⌜ length (now tables) ≤ 4 ⌝ }
+    requires { ⌜ length (now tables) ≤ mostTables ⌝ }
     ensures { λ r. ⌜ ColumnRead (map cellName (now (tables .entry))) (memberOf (now (text .entry)) at) r ⌝ }
 {
     let name = names::name_at(text, at);
@@ -159,7 +130,7 @@ fn read_column(text: &[u8], ends: &[u16], at: usize, tables: &[[u8; 48]]) -> Rea
     let t = type_in(text, ends, tables, f[0]);
     let fits = column_fits(text, f, t.fits);
     let mutable = fields::truth_in(text, f[2], true);
-    let mut cell = [0u8; 48];
+    let mut cell = [0u8; ENTRY];
     put_column(&mut cell, &name, t, mutable);
     Read { fits, cell }
 }
@@ -170,16 +141,16 @@ fn put_columns(
     ends: &[u16],
     places: &[usize],
     n: usize,
-    tables: &[[u8; 48]],
-    cells: &mut [[u8; 48]],
+    tables: &[Entry],
+    cells: &mut [Entry],
 ) -> bool
     requires { ⌜ Says (now text) (now ends) ⌝ }
     requires { ⌜ ((i : ℕ) → i < n → isRead (memberAt (valueAt 12 (now text)) (now text) (getD (now places) i 0) .read) ≡ true) ⌝ }
     requires { ⌜ all isId (map cellName (now tables)) ≡ true ⌝ }
-    requires { ⌜ length (now tables) ≤ 4 ⌝ }
-    requires { ⌜ n ≤ 6 ⌝ }
+    requires { ⌜ length (now tables) ≤ mostTables ⌝ }
+    requires { ⌜ n ≤ mostColumns ⌝ }
     requires { ⌜ n ≤ length (now places) ⌝ }
-    requires { ⌜ 6 ≤ length (now cells) ⌝ }
+    requires { ⌜ mostColumns ≤ length (now cells) ⌝ }
     ensures { λ r. ⌜ ColumnsPut (now (text .entry)) (map cellName (now (tables .entry))) n (now (places .entry)) r (now (cells .entry)) (now (cells .exit)) ⌝ }
 {
     let mut good = true;
@@ -219,15 +190,15 @@ fn has_from(text: &[u8], ends: &[u16], g: Found, word: &[u8]) -> bool
 pub fn collect(text: &[u8], ends: &[u16], at: usize, most: usize, places: &mut [usize]) -> usize
     requires { ⌜ Says (now text) (now ends) ⌝ }
     requires { ⌜ wellAt (now text) at ≡ true ⌝ }
-    requires { ⌜ most ≤ 6 ⌝ }
-    requires { ⌜ length (now places) ≡ 6 ⌝ }
+    requires { ⌜ most ≤ mostColumns ⌝ }
+    requires { ⌜ length (now places) ≡ mostColumns ⌝ }
     ensures { λ r. ⌜ Collected (now (text .entry)) most (treeAt (now (text .entry)) at) r (now (places .exit)) ⌝ }
 {
     let k = nav::kind_at(text, at);
-    let o = nav::is_object(k);
+    let o = leaf::is_kind(k, Kind::Object);
     if o {
         let mut n = 0;
-        let mut g = nav::first(text, at, 123, 125);
+        let mut g = nav::first(text, at, b'{', b'}');
         loop {
             match g {
                 Found::At(p) => {
@@ -261,19 +232,19 @@ pub fn read_columns(
     text: &[u8],
     ends: &[u16],
     at: usize,
-    tables: &[[u8; 48]],
-    cells: &mut [[u8; 48]],
+    tables: &[Entry],
+    cells: &mut [Entry],
 ) -> usize
     requires { ⌜ Says (now text) (now ends) ⌝ }
     requires { ⌜ wellAt (now text) at ≡ true ⌝ }
     requires { ⌜ all isId (map cellName (now tables)) ≡ true ⌝ }
-    requires { ⌜ length (now tables) ≤ 4 ⌝ }
-    requires { ⌜ 6 ≤ length (now cells) ⌝ }
+    requires { ⌜ length (now tables) ≤ mostTables ⌝ }
+    requires { ⌜ mostColumns ≤ length (now cells) ⌝ }
     ensures { λ r. ⌜ ColumnsRead (map cellName (now (tables .entry))) (treeAt (now (text .entry)) at) r (now (cells .entry)) (now (cells .exit)) ⌝ }
 {
-    let mut places = [0usize; 6];
-    let n = collect(text, ends, at, 6, &mut places);
-    if n <= 6 {
+    let mut places = [0usize; COLUMNS];
+    let n = collect(text, ends, at, COLUMNS, &mut places);
+    if n <= COLUMNS {
         let good = put_columns(text, ends, &places, n, tables, cells);
         if good {
             return n;

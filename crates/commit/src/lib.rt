@@ -1,15 +1,17 @@
 // The commit of a transaction: strong references, collection, weak references, and limits, in this order.
+use model::Catalog;
 use model::Fault;
+use model::Row;
 ghost use mathlib.Core.Path.{_≡_};
 ghost use mathlib.Core.Bool.{not};
-ghost use mathlib.Core.List.{[]};
-ghost use Prim.Native.Nat.{ℕ, _+_, _*_, _≤_, _<_};
-ghost use lib.ListN.{length, take, drop, getD};
+ghost use Prim.Native.Nat.{_+_, _≤_, _<_};
+ghost use lib.ListN.{length};
 ghost use Rattle.model.specs.Base.{any, all};
 ghost use Rattle.model.specs.Commit.{loose, lawful};
-ghost use Rattle.inner.specs.Packed.{packedTables};
+ghost use Rattle.model.specs.Catalog.{packedTables};
 ghost use Rattle.inner.specs.Working.{working};
-ghost use Rattle.references.specs.Links.{Accepted, referred};
+ghost use Rattle.references.specs.Links.{referred};
+ghost use Rattle.catalog.specs.Accepted.{Accepted};
 ghost use Rattle.commit.specs.Steps.{Committed};
 
 // What a commit says, and how many rows it leaves.
@@ -19,7 +21,7 @@ pub struct Settled {
 }
 
 // Whether every row that the rows refer to, strongly (how 1) or weakly (how 2), is there.
-fn all_found(schema: &[[u8; 48]], how: u8, rows: &[[[u8; 25]; 25]], n: usize) -> bool
+fn all_found(schema: &Catalog, how: u8, rows: &[Row], n: usize) -> bool
     requires { ⌜ Accepted (now schema) ⌝ }
     requires { ⌜ n ≤ length (now rows) ⌝ }
     ensures { λ r. ⌜ r ≡ all (referred (packedTables (now (schema .entry))) how (working (packedTables (now (schema .entry))) n (now (rows .entry)))) (working (packedTables (now (schema .entry))) n (now (rows .entry))) ⌝ }
@@ -35,7 +37,7 @@ fn all_found(schema: &[[u8; 48]], how: u8, rows: &[[[u8; 25]; 25]], n: usize) ->
 }
 
 // Whether a row of a table that is not root is held by no other.
-fn any_loose(schema: &[[u8; 48]], rows: &[[[u8; 25]; 25]], n: usize) -> bool
+fn any_loose(schema: &Catalog, rows: &[Row], n: usize) -> bool
     requires { ⌜ Accepted (now schema) ⌝ }
     requires { ⌜ n ≤ length (now rows) ⌝ }
     ensures { λ r. ⌜ r ≡ any (loose (packedTables (now (schema .entry))) (working (packedTables (now (schema .entry))) n (now (rows .entry)))) (working (packedTables (now (schema .entry))) n (now (rows .entry))) ⌝ }
@@ -51,7 +53,7 @@ fn any_loose(schema: &[[u8; 48]], rows: &[[[u8; 25]; 25]], n: usize) -> bool
 }
 
 // The four steps of a commit on the first n rows.
-pub fn commit(schema: &[[u8; 48]], rows: &mut [[[u8; 25]; 25]], n: usize) -> Settled
+pub fn commit(schema: &Catalog, rows: &mut [Row], n: usize) -> Settled
     requires { ⌜ Accepted (now schema) ⌝ }
     requires { ⌜ n ≤ length (now rows) ⌝ }
     ensures { λ r. ⌜ Committed (packedTables (now (schema .entry))) n (now (rows .entry)) (now (rows .exit)) r ⌝ }
@@ -83,7 +85,7 @@ pub fn commit(schema: &[[u8; 48]], rows: &mut [[[u8; 25]; 25]], n: usize) -> Set
 }
 
 // Whether every commit rule holds of the first n rows.
-pub fn lawful(schema: &[[u8; 48]], rows: &[[[u8; 25]; 25]], n: usize) -> bool
+pub fn lawful(schema: &Catalog, rows: &[Row], n: usize) -> bool
     requires { ⌜ Accepted (now schema) ⌝ }
     requires { ⌜ n ≤ length (now rows) ⌝ }
     ensures { λ r. ⌜ r ≡ lawful (packedTables (now (schema .entry))) (working (packedTables (now (schema .entry))) n (now (rows .entry))) ⌝ }

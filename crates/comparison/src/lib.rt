@@ -1,4 +1,6 @@
 // What a condition says of the elements of a column: the value at a position of the text, compared with stored atoms.
+use model::ATOM;
+use model::Atom;
 use model::Found;
 use model::Function;
 use number::Int;
@@ -6,10 +8,11 @@ ghost use mathlib.Core.Path.{_≡_};
 ghost use mathlib.Core.Bool.{true, false};
 ghost use Prim.Native.Nat.{_≤_};
 ghost use lib.ListN.{length};
+ghost use Rattle.model.specs.Limits.{mostElements};
 ghost use Rattle.model.specs.Base.{any, all, member, eqLists};
 ghost use Rattle.inner.specs.Positions.{wellAt, treeAt};
 ghost use Rattle.model.specs.Schema.{integer};
-ghost use Rattle.inner.specs.Packed.{baseNumbered};
+ghost use Rattle.model.specs.Catalog.{baseNumbered};
 ghost use Rattle.model.specs.Value.{sorted};
 ghost use Rattle.model.specs.Written.{elementsIn, longAtom};
 ghost use Rattle.model.specs.Conditions.{firstInt, compare};
@@ -29,7 +32,7 @@ fn is_stored(
     fresh: &[u8],
     kind: u8,
     at: usize,
-    xs: &[[u8; 25]],
+    xs: &[Atom],
 ) -> bool
     requires { ⌜ Running (now text) (now ends) ops (now fresh) ⌝ }
     requires { ⌜ wellAt (now text) at ≡ true ⌝ }
@@ -55,7 +58,7 @@ fn some_stored(
     kind: u8,
     set: bool,
     f: Found,
-    xs: &[[u8; 25]],
+    xs: &[Atom],
 ) -> bool
     requires { ⌜ Running (now text) (now ends) ops (now fresh) ⌝ }
     requires { ⌜ elementsFine (now text) set f ≡ true ⌝ }
@@ -85,7 +88,7 @@ fn each_stored(
     kind: u8,
     set: bool,
     f: Found,
-    xs: &[[u8; 25]],
+    xs: &[Atom],
 ) -> bool
     requires { ⌜ Running (now text) (now ends) ops (now fresh) ⌝ }
     requires { ⌜ elementsFine (now text) set f ≡ true ⌝ }
@@ -116,12 +119,12 @@ fn equal_at(
     fresh: &[u8],
     kind: u8,
     at: usize,
-    xs: &[[u8; 25]],
+    xs: &[Atom],
 ) -> bool
     requires { ⌜ Running (now text) (now ends) ops (now fresh) ⌝ }
     requires { ⌜ wellAt (now text) at ≡ true ⌝ }
     requires { ⌜ allTyped (namesAt (now text) ops (now fresh)) (baseNumbered kind) (elementsIn (treeAt (now text) at)) ≡ true ⌝ }
-    requires { ⌜ length (now xs) ≤ 4 ⌝ }
+    requires { ⌜ length (now xs) ≤ mostElements ⌝ }
     ensures { λ r. ⌜ r ≡ eqLists (now (xs .entry)) (sorted (baseNumbered kind) (atomsAs (namesAt (now (text .entry)) ops (now (fresh .entry))) (baseNumbered kind) (treeAt (now (text .entry)) at))) ⌝ }
 {
     let n = judged::count_at(text, ends, at);
@@ -141,23 +144,23 @@ fn equal_at(
 }
 
 // The first of stored atoms as an integer, 0 where there is none.
-fn first_of(xs: &[[u8; 25]]) -> Int
+fn first_of(xs: &[Atom]) -> Int
     ensures { λ r. ⌜ r ≡ asInt (firstInt (now (xs .entry))) ⌝ }
 {
     if 0 < xs.len() {
         return number::of_atom(&xs[0]);
     }
-    let none = [0u8; 25];
+    let none = [0u8; ATOM];
     number::of_atom(&none)
 }
 
 // The atom of the integer at `at`.
-fn integer_at(text: &[u8], ends: &[u16], ops: Found, fresh: &[u8], at: usize) -> [u8; 25]
+fn integer_at(text: &[u8], ends: &[u16], ops: Found, fresh: &[u8], at: usize) -> Atom
     requires { ⌜ Running (now text) (now ends) ops (now fresh) ⌝ }
     requires { ⌜ wellAt (now text) at ≡ true ⌝ }
     ensures { λ r. ⌜ r ≡ atomAs (namesAt (now (text .entry)) ops (now (fresh .entry))) integer (treeAt (now (text .entry)) at) ⌝ }
 {
-    let mut cell = [0u8; 25];
+    let mut cell = [0u8; ATOM];
     written::atom_at(text, ends, ops, fresh, 0, at, &mut cell);
     cell
 }
@@ -176,7 +179,7 @@ fn first_at(text: &[u8], ends: &[u16], ops: Found, fresh: &[u8], at: usize) -> I
             number::of_atom(&cell)
         }
         Found::Nothing => {
-            let none = [0u8; 25];
+            let none = [0u8; ATOM];
             number::of_atom(&none)
         }
     }
@@ -190,7 +193,7 @@ fn ordered_at(
     fresh: &[u8],
     f: Function,
     at: usize,
-    xs: &[[u8; 25]],
+    xs: &[Atom],
 ) -> bool
     requires { ⌜ Running (now text) (now ends) ops (now fresh) ⌝ }
     requires { ⌜ wellAt (now text) at ≡ true ⌝ }
@@ -219,7 +222,7 @@ fn stored_at(
     kind: u8,
     at: usize,
     every: bool,
-    xs: &[[u8; 25]],
+    xs: &[Atom],
 ) -> bool
     requires { ⌜ Running (now text) (now ends) ops (now fresh) ⌝ }
     requires { ⌜ wellAt (now text) at ≡ true ⌝ }
@@ -243,12 +246,12 @@ pub fn compare_at(
     kind: u8,
     f: Function,
     at: usize,
-    xs: &[[u8; 25]],
+    xs: &[Atom],
 ) -> bool
     requires { ⌜ Running (now text) (now ends) ops (now fresh) ⌝ }
     requires { ⌜ wellAt (now text) at ≡ true ⌝ }
     requires { ⌜ Comparable (namesAt (now text) ops (now fresh)) (baseNumbered kind) f (treeAt (now text) at) ⌝ }
-    requires { ⌜ length (now xs) ≤ 4 ⌝ }
+    requires { ⌜ length (now xs) ≤ mostElements ⌝ }
     ensures { λ r. ⌜ r ≡ compare f (baseNumbered kind) (now (xs .entry)) (atomsAs (namesAt (now (text .entry)) ops (now (fresh .entry))) (baseNumbered kind) (treeAt (now (text .entry)) at)) ⌝ }
 {
     match f {

@@ -16,12 +16,12 @@ use Rattle.model.specs.declared.Function.{Function}
 use Rattle.model.specs.Json.{Json}
 use Rattle.inner.specs.Positions.{treeAt, wellAt, nextItem}
 use Rattle.inner.specs.Positions as Text
-use Rattle.inner.specs.Packed.{baseNumbered}
+use Rattle.model.specs.Catalog.{baseNumbered}
 use Rattle.model.specs.Schema.{Column, scalar}
 use Rattle.model.specs.Faults.{rank, earlier}
 use Rattle.model.specs.Written.{Names, stringIn, testFault, written}
 use Rattle.model.specs.Conditions.{Subject, idColumn, isIntegerBase, orders, allowed, noTest, testBy, testOf, subjectNamed, functionNamed, readTests}
-use Rattle.inner.specs.Packed.{columnFrom}
+use Rattle.model.specs.Catalog.{columnFrom}
 use Rattle.model.proofs.Tests.{split}
 use Rattle.nav.proofs.Walk.{walk-rest, walk-end}
 use Rattle.uuids.specs.Named.{namesAt}

@@ -17,13 +17,13 @@ use Rattle.model.specs.Base.{if_then_else_, all}
 use Rattle.model.specs.Json.{Json}
 use Rattle.inner.specs.Positions.{nextItem}
 use Rattle.model.specs.Schema.{Base, integer, boolean, text, uuid, Column, scalar, Schema, columnsOf}
-use Rattle.inner.specs.Packed.{baseNumbered}
+use Rattle.model.specs.Catalog.{baseNumbered}
 use Rattle.model.specs.Value.{uuidAtom, pad, elements, Value}
 use Rattle.model.specs.Faults.{Judged, isFine}
 use Rattle.model.specs.Written.{Names, testFault, written}
 use Rattle.model.specs.Conditions.{Subject, idColumn, isIntegerBase, allowed, Test, noTest, testBy, testOf, compare, holds, matches}
 use Rattle.model.specs.Areas.{rowFrom}
-use Rattle.inner.specs.Packed.{columnFrom}
+use Rattle.model.specs.Catalog.{columnFrom}
 use Rattle.inner.specs.Working.{tableIn, idIn, valueIn}
 use Rattle.model.proofs.Tests.{split, clash, and-l}
 use Rattle.model.proofs.Octets.{octet, big-value}
@@ -90,13 +90,13 @@ module _ (names : Names) (cells : List (List ℕ)) (a : Json) (f : Function) (v 
       pub column-within : k < length cells
       column-within = about .0
 
-      pub column-says : (row : List (List ℕ)) {r : Bool} → r ≡ compare f (baseNumbered (getD (getD cells k []) 25 0)) (elements (valueIn k row)) (atomsAs names (baseNumbered (getD (getD cells k []) 25 0)) v)
+      pub column-says : (row : List (List ℕ)) {r : Bool} {kind : ℕ} → kind ≡ getD (getD cells k []) 25 0 → r ≡ compare f (baseNumbered kind) (elements (valueIn k row)) (atomsAs names (baseNumbered kind) v)
           → Holds (map columnFrom cells) row (testAs names (map columnFrom cells) a (some f) v .got) r
       unfolding Holds
-      column-says row {r} q = λ s w.
+      column-says row {r} {kind} same q = λ s w.
           let b = baseNumbered (getD (getD cells k []) 25 0) in
           let l : k < length (columnsOf s (tableIn row)) = omega (arith, about .0, ap length w, length-map cells columnFrom) in
-          q ∙ ap (λ x. compare f b (elements x) (atomsAs names b v)) (sym (column-value s row k l)) ∙ ap (holds (rowFrom s row)) (sym (got-of (about .1)))
+          q ∙ ap (λ (i : ℕ). compare f (baseNumbered i) (elements (valueIn k row)) (atomsAs names (baseNumbered i) v)) same ∙ ap (λ x. compare f b (elements x) (atomsAs names b v)) (sym (column-value s row k l)) ∙ ap (holds (rowFrom s row)) (sym (got-of (about .1)))
 
     module _ (e : n ≡ named.Id) where
       own : subjectIn (map columnFrom cells) a ≡ some (record { place = none; column = idColumn })

@@ -15,10 +15,10 @@ use Rattle.model.specs.Json.{Json, null, bool, num, str, arr, obj}
 use Rattle.model.specs.Text.{isWord}
 use Rattle.model.specs.Schema.{Column, columnNamed}
 use Rattle.model.specs.Conditions.{Subject, idColumn, placeSubject}
-use Rattle.inner.specs.Packed.{columnFrom}
+use Rattle.model.specs.Catalog.{columnFrom}
 use Rattle.model.proofs.Tests.{split}
 use Rattle.fields.specs.Fields.{wordsFrom, wordsOf, choiceFrom, choice}
-use Rattle.names.specs.Names.{foundAt}
+use Rattle.catalog.specs.Entries.{foundAt}
 use Rattle.lookup.specs.Lookup.{columnIn}
 use Rattle.conditions.specs.declared.Named.the-variants as named
 use Rattle.conditions.specs.Tests.{chosen, functionBy, functionIn, About, subjectIn}

@@ -16,7 +16,7 @@ use Rattle.model.specs.Rows.{Row}
 use Rattle.model.specs.Areas.{rowFrom}
 use Rattle.inner.specs.Working.{working, tableIn, Tidy}
 use Rattle.model.specs.Conditions.{Subject, idColumn, subjectNamed, functionNamed, allowed, Test, testOf, readTest, readTests, holds, matches}
-use Rattle.inner.specs.Packed.{columnFrom}
+use Rattle.model.specs.Catalog.{columnFrom}
 use Rattle.model.specs.declared.Found.{Found}
 use Rattle.model.specs.declared.Fault.{Fault}
 use Rattle.model.specs.declared.Fault.the-variants.{Syntax}

@@ -1,24 +1,29 @@
 // Conditions, [column, function, value]: how they are judged, and the rows that meet them.
 use lookup::Triple;
+use model::ATOM;
+use model::Atom;
+use model::Entry;
 use model::Fault;
 use model::Found;
 use model::Function;
+use model::Row;
 ghost use mathlib.Core.Path.{_≡_};
 ghost use mathlib.Core.Bool.{true};
 ghost use mathlib.Core.List.{[], _∷_, map};
 ghost use mathlib.Core.Option.{some};
 ghost use Prim.Native.Nat.{_≤_, _<_};
 ghost use lib.ListN.{length, getD, set};
+ghost use Rattle.model.specs.Limits.{mostColumns, idBytes};
 ghost use Rattle.model.specs.Octets.{value};
 ghost use Rattle.model.specs.Base.{count};
 ghost use Rattle.inner.specs.Positions.{wellAt, treeAt, itemsFine};
 ghost use Rattle.model.specs.Schema.{uuid, Schema, columnsOf};
-ghost use Rattle.inner.specs.Packed.{baseNumbered};
+ghost use Rattle.model.specs.Catalog.{baseNumbered};
 ghost use Rattle.model.specs.Value.{uuidAtom, elements};
 ghost use Rattle.model.specs.Faults.{isFine, rank, earlier};
-ghost use Rattle.model.specs.Conditions.{idColumn, orders, allowed, compare, matches};
+ghost use Rattle.model.specs.Conditions.{orders, allowed, compare, matches};
 ghost use Rattle.model.specs.Areas.{rowFrom};
-ghost use Rattle.inner.specs.Packed.{columnFrom};
+ghost use Rattle.model.specs.Catalog.{columnFrom};
 ghost use Rattle.inner.specs.Working.{working, idIn, valueIn};
 ghost use Rattle.uuids.specs.Named.{namesAt, Running};
 ghost use Rattle.judged.specs.Weights.{atomsAs};
@@ -82,7 +87,7 @@ fn function_at(text: &[u8], at: usize) -> Choice
 }
 
 // What the value at `at` names.
-fn subject_at(text: &[u8], at: usize, columns: &[[u8; 48]]) -> Named
+fn subject_at(text: &[u8], at: usize, columns: &[Entry]) -> Named
     ensures { λ r. ⌜ About (now (columns .entry)) r (subjectIn (map columnFrom (now (columns .entry))) (treeAt (now (text .entry)) at)) ⌝ }
 {
     let own = text::is_word(text, at, b"_uuid");
@@ -94,23 +99,6 @@ fn subject_at(text: &[u8], at: usize, columns: &[[u8; 48]]) -> Named
         Found::At(i) => Named::Column(i),
         Found::Nothing => Named::Nothing,
     }
-}
-
-// The cell of the column that a row's id is.
-fn id_column() -> [u8; 48]
-    ensures { λ r. ⌜ columnFrom r ≡ idColumn ⌝ }
-{
-    let mut cell = [0u8; 48];
-    cell[0] = 5;
-    cell[1] = 95;
-    cell[2] = 117;
-    cell[3] = 117;
-    cell[4] = 105;
-    cell[5] = 100;
-    cell[25] = 3;
-    cell[28] = 1;
-    cell[29] = 1;
-    cell
 }
 
 // Whether a function is one of order.
@@ -130,12 +118,12 @@ fn orders(f: Function) -> bool
 }
 
 // Whether a column takes a function.
-fn is_allowed(column: &[u8; 48], f: Function) -> bool
+fn is_allowed(column: &Entry, f: Function) -> bool
     ensures { λ r. ⌜ r ≡ allowed (columnFrom (now (column .entry))) f ⌝ }
 {
     let o = orders(f);
     if o {
-        return (column[25] == 0) & ((column[28] == 1) & (column[29] == 1));
+        return (catalog::kind(column) == 0) & catalog::is_scalar(column);
     }
     true
 }
@@ -146,7 +134,7 @@ fn column_fault(
     ends: &[u16],
     ops: Found,
     fresh: &[u8],
-    column: &[u8; 48],
+    column: &Entry,
     f: Function,
     at: usize,
 ) -> Fault
@@ -167,7 +155,7 @@ fn subject_fault(
     ends: &[u16],
     ops: Found,
     fresh: &[u8],
-    columns: &[[u8; 48]],
+    columns: &[Entry],
     a: usize,
     f: Function,
     v: usize,
@@ -180,7 +168,7 @@ fn subject_fault(
     match n {
         Named::Column(i) => column_fault(text, ends, ops, fresh, &columns[i], f, v),
         Named::Id => {
-            let cell = id_column();
+            let cell = catalog::id_column();
             column_fault(text, ends, ops, fresh, &cell, f, v)
         }
         Named::Nothing => Fault::Syntax,
@@ -193,7 +181,7 @@ fn triple_fault(
     ends: &[u16],
     ops: Found,
     fresh: &[u8],
-    columns: &[[u8; 48]],
+    columns: &[Entry],
     a: usize,
     b: usize,
     v: usize,
@@ -215,7 +203,7 @@ fn test_fault(
     ends: &[u16],
     ops: Found,
     fresh: &[u8],
-    columns: &[[u8; 48]],
+    columns: &[Entry],
     at: usize,
 ) -> Fault
     requires { ⌜ Running (now text) (now ends) ops (now fresh) ⌝ }
@@ -229,47 +217,18 @@ fn test_fault(
     }
 }
 
-// The place of a fault in the order of error checks.
-fn rank(f: Fault) -> u8
-    ensures { λ r. ⌜ r ≡ rank f ⌝ }
-{
-    match f {
-        Fault::Fine => 8,
-        Fault::Syntax => 0,
-        Fault::Resources => 1,
-        Fault::Duplicate => 2,
-        Fault::Constraint => 3,
-        Fault::Domain => 4,
-        Fault::Range => 5,
-        Fault::Aborted => 6,
-        Fault::Integrity => 7,
-    }
-}
-
-// Of two faults the one whose check comes earlier.
-pub fn earlier(f: Fault, g: Fault) -> Fault
-    ensures { λ r. ⌜ r ≡ earlier f g ⌝ }
-{
-    let m = rank(f);
-    let n = rank(g);
-    if m <= n {
-        return f;
-    }
-    g
-}
-
 // How the conditions from f on are judged.
 pub fn tests_fault(
     text: &[u8],
     ends: &[u16],
     ops: Found,
     fresh: &[u8],
-    columns: &[[u8; 48]],
+    columns: &[Entry],
     f: Found,
 ) -> Fault
     requires { ⌜ Running (now text) (now ends) ops (now fresh) ⌝ }
     requires { ⌜ itemsFine (now text) f ≡ true ⌝ }
-    requires { ⌜ length (now columns) ≤ 6 ⌝ }
+    requires { ⌜ length (now columns) ≤ mostColumns ⌝ }
     ensures { λ r. ⌜ r ≡ testsAt (now (text .entry)) ops (now (fresh .entry)) (now (columns .entry)) f .fault ⌝ }
 {
     let mut g = f;
@@ -278,7 +237,7 @@ pub fn tests_fault(
         match g {
             Found::At(p) => {
                 let t = test_fault(text, ends, ops, fresh, columns, p);
-                w = earlier(w, t);
+                w = leaf::earlier(w, t);
                 g = nav::next_item(text, ends, p);
             }
             Found::Nothing => return w,
@@ -287,11 +246,11 @@ pub fn tests_fault(
 }
 
 // An id as an atom.
-fn atom_of(id: &[u8]) -> [u8; 25]
-    requires { ⌜ length (now id) ≡ 16 ⌝ }
+fn atom_of(id: &[u8]) -> Atom
+    requires { ⌜ length (now id) ≡ idBytes ⌝ }
     ensures { λ r. ⌜ r ≡ uuidAtom (value (now (id .entry))) ⌝ }
 {
-    let mut cell = [0u8; 25];
+    let mut cell = [0u8; ATOM];
     octets::put_bytes(&mut cell, id);
     cell
 }
@@ -304,7 +263,7 @@ fn id_holds(
     fresh: &[u8],
     f: Function,
     at: usize,
-    row: &[[u8; 25]; 25],
+    row: &Row,
 ) -> bool
     requires { ⌜ Running (now text) (now ends) ops (now fresh) ⌝ }
     requires { ⌜ wellAt (now text) at ≡ true ⌝ }
@@ -325,13 +284,13 @@ fn column_holds(
     kind: u8,
     f: Function,
     at: usize,
-    row: &[[u8; 25]; 25],
+    row: &Row,
     c: usize,
 ) -> bool
     requires { ⌜ Running (now text) (now ends) ops (now fresh) ⌝ }
     requires { ⌜ wellAt (now text) at ≡ true ⌝ }
     requires { ⌜ Comparable (namesAt (now text) ops (now fresh)) (baseNumbered kind) f (treeAt (now text) at) ⌝ }
-    requires { ⌜ c < 6 ⌝ }
+    requires { ⌜ c < mostColumns ⌝ }
     ensures { λ r. ⌜ r ≡ compare f (baseNumbered kind) (elements (valueIn c (now (row .entry)))) (atomsAs (namesAt (now (text .entry)) ops (now (fresh .entry))) (baseNumbered kind) (treeAt (now (text .entry)) at)) ⌝ }
 {
     let xs = rows::atoms_in(row, c);
@@ -345,22 +304,22 @@ fn subject_holds(
     ends: &[u16],
     ops: Found,
     fresh: &[u8],
-    columns: &[[u8; 48]],
+    columns: &[Entry],
     a: usize,
     f: Function,
     v: usize,
-    row: &[[u8; 25]; 25],
+    row: &Row,
 ) -> bool
     requires { ⌜ Running (now text) (now ends) ops (now fresh) ⌝ }
     requires { ⌜ wellAt (now text) v ≡ true ⌝ }
-    requires { ⌜ length (now columns) ≤ 6 ⌝ }
+    requires { ⌜ length (now columns) ≤ mostColumns ⌝ }
     requires { ⌜ isFine (testAs (namesAt (now text) ops (now fresh)) (map columnFrom (now columns)) (treeAt (now text) a) (some f) (treeAt (now text) v) .fault) ≡ true ⌝ }
     ensures { λ r. ⌜ Holds (map columnFrom (now (columns .entry))) (now (row .entry)) (testAs (namesAt (now (text .entry)) ops (now (fresh .entry))) (map columnFrom (now (columns .entry))) (treeAt (now (text .entry)) a) (some f) (treeAt (now (text .entry)) v) .got) r ⌝ }
 {
     let n = subject_at(text, a, columns);
     match n {
         Named::Column(i) => {
-            let kind = columns[i][25];
+            let kind = catalog::kind(&columns[i]);
             column_holds(text, ends, ops, fresh, kind, f, v, row, i)
         }
         Named::Id => id_holds(text, ends, ops, fresh, f, v, row),
@@ -374,15 +333,15 @@ fn triple_holds(
     ends: &[u16],
     ops: Found,
     fresh: &[u8],
-    columns: &[[u8; 48]],
+    columns: &[Entry],
     a: usize,
     b: usize,
     v: usize,
-    row: &[[u8; 25]; 25],
+    row: &Row,
 ) -> bool
     requires { ⌜ Running (now text) (now ends) ops (now fresh) ⌝ }
     requires { ⌜ wellAt (now text) v ≡ true ⌝ }
-    requires { ⌜ length (now columns) ≤ 6 ⌝ }
+    requires { ⌜ length (now columns) ≤ mostColumns ⌝ }
     requires { ⌜ isFine (testAs (namesAt (now text) ops (now fresh)) (map columnFrom (now columns)) (treeAt (now text) a) (functionIn (treeAt (now text) b)) (treeAt (now text) v) .fault) ≡ true ⌝ }
     ensures { λ r. ⌜ Holds (map columnFrom (now (columns .entry))) (now (row .entry)) (testAs (namesAt (now (text .entry)) ops (now (fresh .entry))) (map columnFrom (now (columns .entry))) (treeAt (now (text .entry)) a) (functionIn (treeAt (now (text .entry)) b)) (treeAt (now (text .entry)) v) .got) r ⌝ }
 {
@@ -399,13 +358,13 @@ fn test_holds(
     ends: &[u16],
     ops: Found,
     fresh: &[u8],
-    columns: &[[u8; 48]],
+    columns: &[Entry],
     at: usize,
-    row: &[[u8; 25]; 25],
+    row: &Row,
 ) -> bool
     requires { ⌜ Running (now text) (now ends) ops (now fresh) ⌝ }
     requires { ⌜ wellAt (now text) at ≡ true ⌝ }
-    requires { ⌜ length (now columns) ≤ 6 ⌝ }
+    requires { ⌜ length (now columns) ≤ mostColumns ⌝ }
     requires { ⌜ isFine (testAt (now text) ops (now fresh) (now columns) at .fault) ≡ true ⌝ }
     ensures { λ r. ⌜ Holds (map columnFrom (now (columns .entry))) (now (row .entry)) (testAt (now (text .entry)) ops (now (fresh .entry)) (now (columns .entry)) at .got) r ⌝ }
 {
@@ -422,13 +381,13 @@ fn tests_hold(
     ends: &[u16],
     ops: Found,
     fresh: &[u8],
-    columns: &[[u8; 48]],
+    columns: &[Entry],
     f: Found,
-    row: &[[u8; 25]; 25],
+    row: &Row,
 ) -> bool
     requires { ⌜ Running (now text) (now ends) ops (now fresh) ⌝ }
     requires { ⌜ itemsFine (now text) f ≡ true ⌝ }
-    requires { ⌜ length (now columns) ≤ 6 ⌝ }
+    requires { ⌜ length (now columns) ≤ mostColumns ⌝ }
     requires { ⌜ isFine (testsAt (now text) ops (now fresh) (now columns) f .fault) ≡ true ⌝ }
     ensures { λ r. ⌜ HoldAll (map columnFrom (now (columns .entry))) (now (row .entry)) (testsAt (now (text .entry)) ops (now (fresh .entry)) (now (columns .entry)) f .got) r ⌝ }
 {
@@ -454,14 +413,14 @@ pub fn matches(
     ends: &[u16],
     ops: Found,
     fresh: &[u8],
-    columns: &[[u8; 48]],
+    columns: &[Entry],
     table: u8,
     f: Found,
-    row: &[[u8; 25]; 25],
+    row: &Row,
 ) -> bool
     requires { ⌜ Running (now text) (now ends) ops (now fresh) ⌝ }
     requires { ⌜ itemsFine (now text) f ≡ true ⌝ }
-    requires { ⌜ length (now columns) ≤ 6 ⌝ }
+    requires { ⌜ length (now columns) ≤ mostColumns ⌝ }
     requires { ⌜ isFine (testsAt (now text) ops (now fresh) (now columns) f .fault) ≡ true ⌝ }
     ensures { λ r. ⌜ ((s : Schema) → columnsOf s table ≡ map columnFrom (now (columns .entry)) → r ≡ matches table (testsAt (now (text .entry)) ops (now (fresh .entry)) (now (columns .entry)) f .got) (rowFrom s (now (row .entry)))) ⌝ }
 {
@@ -477,15 +436,15 @@ pub fn count_rows(
     ends: &[u16],
     ops: Found,
     fresh: &[u8],
-    columns: &[[u8; 48]],
+    columns: &[Entry],
     table: u8,
     f: Found,
-    rows: &[[[u8; 25]; 25]],
+    rows: &[Row],
     n: usize,
 ) -> usize
     requires { ⌜ Running (now text) (now ends) ops (now fresh) ⌝ }
     requires { ⌜ itemsFine (now text) f ≡ true ⌝ }
-    requires { ⌜ length (now columns) ≤ 6 ⌝ }
+    requires { ⌜ length (now columns) ≤ mostColumns ⌝ }
     requires { ⌜ isFine (testsAt (now text) ops (now fresh) (now columns) f .fault) ≡ true ⌝ }
     requires { ⌜ n ≤ length (now rows) ⌝ }
     ensures { λ r. ⌜ ((s : Schema) → columnsOf s table ≡ map columnFrom (now (columns .entry)) → r ≡ count (matches table (testsAt (now (text .entry)) ops (now (fresh .entry)) (now (columns .entry)) f .got)) (working s n (now (rows .entry)))) ⌝ }
@@ -503,7 +462,7 @@ pub fn count_rows(
 }
 
 // The row at one place copied to another.
-fn copy_row(rows: &mut [[[u8; 25]; 25]], to: usize, from: usize)
+fn copy_row(rows: &mut [Row], to: usize, from: usize)
     requires { ⌜ (to ≤ from) × (from < length (now rows)) ⌝ }
     ensures { λ _. ⌜ now (rows .exit) ≡ set (now (rows .entry)) to (getD (now (rows .entry)) from []) ⌝ }
 {
@@ -520,15 +479,15 @@ pub fn delete_rows(
     ends: &[u16],
     ops: Found,
     fresh: &[u8],
-    columns: &[[u8; 48]],
+    columns: &[Entry],
     table: u8,
     f: Found,
-    rows: &mut [[[u8; 25]; 25]],
+    rows: &mut [Row],
     n: usize,
 ) -> usize
     requires { ⌜ Running (now text) (now ends) ops (now fresh) ⌝ }
     requires { ⌜ itemsFine (now text) f ≡ true ⌝ }
-    requires { ⌜ length (now columns) ≤ 6 ⌝ }
+    requires { ⌜ length (now columns) ≤ mostColumns ⌝ }
     requires { ⌜ isFine (testsAt (now text) ops (now fresh) (now columns) f .fault) ≡ true ⌝ }
     requires { ⌜ n ≤ length (now rows) ⌝ }
     ensures { λ r. ⌜ Deleted (map columnFrom (now (columns .entry))) table (testsAt (now (text .entry)) ops (now (fresh .entry)) (now (columns .entry)) f .got) n r (now (rows .entry)) (now (rows .exit)) ⌝ }

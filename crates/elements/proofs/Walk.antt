@@ -62,7 +62,7 @@ array-items (arr xs) a b l e = ap some e
 array-items (obj ms) a b l e = cc
 
 is-array : (j : Json) → isArray (kindOf j) ≡ true → arrayIn j ≡ some (itemsIn j)
-unfolding isArray kindOf itemsIn
+unfolding kindOf itemsIn
 is-array null h = cc
 is-array (bool t) h = cc
 is-array (num t) h = cc
@@ -71,7 +71,7 @@ is-array (arr xs) h = refl
 is-array (obj ms) h = cc
 
 no-array : (j : Json) → isArray (kindOf j) ≡ false → arrayIn j ≡ none
-unfolding isArray kindOf
+unfolding kindOf
 no-array null h = refl
 no-array (bool t) h = refl
 no-array (num t) h = refl

@@ -1,5 +1,6 @@
 // The elements of values as written in a request, by positions of its text.
 use model::Found;
+use model::Kind;
 ghost use mathlib.Core.Path.{_≡_};
 ghost use mathlib.Core.Bool.{true};
 ghost use Rattle.inner.specs.Positions.{Says, wellAt, treeAt};
@@ -24,7 +25,7 @@ pub fn pair_at(text: &[u8], ends: &[u16], at: usize) -> Pair
     requires { ⌜ wellAt (now text) at ≡ true ⌝ }
     ensures { λ r. ⌜ Pairs (now (text .entry)) r (itemsIn (treeAt (now (text .entry)) at)) ⌝ }
 {
-    let f = nav::first(text, at, 91, 93);
+    let f = nav::first(text, at, b'[', b']');
     let Found::At(a) = f else {
         return Pair::Other;
     };
@@ -49,9 +50,9 @@ pub fn elements_at(text: &[u8], ends: &[u16], at: usize) -> Elements
     match p {
         Pair::Of(a, b) => {
             let w = text::is_word(text, a, b"set");
-            let l = nav::is_array(nav::kind_at(text, b));
+            let l = leaf::is_kind(nav::kind_at(text, b), Kind::Array);
             if w & l {
-                let g = nav::first(text, b, 91, 93);
+                let g = nav::first(text, b, b'[', b']');
                 return Elements {
                     set: true,
                     first: g,

@@ -45,7 +45,7 @@ module _ (s : List ℕ) {p : ℕ} where
 
 -- a value that is true or false, and one that is neither
 truth-is : (d : Bool) (j : Json) → isTruth (kindOf j) ≡ true → isTrue j ≡ truthOr d j
-unfolding isTruth kindOf isTrue truthOr
+unfolding kindOf isTrue truthOr
 truth-is d null h = absurd (clash false h refl)
 truth-is d (bool b) h = refl
 truth-is d (num t) h = absurd (clash false h refl)
@@ -54,7 +54,7 @@ truth-is d (arr xs) h = absurd (clash false h refl)
 truth-is d (obj ms) h = absurd (clash false h refl)
 
 truth-not : (d : Bool) (j : Json) → isTruth (kindOf j) ≡ false → d ≡ truthOr d j
-unfolding isTruth kindOf truthOr
+unfolding kindOf truthOr
 truth-not d null h = refl
 truth-not d (bool b) h = absurd (clash true refl h)
 truth-not d (num t) h = refl
@@ -63,7 +63,7 @@ truth-not d (arr xs) h = refl
 truth-not d (obj ms) h = refl
 
 no-truth : isTruth (kindOf null) ≡ false
-unfolding isTruth kindOf
+unfolding kindOf
 no-truth = refl
 
 module _ (s : List ℕ) (p : ℕ) (d : Bool) where

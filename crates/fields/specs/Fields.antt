@@ -1,5 +1,5 @@
 -- Words told apart, and the members of an object by them. Assumes nothing: these are definitions.
-use Prim.Native.Nat.{ℕ, zero, suc, _<_}
+use Prim.Native.Nat.{ℕ, zero, suc, _+_, _<_}
 use mathlib.Core.Path.{_≡_}
 use mathlib.Core.List.{List, [], _∷_}
 use mathlib.Core.Bool.{Bool, true, false, not}
@@ -11,6 +11,10 @@ use Rattle.model.specs.Members.{hasMember, memberValue}
 use Rattle.model.specs.Text.{isWord}
 use Rattle.model.specs.SchemaText.{only}
 
+-- words at once, at most
+abbrev pub mostWords : ℕ
+mostWords = 9
+
 -- words that stand one after another, each after its length, at most n
 unfoldable pub wordsFrom : ℕ → List ℕ → List (List ℕ)
 wordsFrom zero bs = []
@@ -20,9 +24,9 @@ wordsFrom (suc n) (k ∷ bs) = elim (leb k (length bs)) [ true ↦ take k bs ∷
 unfoldable pub wordsOf : List ℕ → List (List ℕ)
 wordsOf bs = wordsFrom (length bs) bs
 
--- the number of the word that a value is, of which the first has the number k; 9 where it is none
+-- the number of the word that a value is, of which the first has the number k; mostWords where it is none
 unfoldable pub choiceFrom : ℕ → Json → List (List ℕ) → ℕ
-choiceFrom k j [] = 9
+choiceFrom k j [] = mostWords
 choiceFrom k j (w ∷ ws) = elim (isWord w j) [ true ↦ k | false ↦ choiceFrom (suc k) j ws ]
 
 unfoldable pub choice : List (List ℕ) → Json → ℕ
@@ -32,10 +36,10 @@ choice ws j = choiceFrom 0 j ws
 unfoldable pub slotTree : List ℕ → ℕ → Json
 slotTree s p = elim (eqb p 0) [ true ↦ null | false ↦ treeAt s p ]
 
--- ten slots say of each word whether a member has it and where its last value begins; the tenth is 0 where all members are among the words
+-- slots say of each word whether a member has it and where its last value begins; the last is 0 where all members are among the words
 pub record Slots (s : List ℕ) (ws : List (List ℕ)) (ms : List Named) (slots : List ℕ) : Type 0 where
-  pub size : length slots ≡ 10
+  pub size : length slots ≡ 1 + mostWords
   pub here : (i : ℕ) → i < length ws → hasMember (getD ws i []) ms ≡ not (eqb (getD slots i 0) 0)
   pub value : (i : ℕ) → i < length ws → memberValue (getD ws i []) ms ≡ slotTree s (getD slots i 0)
   pub well : (i : ℕ) → i < length ws → eqb (getD slots i 0) 0 ≡ false → wellAt s (getD slots i 0) ≡ true
-  pub listed : only ws ms ≡ eqb (getD slots 9 0) 0
+  pub listed : only ws ms ≡ eqb (getD slots mostWords 0) 0

@@ -13,21 +13,29 @@ ghost use Rattle.model.specs.Nav.{kindOf};
 ghost use Rattle.model.specs.Whole.{wholeOf};
 ghost use Rattle.model.specs.Members.{membersIn};
 ghost use Rattle.model.specs.SchemaText.{membersOr, truthOr};
-ghost use Rattle.fields.specs.Fields.{wordsOf, choice, slotTree, Slots};
+ghost use Rattle.fields.specs.Fields.{mostWords, wordsOf, choice, slotTree, Slots};
 
-// The number of the word that the value at `at` is, 9 where it is none.
+// Words at once, at most; as a word's number, that there is none.
+pub const WORDS: usize = 9;
+
+// A slot for the place of each word's value, and one more for members that have none of the words.
+pub const SLOTS: usize = WORDS + 1;
+
+pub type Places = [usize; SLOTS];
+
+// The number of the word that the value at `at` is, WORDS where it is none.
 pub fn choose(text: &[u8], at: usize, words: &[u8]) -> usize
     ensures { λ r. ⌜ r ≡ choice (wordsOf (now (words .entry))) (treeAt (now (text .entry)) at) ⌝ }
 {
     let mut a = 0;
     for k in 0..words.len() {
         if words.len() <= a {
-            return 9;
+            return WORDS;
         }
         let n = words[a] as usize;
         let b = a + 1;
         if words.len() - b < n {
-            return 9;
+            return WORDS;
         }
         let e = b + n;
         if text::is_word(text, at, &words[b..e]) {
@@ -35,25 +43,25 @@ pub fn choose(text: &[u8], at: usize, words: &[u8]) -> usize
         }
         a = e;
     }
-    9
+    WORDS
 }
 
 // Where the last value of each word begins in the object at `at`.
-pub fn fields(text: &[u8], ends: &[u16], at: usize, words: &[u8]) -> [usize; 10]
+pub fn fields(text: &[u8], ends: &[u16], at: usize, words: &[u8]) -> Places
     requires { ⌜ Says (now text) (now ends) ⌝ }
     requires { ⌜ wellAt (now text) at ≡ true ⌝ }
     requires { ⌜ distinct (wordsOf (now words)) ≡ true ⌝ }
-    requires { ⌜ length (wordsOf (now words)) ≤ 9 ⌝ }
+    requires { ⌜ length (wordsOf (now words)) ≤ mostWords ⌝ }
     ensures { λ r. ⌜ Slots (now (text .entry)) (wordsOf (now (words .entry))) (membersIn (treeAt (now (text .entry)) at)) r ⌝ }
 {
-    let mut slots = [0usize; 10];
-    let mut g = nav::first(text, at, 123, 125);
+    let mut slots = [0usize; SLOTS];
+    let mut g = nav::first(text, at, b'{', b'}');
     loop {
         match g {
             Found::At(p) => {
                 let k = choose(text, p, words);
                 let v = nav::member_value(text, p);
-                if k < 10 {
+                if k < SLOTS {
                     slots[k] = v;
                 }
                 g = nav::next_member(text, ends, p);
@@ -64,31 +72,31 @@ pub fn fields(text: &[u8], ends: &[u16], at: usize, words: &[u8]) -> [usize; 10]
 }
 
 // The same of the value at `at`, which stands for the first word's member where it is no object.
-pub fn fields_or(text: &[u8], ends: &[u16], at: usize, words: &[u8]) -> [usize; 10]
+pub fn fields_or(text: &[u8], ends: &[u16], at: usize, words: &[u8]) -> Places
     requires { ⌜ Says (now text) (now ends) ⌝ }
     requires { ⌜ wellAt (now text) at ≡ true ⌝ }
     requires { ⌜ 0 < at ⌝ }
     requires { ⌜ distinct (wordsOf (now words)) ≡ true ⌝ }
-    requires { ⌜ length (wordsOf (now words)) ≤ 9 ⌝ }
+    requires { ⌜ length (wordsOf (now words)) ≤ mostWords ⌝ }
     requires { ⌜ 0 < length (wordsOf (now words)) ⌝ }
     ensures { λ r. ⌜ Slots (now (text .entry)) (wordsOf (now (words .entry))) (membersOr (getD (wordsOf (now (words .entry))) 0 []) (treeAt (now (text .entry)) at)) r ⌝ }
 {
     let k = nav::kind_at(text, at);
-    let o = nav::is_object(k);
+    let o = leaf::is_kind(k, Kind::Object);
     if o {
         return fields(text, ends, at, words);
     }
-    let mut slots = [0usize; 10];
+    let mut slots = [0usize; SLOTS];
     slots[0] = at;
     slots
 }
 
-// The number of the word that a slot's value is, 9 where it is none.
+// The number of the word that a slot's value is, WORDS where it is none.
 pub fn choice_in(text: &[u8], p: usize, words: &[u8]) -> usize
     ensures { λ r. ⌜ r ≡ choice (wordsOf (now (words .entry))) (slotTree (now (text .entry)) p) ⌝ }
 {
     if p == 0 {
-        return 9;
+        return WORDS;
     }
     choose(text, p, words)
 }
@@ -119,7 +127,7 @@ pub fn truth_in(text: &[u8], p: usize, d: bool) -> bool
     ensures { λ r. ⌜ r ≡ truthOr d (slotTree (now (text .entry)) p) ⌝ }
 {
     let k = kind_in(text, p);
-    let t = nav::is_truth(k);
+    let t = leaf::is_kind(k, Kind::Truth);
     if t {
         return nav::truth_at(text, p);
     }

@@ -5,6 +5,7 @@ use mathlib.Core.Bool.{Bool, true, not, _&&_}
 use mathlib.Core.List.{List, [], _∷_}
 use lib.Dec.{eqb}
 use lib.ListN.{length, getD, drop}
+use Rattle.model.specs.Limits.{idBytes}
 use Rattle.model.specs.Octets.{value}
 use Rattle.model.specs.Base.{any}
 use Rattle.model.specs.Rows.{Row, hasId}
@@ -19,7 +20,7 @@ freshAt fresh k = getD (freshIds fresh) k 0
 
 -- its bytes
 pub record FreshId (fresh : List ℕ) (k : ℕ) (id : List ℕ) : Type 0 where
-  pub size : length id ≡ 16
+  pub size : length id ≡ idBytes
   pub is : value id ≡ freshAt fresh k
 
 -- the first of some fresh ids may be given: it is not zero, no row's, and unlike the others (refusal 6)

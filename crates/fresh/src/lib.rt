@@ -1,8 +1,12 @@
-// The fresh ids that come with a request: 16 of 16 bytes.
+// The fresh ids that come with a request, one for each operation that it may have.
+use model::ID;
+use model::OPERATIONS;
+use model::Row;
 ghost use mathlib.Core.Path.{_≡_};
 ghost use Prim.Native.Nat.{_≤_, _<_};
 ghost use lib.Dec.{eqb};
 ghost use lib.ListN.{length};
+ghost use Rattle.model.specs.Limits.{idBytes, mostOperations, freshBytes};
 ghost use Rattle.model.specs.Octets.{value};
 ghost use Rattle.model.specs.Base.{any};
 ghost use Rattle.model.specs.Schema.{Schema};
@@ -11,7 +15,7 @@ ghost use Rattle.fresh.specs.Fresh.{freshFrom, FreshId, idGood, freshGoo
 
 // Whether two ids are the same number.
 fn same(a: &[u8], b: &[u8]) -> bool
-    requires { ⌜ (length (now a) ≡ 16) × (length (now b) ≡ 16) ⌝ }
+    requires { ⌜ (length (now a) ≡ idBytes) × (length (now b) ≡ idBytes) ⌝ }
     ensures { λ r. ⌜ r ≡ eqb (value (now (a .entry))) (value (now (b .entry))) ⌝ }
 {
     octets::equal(a, b)
@@ -19,21 +23,21 @@ fn same(a: &[u8], b: &[u8]) -> bool
 
 // Fresh id k, lent.
 pub fn id_at<'f>(fresh: &'f [u8], k: usize) -> &'f [u8]
-    requires { ⌜ (length (now fresh) ≡ 256) × (k < 16) ⌝ }
+    requires { ⌜ (length (now fresh) ≡ freshBytes) × (k < mostOperations) ⌝ }
     ensures { λ r. ⌜ FreshId (now (fresh .entry)) k (now r) ⌝ }
 {
-    &fresh[16 * k..16 * k + 16]
+    &fresh[ID * k..ID * k + ID]
 }
 
 // Whether an id is among the fresh ids from k on.
 fn among(fresh: &[u8], k: usize, id: &[u8]) -> bool
-    requires { ⌜ length (now fresh) ≡ 256 ⌝ }
-    requires { ⌜ k ≤ 16 ⌝ }
-    requires { ⌜ length (now id) ≡ 16 ⌝ }
+    requires { ⌜ length (now fresh) ≡ freshBytes ⌝ }
+    requires { ⌜ k ≤ mostOperations ⌝ }
+    requires { ⌜ length (now id) ≡ idBytes ⌝ }
     ensures { λ r. ⌜ r ≡ any (eqb (value (now (id .entry)))) (freshFrom k (now (fresh .entry))) ⌝ }
 {
     let mut i = k;
-    while i < 16 {
+    while i < OPERATIONS {
         let next = id_at(fresh, i);
         let here = same(id, next);
         if here {
@@ -45,16 +49,16 @@ fn among(fresh: &[u8], k: usize, id: &[u8]) -> bool
 }
 
 // Whether fresh id k may be given: it is not zero, no row's, and unlike those after it.
-fn id_good(fresh: &[u8], k: usize, rows: &[[[u8; 25]; 25]], n: usize) -> bool
-    requires { ⌜ length (now fresh) ≡ 256 ⌝ }
-    requires { ⌜ k < 16 ⌝ }
+fn id_good(fresh: &[u8], k: usize, rows: &[Row], n: usize) -> bool
+    requires { ⌜ length (now fresh) ≡ freshBytes ⌝ }
+    requires { ⌜ k < mostOperations ⌝ }
     requires { ⌜ n ≤ length (now rows) ⌝ }
     ensures { λ r. ⌜ ((s : Schema) → r ≡ idGood (freshFrom k (now (fresh .entry))) (working s n (now (rows .entry)))) ⌝ }
 {
     let id = id_at(fresh, k);
-    let blank = [0u8; 16];
+    let blank = [0u8; ID];
     let none = same(id, &blank[..]);
-    let mut copy = [0u8; 16];
+    let mut copy = [0u8; ID];
     octets::put_bytes(&mut copy[..], id);
     let taken = rows::has_id(rows, n, &copy);
     let again = among(fresh, k + 1, id);
@@ -62,12 +66,12 @@ fn id_good(fresh: &[u8], k: usize, rows: &[[[u8; 25]; 25]], n: usize) -> bool
 }
 
 // Whether all fresh ids may be given.
-pub fn ids_good(fresh: &[u8], rows: &[[[u8; 25]; 25]], n: usize) -> bool
-    requires { ⌜ (length (now fresh) ≡ 256) × (n ≤ length (now rows)) ⌝ }
+pub fn ids_good(fresh: &[u8], rows: &[Row], n: usize) -> bool
+    requires { ⌜ (length (now fresh) ≡ freshBytes) × (n ≤ length (now rows)) ⌝ }
     ensures { λ r. ⌜ ((s : Schema) → r ≡ freshGood (now (fresh .entry)) (working s n (now (rows .entry)))) ⌝ }
 {
     let mut k = 0;
-    while k < 16 {
+    while k < OPERATIONS {
         let good = id_good(fresh, k, rows, n);
         if good {
             k += 1;

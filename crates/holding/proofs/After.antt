@@ -1,20 +1,19 @@
 -- The store that an area in good order holds: what a request's reply is made of, and the area with its number and rows written anew. Assumes nothing.
-use mathlib.Core.Path.{_≡_, sym, ap, _∙_}
+use mathlib.Core.Path.{_≡_, refl, sym, ap, _∙_}
 use mathlib.Core.Bool.{true, _&&_}
-use mathlib.Core.List.{List, []}
-use mathlib.Core.Option.{Option, none, some}
+use mathlib.Core.List.{List}
 use Prim.Native.Nat.{ℕ, _≤_}
 use lib.ListN.{length, take}
 use Rattle.model.specs.Octets.{big}
 use Rattle.model.specs.Base.{every}
-use Rattle.model.specs.Schema.{Schema, Database}
-use Rattle.inner.specs.Packed.{databaseFrom, packedTables}
+use Rattle.model.specs.Schema.{Schema}
+use Rattle.model.specs.Catalog.{databaseFrom, packedTables}
 use Rattle.model.specs.Value.{meets}
 use Rattle.model.specs.Commit.{lawful}
 use Rattle.model.specs.Replies.{reply}
-use Rattle.model.specs.Areas as areas
-use Rattle.model.specs.Areas.{Store, encodeStore, textFrom, headTests, rowsPass, storeGood}
-use Rattle.model.specs.Calls.{heldDatabase, replyOf}
+use Rattle.model.specs.Limits.{countOffset}
+use Rattle.model.specs.Areas.{Store, encodeStore, headTests, rowsPass, storeGood}
+use Rattle.model.specs.Calls.{replyOf}
 use Rattle.inner.specs.Working.{working, Tidy}
 use Rattle.model.proofs.Tests.{and-l, and-r}
 use Rattle.model.proofs.GoodOrder.{meets-pass}
@@ -27,7 +26,7 @@ use Rattle.holding.specs.Held.{runIn, Holding}
 good-fits : (st : Store) → storeGood st ≡ true → Fits st
 unfolding storeGood
 good-fits st h =
-    let s = areas.tablesIn (st .schema) in
+    let s = st .database .tables in
     let heads = every (headTests st) in
     let typed = rowsPass meets s (st .rows) in
     let p = and-l (heads && typed) (lawful s (st .rows)) h in
@@ -38,25 +37,21 @@ module _ (a : List ℕ) (cells : List (List ℕ)) (rows : List (List (List ℕ))
   s = packedTables cells
 
   abbrev pub store : Store
-  store = storeIn (packedTables cells) (runIn a) (numberIn a) (textFrom a) (rowCount a) rows
+  store = storeIn (databaseFrom cells) (runIn a) (numberIn a) (rowCount a) rows
 
   pub fits : Fits store
   fits = good-fits store (store-of-is a store (k .store) .1)
 
-  pub database-is : heldDatabase store ≡ databaseFrom cells
-  unfolding storeIn
-  database-is = ap (λ (o : Option Database). elim o [ none ↦ record { name = []; tables = [] } | some d ↦ d ]) (k .database)
-
   -- a reply is that to the schema and the rows in cells
   pub reply-is : (request fresh : List ℕ) (room : ℕ) → replyOf store request fresh room ≡ reply (databaseFrom cells) (numberIn a) (working s (rowCount a) rows) request fresh room
   unfolding storeIn
-  reply-is request fresh room = ap (λ (d : Database). reply d (numberIn a) (working s (rowCount a) rows) request fresh room) database-is
+  reply-is request fresh room = refl
 
   -- the area after its number and rows were written is the encoding of the store that has them
   pub area-after : (number n : ℕ) (after : List (List (List ℕ))) → n ≤ length after → Tidy s (take n after)
-      → placed 4106 20001 (rowsPart n after) (placed 4 4 (big 4 number) a) ≡ encodeStore (storeIn s (runIn a) number (textFrom a) n after)
+      → placed countOffset 20001 (rowsPart n after) (placed 4 4 (big 4 number) a) ≡ encodeStore (storeIn (databaseFrom cells) (runIn a) number n after)
   unfolding storeIn
   area-after number n after h t =
-      ap (λ (b : List ℕ). placed 4106 20001 b (placed 4 4 (big 4 number) a)) (rows-are s after n h t)
-      ∙ ap (λ (x : List ℕ). placed 4106 20001 (rowsOf (working s n after)) (placed 4 4 (big 4 number) x)) (sym (store-of-is a store (k .store) .0))
+      ap (λ (b : List ℕ). placed countOffset 20001 b (placed 4 4 (big 4 number) a)) (rows-are s after n h t)
+      ∙ ap (λ (x : List ℕ). placed countOffset 20001 (rowsOf (working s n after)) (placed 4 4 (big 4 number) x)) (sym (store-of-is a store (k .store) .0))
       ∙ store-put store fits number (working s n after)

@@ -1,4 +1,4 @@
--- The store that an area in good order holds: its schema in cells, and its rows in cells. Assumes nothing: these are definitions.
+-- The store that an area in good order holds: its catalog, and its rows in cells. Assumes nothing: these are definitions.
 use Prim.Native.Nat.{ℕ, _≤_}
 use mathlib.Core.Path.{_≡_}
 use mathlib.Core.Bool.{Bool, true, false}
@@ -6,40 +6,31 @@ use mathlib.Core.List.{List}
 use mathlib.Core.Option.{none, some}
 use lib.ListN.{length, take}
 use Rattle.model.specs.Octets.{value, part}
-use Rattle.model.specs.Base.{isSome}
-use Rattle.model.specs.SchemaText.{readSchema}
-use Rattle.inner.specs.Packed.{schemaCells, databaseFrom, packedTables}
-use Rattle.model.specs.Areas.{storeBytes, textFrom, storeOf}
+use Rattle.model.specs.Limits.{mostRows, numberBytes, runOffset, storeBytes}
+use Rattle.model.specs.Catalog.{databaseFrom, packedTables}
+use Rattle.model.specs.Areas.{entriesIn, storeOf}
 use Rattle.inner.specs.Working.{Tidy}
-use Rattle.area.specs.Layout.{rowCount, Sized}
+use Rattle.catalog.specs.Accepted.{Accepted, isAccepted}
+use Rattle.area.specs.Layout.{rowCount}
 use Rattle.area.specs.Writing.{numberIn, storeIn}
-use Rattle.references.specs.Links.{Accepted}
 
 abbrev pub runIn : List ℕ → ℕ
-runIn a = value (part 0 4 a)
+runIn a = value (part runOffset numberBytes a)
 
--- an area's text is an accepted schema, and these are its cells
-pub record InCells (a : List ℕ) (cells : List (List ℕ)) : Type 0 where
-  pub database : readSchema (textFrom a) ≡ some (databaseFrom cells)
-  pub size : length cells ≡ schemaCells
-  pub sized : Sized cells
+-- an area's catalog, accepted
+pub record Kept (a : List ℕ) (catalog : List (List ℕ)) : Type 0 where
+  pub there : catalog ≡ entriesIn a
+  pub accepted : isAccepted catalog ≡ true
 
--- what an area in good order is, by its schema's cells and the cells of its rows
-pub record Holding (a : List ℕ) (cells : List (List ℕ)) (rows : List (List (List ℕ))) : Type 0 where
+-- what an area in good order is, by its catalog and the cells of its rows
+pub record Holding (a : List ℕ) (catalog : List (List ℕ)) (rows : List (List (List ℕ))) : Type 0 where
   pub size : length a ≡ storeBytes
-  pub store : storeOf a ≡ some (storeIn (packedTables cells) (runIn a) (numberIn a) (textFrom a) (rowCount a) rows)
-  pub database : readSchema (textFrom a) ≡ some (databaseFrom cells)
-  pub accepted : Accepted cells
-  pub sized : Sized cells
-  pub few : rowCount a ≤ 32
-  pub tidy : Tidy (packedTables cells) (take (rowCount a) rows)
-
--- whether an area's text is an accepted schema
-pub record TextRead (a : List ℕ) (cells : List (List ℕ)) (r : Bool) : Type 0 where
-  pub good : r ≡ true → InCells a cells
-  pub bad : r ≡ false → isSome (readSchema (textFrom a)) ≡ false
+  pub store : storeOf a ≡ some (storeIn (databaseFrom catalog) (runIn a) (numberIn a) (rowCount a) rows)
+  pub accepted : Accepted catalog
+  pub few : rowCount a ≤ mostRows
+  pub tidy : Tidy (packedTables catalog) (take (rowCount a) rows)
 
 -- "Good order, for a store", or none (refusal 1)
-pub record Held (a : List ℕ) (cells : List (List ℕ)) (rows : List (List (List ℕ))) (r : Bool) : Type 0 where
-  pub good : r ≡ true → Holding a cells rows
+pub record Held (a : List ℕ) (catalog : List (List ℕ)) (rows : List (List (List ℕ))) (r : Bool) : Type 0 where
+  pub good : r ≡ true → Holding a catalog rows
   pub bad : r ≡ false → storeOf a ≡ none

@@ -14,37 +14,13 @@ use Rattle.model.specs.Base.{all}
 use Rattle.model.specs.Json.{Json}
 use Rattle.inner.specs.Positions.{treeAt, wellAt, firstOf, nextItem, itemsFrom, itemsFine}
 use Rattle.model.specs.Nav.{itemsIn}
-use Rattle.inner.specs.Packed.{indexFrom}
+use Rattle.model.specs.Catalog.{indexFrom}
 use Rattle.model.specs.SchemaText.{indexOf}
 use Rattle.model.proofs.Tests.{and-l, and-r}
 use Rattle.nav.proofs.FirstByte.{items-in}
 use Rattle.nav.proofs.Walk.{walk-end, walk-rest, walk-fine}
+use Rattle.catalog.proofs.Writing.{Four, four, is-four}
 use Rattle.indexes.specs.Indexes.{shortIndex, shortIndexes, Index, Stored}
-
--- an array of four
-pub data Four : List ℕ → Type 0 where
-  four : (a b c d : ℕ) → Four (a ∷ b ∷ c ∷ d ∷ [])
-
-pub is-four : (l : List ℕ) → length l ≡ 4 → Four l
-is-four [] h = absurd (omega arith)
-is-four (a ∷ []) h = absurd (omega arith)
-is-four (a ∷ b ∷ []) h = absurd (omega arith)
-is-four (a ∷ b ∷ c ∷ []) h = absurd (omega arith)
-is-four (a ∷ b ∷ c ∷ d ∷ []) h = four a b c d
-is-four (a ∷ b ∷ c ∷ d ∷ e ∷ l) h = absurd (omega arith)
-
--- nine bytes stored one by one
-each : List ℕ → List ℕ → List ℕ
-each a b = getD a 0 0 ∷ getD a 1 0 ∷ getD a 2 0 ∷ getD a 3 0 ∷ getD b 0 0 ∷ getD b 1 0 ∷ getD b 2 0 ∷ getD b 3 0 ∷ []
-
-each-is : {a b : List ℕ} → Four a → Four b → each a b ≡ a ++ b
-unfolding each
-each-is (four x y z w) (four p q r s) = refl
-
-pub stored : (cell : List ℕ) (n : ℕ) (a b : List ℕ) → length a ≡ 4 → length b ≡ 4 →
-    sets cell 36 (n ∷ getD a 0 0 ∷ getD a 1 0 ∷ getD a 2 0 ∷ getD a 3 0 ∷ getD b 0 0 ∷ getD b 1 0 ∷ getD b 2 0 ∷ getD b 3 0 ∷ []) ≡ sets cell 36 (n ∷ (a ++ b))
-unfolding each
-stored cell n a b ha hb = ap (λ (l : List ℕ). sets cell 36 (n ∷ l)) (each-is (is-four a ha) (is-four b hb))
 
 -- at most three of more bytes
 few-of : (n x y z : ℕ) (l : List ℕ) → n ≤ 3 → take n (x ∷ y ∷ z ∷ l) ≡ take n (x ∷ y ∷ z ∷ [])

@@ -60,7 +60,7 @@ and-true true = refl
 and-true false = refl
 
 no-items : (j : Json) → isArray (kindOf j) ≡ false → length (itemsIn j) ≡ 0
-unfolding kindOf isArray itemsIn
+unfolding kindOf itemsIn
 no-items null h = refl
 no-items (bool b) h = refl
 no-items (num t) h = refl

@@ -19,10 +19,11 @@ use Rattle.inner.specs.Positions.{treeAt, wellAt, firstOf, nextItem, itemsFrom,
 use Rattle.model.specs.Nav.{kindOf, isText, itemsIn, textIn}
 use Rattle.model.specs.Members.{hasMember}
 use Rattle.model.specs.Value.{textOf}
-use Rattle.inner.specs.Packed.{cellName}
+use Rattle.model.specs.Catalog.{cellName}
 use Rattle.model.specs.SchemaText.{names, isId, isIndexed, indexTests, indexFits, indexesTests, indexesFit, placeOr, indexOf, isLasting}
 use Rattle.model.proofs.Tests.{split, and-l, and-r, parts}
-use Rattle.names.specs.Names.{nameCell, shortCell, foundAt, cellNamed}
+use Rattle.names.specs.Names.{nameCell, shortCell}
+use Rattle.catalog.specs.Entries.{foundAt, cellNamed}
 use Rattle.nav.proofs.FirstByte.{items-in}
 use Rattle.nav.proofs.Walk.{walk-end, walk-rest, walk-fine}
 use Rattle.indexes.specs.Indexes.{isShort, shortIndex, shortIndexes, Index}

@@ -24,7 +24,7 @@ use Rattle.names.specs.Names.{shortCell, nameCell}
 
 -- a string, and what it says
 pub string-text : (j : Json) → isText (kindOf j) ≡ true → wordIn j ≡ textIn j
-unfolding isText kindOf wordIn textIn
+unfolding kindOf wordIn textIn
 string-text null h = refl
 string-text (bool b) h = refl
 string-text (num t) h = absurd (clash false h refl)

@@ -1,5 +1,5 @@
 -- Indexes as written, few and of short names, and as bytes. Assumes nothing: these are definitions.
-use Prim.Native.Nat.{ℕ, _≤_}
+use Prim.Native.Nat.{ℕ, _+_, _≤_}
 use mathlib.Core.Path.{_≡_}
 use mathlib.Core.Bool.{Bool, _&&_}
 use mathlib.Core.List.{List}
@@ -9,7 +9,7 @@ use Rattle.model.specs.Base.{all}
 use Rattle.model.specs.Limits.{mostTextBytes, mostIndexes, mostIndexColumns}
 use Rattle.model.specs.Json.{Json, Named}
 use Rattle.model.specs.Nav.{itemsIn}
-use Rattle.inner.specs.Packed.{indexesFrom}
+use Rattle.model.specs.Catalog.{indexesOffset, secondIndexOffset, indexesFrom}
 use Rattle.model.specs.SchemaText.{isStringOf, indexFits}
 
 -- at most two items that are indexes
@@ -26,14 +26,18 @@ shortIndex j = leb (length (itemsIn j)) mostIndexColumns && all isShort (itemsIn
 unfoldable pub shortIndexes : Json → Bool
 shortIndexes j = leb (length (itemsIn j)) mostIndexes && all shortIndex (itemsIn j)
 
--- four bytes: how many columns, and their numbers
+-- an index in bytes: how many columns, and their numbers
 pub record Index (bytes columns : List ℕ) : Type 0 where
-  pub size : length bytes ≡ 4
-  pub few : getD bytes 0 0 ≤ 3
+  pub size : length bytes ≡ 1 + mostIndexColumns
+  pub few : getD bytes 0 0 ≤ mostIndexColumns
   pub holds : take (getD bytes 0 0) (drop 1 bytes) ≡ columns
 
--- a table's cell with its indexes in bytes 36 to 44, the others as they were
+-- where the indexes of a table's cell end
+abbrev pub indexesEnd : ℕ
+indexesEnd = secondIndexOffset + 1 + mostIndexColumns
+
+-- a table's cell with its indexes, the other bytes as they were
 pub record Stored (before after : List ℕ) (indexes : List (List ℕ)) : Type 0 where
-  pub front : take 36 after ≡ take 36 before
-  pub back : drop 45 after ≡ drop 45 before
+  pub front : take indexesOffset after ≡ take indexesOffset before
+  pub back : drop indexesEnd after ≡ drop indexesEnd before
   pub holds : indexesFrom after ≡ indexes

@@ -1,16 +1,20 @@
 // A table's indexes: judged, and written into the table's cell.
+use catalog::INDEX;
+use model::Entry;
 use model::Found;
+use model::INDEX_COLUMNS;
+use model::INDEXES;
+use model::Kind;
 ghost use mathlib.Core.Path.{_≡_};
 ghost use mathlib.Core.Bool.{true};
-ghost use mathlib.Core.List.{map, _∷_, _++_};
+ghost use mathlib.Core.List.{map};
 ghost use Prim.Native.Nat.{_≤_};
 ghost use lib.ListN.{length};
-ghost use lib.Seq.{sets};
 ghost use Rattle.model.specs.Base.{all};
 ghost use Rattle.inner.specs.Positions.{Says, wellAt, treeAt};
 ghost use Rattle.model.specs.Nav.{itemsIn, textIn};
 ghost use Rattle.model.specs.Members.{membersIn};
-ghost use Rattle.inner.specs.Packed.{cellName};
+ghost use Rattle.model.specs.Catalog.{cellName};
 ghost use Rattle.model.specs.SchemaText.{names, isId, isLasting, isIndexed, indexFits, indexesFit, placeOr, indexOf};
 ghost use Rattle.indexes.specs.Indexes.{fewFit, isShort, shortIndex, shortIndexes, Index, Stored};
 
@@ -38,7 +42,7 @@ fn is_indexed(text: &[u8], ends: &[u16], at: usize, columns: usize) -> bool
     ensures { λ r. ⌜ r ≡ isIndexed (membersIn (treeAt (now (text .entry)) columns)) (treeAt (now (text .entry)) at) ⌝ }
 {
     let k = nav::kind_at(text, at);
-    let t = nav::is_text(k);
+    let t = leaf::is_kind(k, Kind::Text);
     if t {
         let name = names::name_at(text, at);
         let f = text::find(text, ends, columns, atom::text_of(&name));
@@ -59,11 +63,11 @@ fn index_fits(text: &[u8], ends: &[u16], at: usize, columns: usize) -> bool
     ensures { λ r. ⌜ r ≡ indexFits (membersIn (treeAt (now (text .entry)) columns)) (treeAt (now (text .entry)) at) ⌝ }
 {
     let mut n: usize = 0;
-    let mut g = nav::first(text, at, 91, 93);
+    let mut g = nav::first(text, at, b'[', b']');
     loop {
         match g {
             Found::At(p) => {
-                if 3 <= n {
+                if INDEX_COLUMNS <= n {
                     return false;
                 }
                 let ok = is_indexed(text, ends, p, columns);
@@ -88,11 +92,11 @@ fn few_fit(text: &[u8], ends: &[u16], at: usize, columns: usize) -> bool
     ensures { λ r. ⌜ r ≡ fewFit (membersIn (treeAt (now (text .entry)) columns)) (treeAt (now (text .entry)) at) ⌝ }
 {
     let mut n: usize = 0;
-    let mut g = nav::first(text, at, 91, 93);
+    let mut g = nav::first(text, at, b'[', b']');
     loop {
         match g {
             Found::At(p) => {
-                if 2 <= n {
+                if INDEXES <= n {
                     return false;
                 }
                 let ok = index_fits(text, ends, p, columns);
@@ -117,7 +121,7 @@ pub fn fits(text: &[u8], ends: &[u16], at: usize, columns: usize) -> bool
     ensures { λ r. ⌜ r ≡ indexesFit (membersIn (treeAt (now (text .entry)) columns)) (treeAt (now (text .entry)) at) ⌝ }
 {
     let k = nav::kind_at(text, at);
-    let a = nav::is_array(k);
+    let a = leaf::is_kind(k, Kind::Array);
     if a {
         return few_fit(text, ends, at, columns);
     }
@@ -125,13 +129,13 @@ pub fn fits(text: &[u8], ends: &[u16], at: usize, columns: usize) -> bool
 }
 
 // The number of the column that the string at `at` names.
-fn number(text: &[u8], at: usize, columns: &[[u8; 48]]) -> u8
+fn number(text: &[u8], at: usize, columns: &[Entry]) -> u8
     requires { ⌜ isShort (treeAt (now text) at) ≡ true ⌝ }
     requires { ⌜ length (now columns) ≤ 256 ⌝ }
     ensures { λ r. ⌜ r ≡ placeOr (textIn (treeAt (now (text .entry)) at)) (map cellName (now (columns .entry))) ⌝ }
 {
     let name = names::name_at(text, at);
-    let f = names::cell_named(columns, atom::text_of(&name));
+    let f = catalog::named(columns, atom::text_of(&name));
     match f {
         Found::At(k) => k as u8,
         Found::Nothing => 0,
@@ -139,16 +143,16 @@ fn number(text: &[u8], at: usize, columns: &[[u8; 48]]) -> u8
 }
 
 // An index as bytes: how many columns, and their numbers.
-fn index(text: &[u8], ends: &[u16], at: usize, columns: &[[u8; 48]]) -> [u8; 4]
+fn index(text: &[u8], ends: &[u16], at: usize, columns: &[Entry]) -> [u8; INDEX]
     requires { ⌜ Says (now text) (now ends) ⌝ }
     requires { ⌜ wellAt (now text) at ≡ true ⌝ }
     requires { ⌜ shortIndex (treeAt (now text) at) ≡ true ⌝ }
     requires { ⌜ length (now columns) ≤ 256 ⌝ }
     ensures { λ r. ⌜ Index r (indexOf (map cellName (now (columns .entry))) (treeAt (now (text .entry)) at)) ⌝ }
 {
-    let mut q = [0u8; 4];
+    let mut q = [0u8; INDEX];
     let mut n: usize = 0;
-    let mut g = nav::first(text, at, 91, 93);
+    let mut g = nav::first(text, at, b'[', b']');
     loop {
         match g {
             Found::At(p) => {
@@ -164,25 +168,8 @@ fn index(text: &[u8], ends: &[u16], at: usize, columns: &[[u8; 48]]) -> [u8; 4]
     }
 }
 
-// A table's cell with two indexes in their bytes, of which n count.
-fn stored(cell: [u8; 48], n: u8, a: [u8; 4], b: [u8; 4]) -> [u8; 48]
-    ensures { λ r. ⌜ (length cell ≡ 48) × (r ≡ sets cell 36 (n ∷ (a ++ b))) ⌝ }
-{
-    let mut c = cell;
-    c[36] = n;
-    c[37] = a[0];
-    c[38] = a[1];
-    c[39] = a[2];
-    c[40] = a[3];
-    c[41] = b[0];
-    c[42] = b[1];
-    c[43] = b[2];
-    c[44] = b[3];
-    c
-}
-
 // The indexes that the value at `at` lists, in their bytes of a table's cell.
-pub fn put(text: &[u8], ends: &[u16], at: usize, columns: &[[u8; 48]], cell: &mut [u8; 48])
+pub fn put(text: &[u8], ends: &[u16], at: usize, columns: &[Entry], cell: &mut Entry)
     requires { ⌜ Says (now text) (now ends) ⌝ }
     requires { ⌜ wellAt (now text) at ≡ true ⌝ }
     requires { ⌜ shortIndexes (treeAt (now text) at) ≡ true ⌝ }
@@ -190,7 +177,7 @@ pub fn put(text: &[u8], ends: &[u16], at: usize, columns: &[[u8; 48]], cell: &mu
     ensures { λ _. ⌜ Stored (now (cell .entry)) (now (cell .exit)) (map (indexOf (map cellName (now (columns .entry)))) (itemsIn (treeAt (now (text .entry)) at))) ⌝ }
 {
     let old = *cell;
-    let f = nav::first(text, at, 91, 93);
+    let f = nav::first(text, at, b'[', b']');
     match f {
         Found::At(p) => {
             let a = index(text, ends, p, columns);
@@ -198,15 +185,15 @@ pub fn put(text: &[u8], ends: &[u16], at: usize, columns: &[[u8; 48]], cell: &mu
             match g {
                 Found::At(r) => {
                     let b = index(text, ends, r, columns);
-                    *cell = stored(old, 2, a, b);
+                    *cell = catalog::with_indexes(old, 2, a, b);
                 }
                 Found::Nothing => {
-                    *cell = stored(old, 1, a, [0u8; 4]);
+                    *cell = catalog::with_indexes(old, 1, a, [0u8; INDEX]);
                 }
             }
         }
         Found::Nothing => {
-            *cell = stored(old, 0, [0u8; 4], [0u8; 4]);
+            *cell = catalog::with_indexes(old, 0, [0u8; INDEX], [0u8; INDEX]);
         }
     }
 }

@@ -17,7 +17,7 @@ use Rattle.model.specs.declared.Kind.the-variants.{Null, Truth, Number, Text, A
 use Rattle.model.specs.Scan.{byte, Parsed, run, spacesAt, endOr}
 use Rattle.model.specs.Strings.{charBy}
 use Rattle.model.specs.Json.{Json, null, bool, num, str, arr, obj, Named, afterItem, itemTurn, memberAt, valueAt}
-use Rattle.model.specs.Nav.{isRead, kindOf, isText}
+use Rattle.model.specs.Nav.{isRead, kindOf, isKind, isText}
 
 -- whether a value can be read at a position, and its tree
 unfoldable pub wellAt : List ℕ → ℕ → Bool
@@ -101,13 +101,8 @@ kindBy b =
 unfoldable pub pastAt : List ℕ → ℕ → ℕ
 pastAt s at = endOr at (valueAt 12 s at .read)
 
-unfoldable pub isNumber : Kind → Bool
-isNumber Null = false
-isNumber Truth = false
-isNumber Number = true
-isNumber Text = false
-isNumber Array = false
-isNumber Object = false
+abbrev pub isNumber : Kind → Bool
+isNumber k = isKind k Number
 
 -- whether a value is true
 unfoldable pub isTrue : Json → Bool

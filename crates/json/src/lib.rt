@@ -2,12 +2,17 @@
 use model::Next;
 use model::Open;
 use model::Read;
+use scan::BRACE_END;
+use scan::BRACKET_END;
 ghost use mathlib.Core.Path.{_≡_};
 ghost use Prim.Native.Nat.{_≤_};
 ghost use lib.ListN.{length, replicate};
 ghost use Rattle.model.specs.Json.{valueAt, arrayAt, memberAt, objectAt, textAt};
 ghost use Rattle.inner.specs.Positions.{Says};
 ghost use Rattle.json.specs.Table.{noted};
+
+// Arrays and objects inside one another, at most.
+pub const LEVELS: usize = 12;
 
 // Keeps where what begins at `at` ended.
 fn note(ends: &mut [u16], at: usize, r: Read)
@@ -73,13 +78,13 @@ fn array(text: &[u8], ends: &mut [u16], at: usize, levels: usize) -> Read
 {
     let j = scan::spaces(text, at);
     let b = scan::peek(text, j);
-    if b == 93 {
+    if b == BRACKET_END {
         return Read::End(j + 1);
     }
     let mut i = j;
     for k in 0..text.len() {
         let r = value(text, ends, i, levels);
-        let n = scan::after(text, r, 93);
+        let n = scan::after(text, r, b']');
         match n {
             Next::More(e) => {
                 i = e;
@@ -113,13 +118,13 @@ fn object(text: &[u8], ends: &mut [u16], at: usize, levels: usize) -> Read
 {
     let j = scan::spaces(text, at);
     let b = scan::peek(text, j);
-    if b == 125 {
+    if b == BRACE_END {
         return Read::End(j + 1);
     }
     let mut i = j;
     for k in 0..text.len() {
         let r = member(text, ends, i, levels);
-        let n = scan::after(text, r, 125);
+        let n = scan::after(text, r, b'}');
         match n {
             Next::More(e) => {
                 i = e;
@@ -135,7 +140,7 @@ pub fn end_at(text: &[u8], at: usize) -> Read
     ensures { λ r. ⌜ r ≡ valueAt 12 (now (text .entry)) at .read ⌝ }
 {
     let mut none = [0u16; 1];
-    value(text, &mut none, at, 12)
+    value(text, &mut none, at, LEVELS)
 }
 
 // All of the table is 0.
@@ -149,13 +154,13 @@ fn clear(ends: &mut [u16])
     }
 }
 
-// A whole text: a value of at most 12 levels, with white space around it.
+// A whole text: a value of at most so many levels, with white space around it.
 pub fn document(text: &[u8], ends: &mut [u16]) -> Read
     ensures { λ r. ⌜ r ≡ textAt (now (text .entry)) .read ⌝ }
     ensures { λ r. ⌜ Says (now (text .entry)) (now (ends .exit)) ⌝ }
 {
     clear(ends);
-    let v = value(text, ends, 0, 12);
+    let v = value(text, ends, 0, LEVELS);
     let Read::End(e) = v else {
         return v;
     };

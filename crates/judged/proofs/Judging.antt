@@ -130,8 +130,5 @@ one-distinct [] h = refl
 one-distinct (a ∷ []) h = refl
 one-distinct (a ∷ b ∷ l) h = absurd (omega arith)
 
-pub scalar-is : (c : Column) {min max : ℕ} → min ≡ c .min → max ≡ c .max → (eqb min 1 && eqb max 1) ≡ scalar c
-scalar-is c a b = both (ap (λ x. eqb x 1) a) (ap (λ x. eqb x 1) b)
-
 pub count-is : (c : Column) (n : ℕ) {min max : ℕ} → min ≡ c .min → max ≡ c .max → (leb min n && leb n max) ≡ countInLimits c n
 count-is c n a b = both (ap (λ x. leb x n) a) (ap (leb n) b)

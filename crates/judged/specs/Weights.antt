@@ -4,6 +4,7 @@ use mathlib.Core.Path.{_≡_}
 use mathlib.Core.Bool.{Bool, true, not}
 use mathlib.Core.List.{List}
 use lib.ListN.{length}
+use Rattle.model.specs.Limits.{mostElements}
 use Rattle.model.specs.Base.{any, distinct}
 use Rattle.model.specs.Json.{Json}
 use Rattle.model.specs.Schema.{Base, Column}
@@ -33,5 +34,5 @@ grade typed fits fair = check typed Syntax (check fits Resources (check fair Con
 -- a value whose atoms fit four places of 25 bytes
 pub record Fitting (names : Names) (k : Base) (j : Json) : Type 0 where
   pub typed : allTyped names k (elementsIn j) ≡ true
-  pub few : length (elementsIn j) ≤ 4
+  pub few : length (elementsIn j) ≤ mostElements
   pub short : allShort names k (elementsIn j) ≡ true

@@ -1,4 +1,8 @@
 // Values as written in a request: how each is judged, and its atoms where there is no fault.
+use model::Atom;
+use model::Atoms;
+use model::ELEMENTS;
+use model::Entry;
 use model::Fault;
 use model::Found;
 use model::Function;
@@ -10,12 +14,12 @@ ghost use lib.ListN.{length};
 ghost use Rattle.model.specs.Base.{if_then_else_, distinct};
 ghost use Rattle.inner.specs.Positions.{Says, wellAt, treeAt};
 ghost use Rattle.model.specs.Schema.{integer, scalar};
-ghost use Rattle.inner.specs.Packed.{baseNumbered};
+ghost use Rattle.model.specs.Catalog.{baseNumbered};
 ghost use Rattle.model.specs.Value.{valueOf};
 ghost use Rattle.model.specs.Faults.{isFine};
 ghost use Rattle.model.specs.Written.{elementsIn, rowFault, insertFault, deleteFault, operandFault, setCount, testFault, written};
 ghost use Rattle.model.specs.Operations.{valueWritten};
-ghost use Rattle.inner.specs.Packed.{columnFrom};
+ghost use Rattle.model.specs.Catalog.{columnFrom};
 ghost use Rattle.elements.specs.Elements.{elementsFrom, elementsFine};
 ghost use Rattle.uuids.specs.Named.{namesAt, Running};
 ghost use Rattle.written.specs.Atoms.{atomsOf};
@@ -53,14 +57,7 @@ fn different(
 }
 
 // What is judged of the value at `at`.
-fn weigh(
-    text: &[u8],
-    ends: &[u16],
-    ops: Found,
-    fresh: &[u8],
-    column: &[u8; 48],
-    at: usize,
-) -> Weight
+fn weigh(text: &[u8], ends: &[u16], ops: Found, fresh: &[u8], column: &Entry, at: usize) -> Weight
     requires { ⌜ Running (now text) (now ends) ops (now fresh) ⌝ }
     requires { ⌜ wellAt (now text) at ≡ true ⌝ }
     ensures { λ r. ⌜ Weighs (namesAt (now (text .entry)) ops (now (fresh .entry))) (columnFrom (now (column .entry))) (treeAt (now (text .entry)) at) (r .count) (r .typed) (r .short) (r .within) (r .different) ⌝ }
@@ -69,7 +66,7 @@ fn weigh(
     let set = e.set;
     let f = e.first;
     let t = sets::tally_from(text, ends, ops, fresh, column, set, f);
-    let kind = column[25];
+    let kind = catalog::kind(column);
     let n = t.count;
     let d = different(text, ends, ops, fresh, kind, set, f, n);
     Weight {
@@ -98,16 +95,16 @@ fn graded(typed: bool, fits: bool, fair: bool) -> Fault
 }
 
 // A column's min and max.
-fn least(column: &[u8; 48]) -> usize
+fn least(column: &Entry) -> usize
     ensures { λ r. ⌜ r ≡ columnFrom (now (column .entry)) .min ⌝ }
 {
-    atom::wide(column[28])
+    leaf::wide(catalog::minimum(column))
 }
 
-fn most(column: &[u8; 48]) -> usize
+fn most(column: &Entry) -> usize
     ensures { λ r. ⌜ r ≡ columnFrom (now (column .entry)) .max ⌝ }
 {
-    atom::wide(column[29])
+    leaf::wide(catalog::maximum(column))
 }
 
 // How a value in a row is judged.
@@ -116,7 +113,7 @@ pub fn row_fault(
     ends: &[u16],
     ops: Found,
     fresh: &[u8],
-    column: &[u8; 48],
+    column: &Entry,
     at: usize,
 ) -> Fault
     requires { ⌜ Running (now text) (now ends) ops (now fresh) ⌝ }
@@ -127,7 +124,7 @@ pub fn row_fault(
     let n = w.count;
     let min = least(column);
     let max = most(column);
-    let fits = (n <= 4) & w.short;
+    let fits = (n <= ELEMENTS) & w.short;
     let fair = w.different & w.within & ((min <= n) & (n <= max));
     graded(w.typed, fits, fair)
 }
@@ -138,7 +135,7 @@ pub fn insert_fault(
     ends: &[u16],
     ops: Found,
     fresh: &[u8],
-    column: &[u8; 48],
+    column: &Entry,
     at: usize,
 ) -> Fault
     requires { ⌜ Running (now text) (now ends) ops (now fresh) ⌝ }
@@ -148,7 +145,7 @@ pub fn insert_fault(
     let w = weigh(text, ends, ops, fresh, column, at);
     let n = w.count;
     let max = most(column);
-    let fit = (n <= 4) & w.short;
+    let fit = (n <= ELEMENTS) & w.short;
     let fair = w.different & w.within & (n <= max);
     graded(w.typed, fit, fair)
 }
@@ -159,7 +156,7 @@ pub fn delete_fault(
     ends: &[u16],
     ops: Found,
     fresh: &[u8],
-    column: &[u8; 48],
+    column: &Entry,
     at: usize,
 ) -> Fault
     requires { ⌜ Running (now text) (now ends) ops (now fresh) ⌝ }
@@ -177,7 +174,7 @@ pub fn operand_fault(
     ends: &[u16],
     ops: Found,
     fresh: &[u8],
-    column: &[u8; 48],
+    column: &Entry,
     at: usize,
 ) -> Fault
     requires { ⌜ Running (now text) (now ends) ops (now fresh) ⌝ }
@@ -191,7 +188,7 @@ pub fn operand_fault(
 }
 
 // How many elements a condition on a set may have.
-fn set_count(column: &[u8; 48], f: Function, n: usize) -> bool
+fn set_count(column: &Entry, f: Function, n: usize) -> bool
     ensures { λ r. ⌜ r ≡ setCount (columnFrom (now (column .entry))) f n ⌝ }
 {
     let min = least(column);
@@ -209,12 +206,10 @@ fn set_count(column: &[u8; 48], f: Function, n: usize) -> bool
 }
 
 // The same of any column: one element where it is a scalar.
-fn test_count(column: &[u8; 48], f: Function, n: usize) -> bool
+fn test_count(column: &Entry, f: Function, n: usize) -> bool
     ensures { λ r. ⌜ r ≡ (if scalar (columnFrom (now (column .entry))) then eqb n 1 else setCount (columnFrom (now (column .entry))) f n) ⌝ }
 {
-    let min = least(column);
-    let max = most(column);
-    let one = (min == 1) & (max == 1);
+    let one = catalog::is_scalar(column);
     if one {
         return n == 1;
     }
@@ -227,7 +222,7 @@ pub fn test_fault(
     ends: &[u16],
     ops: Found,
     fresh: &[u8],
-    column: &[u8; 48],
+    column: &Entry,
     f: Function,
     at: usize,
 ) -> Fault
@@ -273,14 +268,7 @@ pub fn count_at(text: &[u8], ends: &[u16], at: usize) -> usize
 }
 
 // The atoms of the value at `at`, in the text's order.
-pub fn atoms_at(
-    text: &[u8],
-    ends: &[u16],
-    ops: Found,
-    fresh: &[u8],
-    kind: u8,
-    at: usize,
-) -> [[u8; 25]; 4]
+pub fn atoms_at(text: &[u8], ends: &[u16], ops: Found, fresh: &[u8], kind: u8, at: usize) -> Atoms
     requires { ⌜ Running (now text) (now ends) ops (now fresh) ⌝ }
     requires { ⌜ wellAt (now text) at ≡ true ⌝ }
     requires { ⌜ Fitting (namesAt (now text) ops (now fresh)) (baseNumbered kind) (treeAt (now text) at) ⌝ }
@@ -298,15 +286,15 @@ pub fn row_atoms(
     ends: &[u16],
     ops: Found,
     fresh: &[u8],
-    column: &[u8; 48],
+    column: &Entry,
     at: usize,
-) -> [[u8; 25]; 4]
+) -> Atoms
     requires { ⌜ Running (now text) (now ends) ops (now fresh) ⌝ }
     requires { ⌜ wellAt (now text) at ≡ true ⌝ }
     requires { ⌜ isFine (valueWritten (namesAt (now text) ops (now fresh)) (columnFrom (now column)) (treeAt (now text) at) .fault) ≡ true ⌝ }
     ensures { λ r. ⌜ r ≡ valueWritten (namesAt (now (text .entry)) ops (now (fresh .entry))) (columnFrom (now (column .entry))) (treeAt (now (text .entry)) at) .got .atoms ⌝ }
 {
-    let kind = column[25];
+    let kind = catalog::kind(column);
     let a = atoms_at(text, ends, ops, fresh, kind, at);
     let n = count_at(text, ends, at);
     value::sort(kind, a, n)
@@ -318,20 +306,20 @@ pub fn insert_atoms(
     ends: &[u16],
     ops: Found,
     fresh: &[u8],
-    column: &[u8; 48],
+    column: &Entry,
     at: usize,
-) -> [[u8; 25]; 4]
+) -> Atoms
     requires { ⌜ Running (now text) (now ends) ops (now fresh) ⌝ }
     requires { ⌜ wellAt (now text) at ≡ true ⌝ }
     requires { ⌜ isFine (written (namesAt (now text) ops (now fresh)) (columnFrom (now column) .base) (insertFault (columnFrom (now column))) (treeAt (now text) at) .fault) ≡ true ⌝ }
     ensures { λ r. ⌜ r ≡ valueOf (written (namesAt (now (text .entry)) ops (now (fresh .entry))) (columnFrom (now (column .entry)) .base) (insertFault (columnFrom (now (column .entry)))) (treeAt (now (text .entry)) at) .got) .atoms ⌝ }
 {
-    let kind = column[25];
+    let kind = catalog::kind(column);
     atoms_at(text, ends, ops, fresh, kind, at)
 }
 
 // The one atom of an arithmetic mutation's operand without a fault.
-pub fn operand_at(text: &[u8], ends: &[u16], ops: Found, fresh: &[u8], at: usize) -> [u8; 25]
+pub fn operand_at(text: &[u8], ends: &[u16], ops: Found, fresh: &[u8], at: usize) -> Atom
     requires { ⌜ Running (now text) (now ends) ops (now fresh) ⌝ }
     requires { ⌜ wellAt (now text) at ≡ true ⌝ }
     requires { ⌜ isFine (written (namesAt (now text) ops (now fresh)) integer operandFault (treeAt (now text) at) .fault) ≡ true ⌝ }

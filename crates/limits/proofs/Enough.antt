@@ -1,19 +1,19 @@
 -- Minimums, one column after another. Assumes nothing.
-use mathlib.Core.Path.{_≡_, refl, sym, ap, _∙_}
-use mathlib.Core.Bool.{Bool, true, false, _&&_}
-use mathlib.Core.List.{List, [], _∷_}
+use mathlib.Core.Path.{_≡_, ap}
+use mathlib.Core.Bool.{Bool, true, false}
+use mathlib.Core.List.{List, []}
 use Prim.Native.Nat.{ℕ, _+_, _≤_, _<_}
-use borrow.Author.Tests.{le-leb, lt-leb, eq-eqb, ne-eqb}
+use borrow.Author.Tests.{le-leb, lt-leb}
 use lib.Dec.{leb}
 use lib.ListN.{length, getD, drop, drop-of-length-le}
-use Rattle.model.specs.Schema.{Column, columnsOf}
+use Rattle.model.specs.Schema.{columnsOf}
 use Rattle.model.specs.Commit.{enough, notOver}
 use Rattle.model.specs.Octets.{value, part}
 use Rattle.model.specs.Areas.{rowFrom}
-use Rattle.inner.specs.Packed.{columnFrom, columnCell, packedTables, maxRowsFrom}
+use Rattle.model.specs.Catalog.{columnFrom, columnCell, packedTables, maxRowsFrom, isSet, limitedOffset, maxRowsOffset}
 use Rattle.inner.specs.Working.{tableIn, valueIn}
 use Rattle.inner.proofs.Working.{row-table}
-use Rattle.references.specs.Links.{Accepted}
+use Rattle.catalog.specs.Accepted.{Accepted}
 use Rattle.references.proofs.Packs.{columns-on}
 use Rattle.references.proofs.Links.{values-on}
 use Rattle.limits.specs.Alike.{rowEnough}
@@ -42,8 +42,8 @@ module _ (schema cells : List (List ℕ)) where
 
 -- ── a table's limit, by the bytes of its cell ──
 module _ (cell : List ℕ) (k : ℕ) where
-  pub limit-none : (getD cell 27 0 ≡ 1 → ⊥) → notOver (maxRowsFrom cell) k ≡ true
-  limit-none e = rw (maxRowsFrom, ne-eqb (getD cell 27 0) 1 e)
+  pub limit-none : isSet cell limitedOffset ≡ false → notOver (maxRowsFrom cell) k ≡ true
+  limit-none e = rw (maxRowsFrom, e)
 
-  pub limit-some : getD cell 27 0 ≡ 1 → notOver (maxRowsFrom cell) k ≡ leb k (value (part 28 8 cell))
-  limit-some e = rw (maxRowsFrom, eq-eqb (getD cell 27 0) 1 e)
+  pub limit-some : isSet cell limitedOffset ≡ true → notOver (maxRowsFrom cell) k ≡ leb k (value (part maxRowsOffset 8 cell))
+  limit-some e = rw (maxRowsFrom, e)

@@ -1,22 +1,22 @@
 -- The indexes of an accepted schema, by the bytes of a table's cell. Assumes nothing.
-use mathlib.Core.Path.{_≡_, refl, sym, ap, _∙_}
-use mathlib.Core.Bool.{Bool, true, false, _&&_}
+use mathlib.Core.Path.{_≡_, sym, ap}
+use mathlib.Core.Bool.{Bool, true}
 use mathlib.Core.List.{List, [], _∷_}
-use Prim.Native.Nat.{ℕ, zero, suc, _+_, _-_, _≤_, _<_, min}
+use Prim.Native.Nat.{ℕ, zero, suc, _+_, _-_, _≤_, _<_}
 use native.Mathlib.Nat.{add-zero}
 use native.Mathlib.Omega.{arith}
-use borrow.Author.Tests.{leb-true, ltb-true, eqb-true}
-use lib.Dec.{eqb, ltb, leb}
-use lib.ListN.{length, getD, take, drop, length-take, length-drop}
-use lib.Seq.{getD-take, getD-drop}
+use borrow.Author.Tests.{ltb-true}
+use lib.Dec.{ltb}
+use lib.ListN.{length, getD, take}
+use Rattle.model.specs.Limits.{mostColumns}
 use Rattle.model.specs.Base.{all}
 use Rattle.model.specs.Schema.{Table, columnsOf}
-use Rattle.inner.specs.Packed.{tableCell, tableFrom, tablesFrom, packedTables, indexFrom, indexesFrom, databaseFrom}
-use Rattle.model.proofs.Sane.{saneTable, tableSane, saneIndex, indexSane, sane, databaseSane}
+use Rattle.model.specs.Catalog.{tableCell, tableFrom, tablesFrom, packedTables, indexFrom, indexesFrom, databaseFrom, tableCount, indexesOffset, firstIndexOffset, secondIndexOffset}
+use Rattle.model.specs.Sane.{saneTable, tableSane, saneIndex, indexSane, sane, databaseSane}
 use Rattle.model.proofs.Tests.{parts}
 use Rattle.model.proofs.Lists.{all-head, all-tail, all-at}
-use Rattle.references.specs.Links.{Accepted}
-use Rattle.references.proofs.Packs.{tableCount, tables-length, columns-in, few-columns}
+use Rattle.catalog.specs.Accepted.{Accepted}
+use Rattle.references.proofs.Packs.{columns-in, few-columns}
 use Rattle.limits.specs.Alike.{IndexFits}
 
 -- an index of columns below w
@@ -28,21 +28,8 @@ index-below : (w : ℕ) (l : List ℕ) → saneIndex w l ≡ true → Below w l
 unfolding saneIndex
 index-below w l h = parts (indexSane w l) h .1 .1 .0
 
-index-fits : (w : ℕ) (cell : List ℕ) (at : ℕ) → length cell ≡ 48 → at ≤ 41 → saneIndex w (indexFrom cell at) ≡ true → IndexFits w cell at
-unfolding saneIndex
-index-fits w cell at e p h =
-    let m = getD cell at 0 in
-    let q = parts (indexSane w (indexFrom cell at)) h in
-    let l : length (indexFrom cell at) ≡ min m (length cell - (at + 1)) = simp (length-take, length-drop) in
-    let f : m ≤ 3 = omega (arith, l, e, leb-true (length (indexFrom cell at)) 3 (q .1 .0)) in
-    record {
-      size = e;
-      place = p;
-      few = f;
-      columns = λ k g.
-          let b : getD (indexFrom cell at) k 0 ≡ getD cell (at + 1 + k) 0 = getD-take m (drop (at + 1) cell) k 0 g ∙ getD-drop (at + 1) cell k 0 in
-          rw b at (ltb-true (getD (indexFrom cell at) k 0) w (all-at (λ (c : ℕ). ltb c w) (indexFrom cell at) k 0 (q .1 .1 .0) (omega (arith, l, e, f))));
-    }
+index-fits : (w : ℕ) (l : List ℕ) → w ≤ mostColumns → Below w l → IndexFits l
+index-fits w l f h = record { columns = λ k g. omega (arith, f, ltb-true (getD l k 0) w (all-at (λ (c : ℕ). ltb c w) l k 0 h g)) }
 
 module _ (cells : List (List ℕ)) (t : ℕ) where
   abbrev pub cellAt : List ℕ
@@ -88,16 +75,22 @@ module _ (cells : List (List ℕ)) (ok : Accepted cells) (t : ℕ) (h : t < tabl
   second w (suc zero) i j g e = absurd (omega arith)
   second w (suc (suc m)) i j g e = all-head (saneIndex w) j (take m []) (all-tail (saneIndex w) i (j ∷ take m []) e)
 
-  module _ (size : length cellOf ≡ 48) where
-    narrower : (at : ℕ) → IndexFits widthOf cellOf at → IndexFits 6 cellOf at
-    narrower at f = record { size = f .size; place = f .place; few = f .few; columns = λ k g. omega (arith, f .columns k g, few-columns cells ok t) }
+  fits : (index : List ℕ) → saneIndex (length (tableFrom cells t .columns)) index ≡ true → IndexFits index × Below widthOf index
+  fits index e =
+      let b : Below widthOf index = index-below widthOf index (rw width-same at e) in
+      (index-fits widthOf index (few-columns cells ok t) b, b)
 
-    pub fits-first : 0 < getD cellOf 36 0 → IndexFits 6 cellOf 37 × Below widthOf (indexFrom cellOf 37)
-    fits-first g =
-        let e : saneIndex widthOf (indexFrom cellOf 37) ≡ true = rw width-same at (first (length (tableFrom cells t .columns)) (getD cellOf 36 0) (indexFrom cellOf 37) (indexFrom cellOf 41) g sane-indexes) in
-        (narrower 37 (index-fits widthOf cellOf 37 size (omega arith) e), index-below widthOf (indexFrom cellOf 37) e)
+  abbrev count : ℕ
+  count = getD cellOf indexesOffset 0
 
-    pub fits-second : 1 < getD cellOf 36 0 → IndexFits 6 cellOf 41 × Below widthOf (indexFrom cellOf 41)
-    fits-second g =
-        let e : saneIndex widthOf (indexFrom cellOf 41) ≡ true = rw width-same at (second (length (tableFrom cells t .columns)) (getD cellOf 36 0) (indexFrom cellOf 37) (indexFrom cellOf 41) g sane-indexes) in
-        (narrower 41 (index-fits widthOf cellOf 41 size (omega arith) e), index-below widthOf (indexFrom cellOf 41) e)
+  abbrev one : List ℕ
+  one = indexFrom cellOf firstIndexOffset
+
+  abbrev two : List ℕ
+  two = indexFrom cellOf secondIndexOffset
+
+  pub fits-first : 0 < count → IndexFits one × Below widthOf one
+  fits-first g = fits one (first (length (tableFrom cells t .columns)) count one two g sane-indexes)
+
+  pub fits-second : 1 < count → IndexFits two × Below widthOf two
+  fits-second g = fits two (second (length (tableFrom cells t .columns)) count one two g sane-indexes)

@@ -1,5 +1,5 @@
 -- A table's limits, and one table after another. Assumes nothing.
-use mathlib.Core.Path.{_≡_, refl, sym, ap, _∙_}
+use mathlib.Core.Path.{_≡_, refl, ap, _∙_}
 use mathlib.Core.Bool.{Bool, true, false, _&&_}
 use mathlib.Core.List.{List, [], _∷_}
 use Prim.Native.Nat.{ℕ, zero, suc, _+_, _-_, _≤_, _<_}
@@ -10,9 +10,9 @@ use Rattle.model.specs.Base.{all, keep}
 use Rattle.model.specs.Schema.{Table}
 use Rattle.model.specs.Rows.{Row, ofTable}
 use Rattle.model.specs.Commit.{unique, notOver, tableGood, tablesGood}
-use Rattle.inner.specs.Packed.{tableFrom, tablesFrom, packedTables, indexFrom, indexesFrom, maxRowsFrom}
+use Rattle.model.specs.Catalog.{tableFrom, tablesFrom, packedTables, indexFrom, maxRowsFrom, tableCount, indexesOffset, firstIndexOffset, secondIndexOffset}
 use Rattle.inner.specs.Working.{working}
-use Rattle.references.proofs.Packs.{tableCount, tables-on, tables-end}
+use Rattle.references.proofs.Packs.{tables-on, tables-end}
 use Rattle.limits.specs.Alike.{ofT, uniqueCells}
 use Rattle.limits.proofs.Indexed.{of-length, unique-model}
 use Rattle.limits.proofs.Sanely.{cellAt, widthAt, Below}
@@ -32,16 +32,16 @@ module _ {A : Type 0} (q : A → Bool) (i j : A) where
   two-both : (m : ℕ) → 1 < m → q i ≡ true → all q (take m (i ∷ j ∷ [])) ≡ q j
   two-both zero h f = absurd (omega arith)
   two-both (suc zero) h f = absurd (omega arith)
-  two-both (suc (suc zero)) h f = rw f (one (q j))
+  two-both (suc (suc zero)) h f = rw f (with-true (q j))
     where
-      one : (b : Bool) → (b && true) ≡ b
-      one true = refl
-      one false = refl
-  two-both (suc (suc (suc m))) h f = rw f (one (q j))
+      with-true : (b : Bool) → (b && true) ≡ b
+      with-true true = refl
+      with-true false = refl
+  two-both (suc (suc (suc m))) h f = rw f (with-true (q j))
     where
-      one : (b : Bool) → (b && true) ≡ b
-      one true = refl
-      one false = refl
+      with-true : (b : Bool) → (b && true) ≡ b
+      with-true true = refl
+      with-true false = refl
 
 module _ (schema : List (List ℕ)) (t n : ℕ) (rows : List (List (List ℕ))) where
   abbrev pub good : Bool
@@ -57,34 +57,37 @@ module _ (schema : List (List ℕ)) (t n : ℕ) (rows : List (List (List ℕ))) 
   uniqueIn index = unique index (ofTable t (working (packedTables schema) n rows))
 
   abbrev count : ℕ
-  count = getD (cellAt schema t) 36 0
+  count = getD (cellAt schema t) indexesOffset 0
 
-  abbrev index : ℕ → List ℕ
-  index at = indexFrom (cellAt schema t) at
+  abbrev one : List ℕ
+  one = indexFrom (cellAt schema t) firstIndexOffset
 
-  good-is : good ≡ (fewEnough && all uniqueIn (take count (index 37 ∷ index 41 ∷ [])))
+  abbrev two : List ℕ
+  two = indexFrom (cellAt schema t) secondIndexOffset
+
+  good-is : good ≡ (fewEnough && all uniqueIn (take count (one ∷ two ∷ [])))
   unfolding tableFrom
-  good-is = ap (λ (k : ℕ). notOver (maxRowsFrom (cellAt schema t)) k && all uniqueIn (take count (index 37 ∷ index 41 ∷ []))) (of-length (packedTables schema) t n rows)
+  good-is = ap (λ (k : ℕ). notOver (maxRowsFrom (cellAt schema t)) k && all uniqueIn (take count (one ∷ two ∷ []))) (of-length (packedTables schema) t n rows)
 
   pub good-over : fewEnough ≡ false → good ≡ false
   good-over e = good-is ∙ rw e
 
   module _ (few : fewEnough ≡ true) where
     pub good-none : count ≡ 0 → good ≡ true
-    good-none e = good-is ∙ rw few (two-none uniqueIn (index 37) (index 41) count e)
+    good-none e = good-is ∙ rw few (two-none uniqueIn one two count e)
 
-    module _ (b : Below (widthAt schema t) (index 37)) where
-      first : (v : Bool) → uniqueCells (index 37) mine ≡ v → uniqueIn (index 37) ≡ v
-      first v e = unique-model (packedTables schema) t (index 37) b n rows ∙ e
+    module _ (b : Below (widthAt schema t) one) where
+      first : (v : Bool) → uniqueCells one mine ≡ v → uniqueIn one ≡ v
+      first v e = unique-model (packedTables schema) t one b n rows ∙ e
 
-      pub good-first-no : 0 < count → uniqueCells (index 37) mine ≡ false → good ≡ false
-      good-first-no h e = good-is ∙ rw few (two-no uniqueIn (index 37) (index 41) count h (first false e))
+      pub good-first-no : 0 < count → uniqueCells one mine ≡ false → good ≡ false
+      good-first-no h e = good-is ∙ rw few (two-no uniqueIn one two count h (first false e))
 
-      pub good-one : count ≡ 1 → uniqueCells (index 37) mine ≡ true → good ≡ true
-      good-one h e = good-is ∙ rw few (two-one uniqueIn (index 37) (index 41) count h (first true e))
+      pub good-one : count ≡ 1 → uniqueCells one mine ≡ true → good ≡ true
+      good-one h e = good-is ∙ rw few (two-one uniqueIn one two count h (first true e))
 
-      pub good-two : Below (widthAt schema t) (index 41) → 1 < count → uniqueCells (index 37) mine ≡ true → good ≡ uniqueCells (index 41) mine
-      good-two d h e = good-is ∙ rw few (two-both uniqueIn (index 37) (index 41) count h (first true e) ∙ unique-model (packedTables schema) t (index 41) d n rows)
+      pub good-two : Below (widthAt schema t) two → 1 < count → uniqueCells one mine ≡ true → good ≡ uniqueCells two mine
+      good-two d h e = good-is ∙ rw few (two-both uniqueIn one two count h (first true e) ∙ unique-model (packedTables schema) t two d n rows)
 
 -- ── one table after another ──
 module _ (schema : List (List ℕ)) (n : ℕ) (rows : List (List (List ℕ))) (t : ℕ) where

@@ -1,10 +1,10 @@
 -- Rows of a table and indexes, over rows in cells. Assumes nothing: these are definitions.
-use Prim.Native.Nat.{ℕ, suc, _+_, _≤_, _<_}
-use mathlib.Core.Path.{_≡_}
-use mathlib.Core.Bool.{Bool, true, false, not, _&&_}
+use Prim.Native.Nat.{ℕ, _<_}
+use mathlib.Core.Bool.{Bool, true, not, _&&_}
 use mathlib.Core.List.{List, [], _∷_}
-use lib.Dec.{eqb, leb}
+use lib.Dec.{eqb}
 use lib.ListN.{length, getD}
+use Rattle.model.specs.Limits.{mostColumns}
 use Rattle.model.specs.Base.{any, all}
 use Rattle.model.specs.Schema.{Schema, columnsOf}
 use Rattle.model.specs.Value.{sameValue}
@@ -28,9 +28,6 @@ uniqueCells index (x ∷ xs) = not (any (sameCells index x) xs) && uniqueCells i
 unfoldable pub rowEnough : Schema → Row → Bool
 rowEnough s r = enough (columnsOf s (r .table)) (r .columns)
 
--- an index in a table's cell: at most three columns, of the first w
-pub record IndexFits (w : ℕ) (cell : List ℕ) (at : ℕ) : Type 0 where
-  pub size : length cell ≡ 48
-  pub place : at ≤ 41
-  pub few : getD cell at 0 ≤ 3
-  pub columns : (k : ℕ) → k < getD cell at 0 → getD cell (at + 1 + k) 0 < w
+-- an index of columns that rows have
+pub record IndexFits (index : List ℕ) : Type 0 where
+  pub columns : (k : ℕ) → k < length index → getD index k 0 < mostColumns

@@ -1,37 +1,32 @@
 // The limits of a commit: a column's minimum, a table's rows, and indexes.
+use model::Catalog;
+use model::Entry;
+use model::Row;
 ghost use mathlib.Core.Path.{_≡_};
-ghost use mathlib.Core.Bool.{_&&_};
 ghost use mathlib.Core.List.{[]};
-ghost use Prim.Native.Nat.{ℕ, suc, _+_, _*_, _≤_, _<_};
+ghost use Prim.Native.Nat.{_+_, _≤_, _<_};
 ghost use lib.ListN.{length, take, drop, getD};
 ghost use Rattle.model.specs.Base.{any, all, keep};
-ghost use Rattle.model.specs.Schema.{Schema, columnsOf};
+ghost use Rattle.model.specs.Schema.{columnsOf};
 ghost use Rattle.model.specs.Rows.{ofTable};
 ghost use Rattle.model.specs.Commit.{allEnough, notOver, tableGood, tablesGood};
 ghost use Rattle.model.specs.Areas.{rowFrom};
-ghost use Rattle.inner.specs.Packed.{columnCell, columnFrom, tableFrom, packedTables, indexFrom, maxRowsFrom};
-ghost use Rattle.inner.specs.Working.{working, tableIn, valueIn};
-ghost use Rattle.references.specs.Links.{Accepted};
+ghost use Rattle.model.specs.Catalog.{columnCell, columnFrom, tableFrom, packedTables, maxRowsFrom};
+ghost use Rattle.inner.specs.Working.{working};
+ghost use Rattle.catalog.specs.Accepted.{Accepted};
 ghost use Rattle.limits.specs.Alike.{ofT, sameCells, uniqueCells, rowEnough, IndexFits};
 
-fn wide(b: u8) -> usize
-    ensures { λ r. ⌜ r ≡ b ⌝ }
-{
-    b as usize
-}
-
 // The minimum of column c of a table.
-fn minimum(schema: &[[u8; 48]], table: u8, c: usize) -> u8
+fn minimum(schema: &Catalog, table: u8, c: usize) -> u8
     requires { ⌜ Accepted (now schema) ⌝ }
     requires { ⌜ c < length (columnsOf (packedTables (now schema)) table) ⌝ }
     ensures { λ r. ⌜ r ≡ columnFrom (getD (now (schema .entry)) (columnCell table c) []) .min ⌝ }
 {
-    let at = 5 + 6 * wide(table) + c;
-    schema[at][28]
+    catalog::minimum(catalog::column(schema, leaf::wide(table), c))
 }
 
 // Whether every column of a row has its minimum.
-fn row_enough(row: &[[u8; 25]; 25], schema: &[[u8; 48]]) -> bool
+fn row_enough(row: &Row, schema: &Catalog) -> bool
     requires { ⌜ Accepted (now schema) ⌝ }
     ensures { λ r. ⌜ r ≡ rowEnough (packedTables (now (schema .entry))) (rowFrom (packedTables (now (schema .entry))) (now (row .entry))) ⌝ }
 {
@@ -48,7 +43,7 @@ fn row_enough(row: &[[u8; 25]; 25], schema: &[[u8; 48]]) -> bool
 }
 
 // Whether every column of every row has its minimum.
-pub fn all_enough(schema: &[[u8; 48]], rows: &[[[u8; 25]; 25]], n: usize) -> bool
+pub fn all_enough(schema: &Catalog, rows: &[Row], n: usize) -> bool
     requires { ⌜ Accepted (now schema) ⌝ }
     requires { ⌜ n ≤ length (now rows) ⌝ }
     ensures { λ r. ⌜ r ≡ allEnough (packedTables (now (schema .entry))) (working (packedTables (now (schema .entry))) n (now (rows .entry))) ⌝ }
@@ -64,14 +59,14 @@ pub fn all_enough(schema: &[[u8; 48]], rows: &[[[u8; 25]; 25]], n: usize) -> boo
 }
 
 // Whether a row is one of a table.
-fn is_of(table: u8, row: &[[u8; 25]; 25]) -> bool
+fn is_of(table: u8, row: &Row) -> bool
     ensures { λ r. ⌜ r ≡ ofT table (now (row .entry)) ⌝ }
 {
     table == rows::table_of(row)
 }
 
 // How many rows a table has.
-fn rows_of(rows: &[[[u8; 25]; 25]], n: usize, table: u8) -> usize
+fn rows_of(rows: &[Row], n: usize, table: u8) -> usize
     requires { ⌜ n ≤ length (now rows) ⌝ }
     ensures { λ r. ⌜ r ≡ length (keep (ofT table) (take n (now (rows .entry)))) ⌝ }
 {
@@ -87,25 +82,23 @@ fn rows_of(rows: &[[[u8; 25]; 25]], n: usize, table: u8) -> usize
 }
 
 // Whether so many rows are within a table's limit, if it has one.
-fn within(cell: &[u8; 48], k: usize) -> bool
-    ensures { λ r. ⌜ r ≡ notOver (maxRowsFrom (now (cell .entry))) k ⌝ }
+fn within(entry: &Entry, k: usize) -> bool
+    ensures { λ r. ⌜ r ≡ notOver (maxRowsFrom (now (entry .entry))) k ⌝ }
 {
-    if cell[27] != 1 {
+    if !catalog::is_limited(entry) {
         return true;
     }
-    let b = &cell[..];
-    k as u64 <= octets::number(&b[28..36], 8)
+    k as u64 <= catalog::max_rows(entry)
 }
 
-// Whether two rows are equal in the columns of the index that lies at a place of a table's cell.
-fn same_at(cell: &[u8], at: usize, x: &[[u8; 25]; 25], y: &[[u8; 25]; 25]) -> bool
-    requires { ⌜ IndexFits 6 (now cell) at ⌝ }
-    ensures { λ r. ⌜ r ≡ sameCells (indexFrom (now (cell .entry)) at) (now (x .entry)) (now (y .entry)) ⌝ }
+// Whether two rows are equal in the columns of an index.
+fn same_in(index: &[u8], x: &Row, y: &Row) -> bool
+    requires { ⌜ IndexFits (now index) ⌝ }
+    ensures { λ r. ⌜ r ≡ sameCells (now (index .entry)) (now (x .entry)) (now (y .entry)) ⌝ }
 {
-    let n = wide(cell[at]);
     let mut k = 0;
-    while k < n {
-        let c = wide(cell[at + 1 + k]);
+    while k < index.len() {
+        let c = leaf::wide(index[k]);
         if !rows::same_column(x, y, c) {
             return false;
         }
@@ -115,15 +108,15 @@ fn same_at(cell: &[u8], at: usize, x: &[[u8; 25]; 25], y: &[[u8; 25]; 25]) -> bo
 }
 
 // Whether a row of a table after the i-th is equal to it in an index.
-fn again(cell: &[u8], at: usize, rows: &[[[u8; 25]; 25]], n: usize, table: u8, i: usize) -> bool
-    requires { ⌜ IndexFits 6 (now cell) at ⌝ }
+fn again(index: &[u8], rows: &[Row], n: usize, table: u8, i: usize) -> bool
+    requires { ⌜ IndexFits (now index) ⌝ }
     requires { ⌜ (i < n) × (n ≤ length (now rows)) ⌝ }
-    ensures { λ r. ⌜ r ≡ any (sameCells (indexFrom (now (cell .entry)) at) (getD (now (rows .entry)) i [])) (keep (ofT table) (drop (i + 1) (take n (now (rows .entry))))) ⌝ }
+    ensures { λ r. ⌜ r ≡ any (sameCells (now (index .entry)) (getD (now (rows .entry)) i [])) (keep (ofT table) (drop (i + 1) (take n (now (rows .entry))))) ⌝ }
 {
     let mut j = i + 1;
     while j < n {
         if is_of(table, &rows[j]) {
-            if same_at(cell, at, &rows[i], &rows[j]) {
+            if same_in(index, &rows[i], &rows[j]) {
                 return true;
             }
         }
@@ -133,15 +126,15 @@ fn again(cell: &[u8], at: usize, rows: &[[[u8; 25]; 25]], n: usize, table: u8, i
 }
 
 // Whether no two rows of a table are equal in an index.
-fn unique(cell: &[u8], at: usize, rows: &[[[u8; 25]; 25]], n: usize, table: u8) -> bool
-    requires { ⌜ IndexFits 6 (now cell) at ⌝ }
+fn unique(index: &[u8], rows: &[Row], n: usize, table: u8) -> bool
+    requires { ⌜ IndexFits (now index) ⌝ }
     requires { ⌜ n ≤ length (now rows) ⌝ }
-    ensures { λ r. ⌜ r ≡ uniqueCells (indexFrom (now (cell .entry)) at) (keep (ofT table) (take n (now (rows .entry)))) ⌝ }
+    ensures { λ r. ⌜ r ≡ uniqueCells (now (index .entry)) (keep (ofT table) (take n (now (rows .entry)))) ⌝ }
 {
     let mut i = 0;
     while i < n {
         if is_of(table, &rows[i]) {
-            if again(cell, at, rows, n, table, i) {
+            if again(index, rows, n, table, i) {
                 return false;
             }
         }
@@ -151,37 +144,36 @@ fn unique(cell: &[u8], at: usize, rows: &[[[u8; 25]; 25]], n: usize, table: u8) 
 }
 
 // Whether a table has no more rows than it may, and no two that are equal in an index.
-fn table_good(schema: &[[u8; 48]], table: u8, rows: &[[[u8; 25]; 25]], n: usize) -> bool
+fn table_good(schema: &Catalog, table: u8, rows: &[Row], n: usize) -> bool
     requires { ⌜ Accepted (now schema) ⌝ }
     requires { ⌜ table < length (packedTables (now schema)) ⌝ }
     requires { ⌜ n ≤ length (now rows) ⌝ }
     ensures { λ r. ⌜ r ≡ tableGood (tableFrom (now (schema .entry)) table) (ofTable table (working (packedTables (now (schema .entry))) n (now (rows .entry)))) ⌝ }
 {
-    let cell = &schema[1 + wide(table)];
-    if !within(cell, rows_of(rows, n, table)) {
+    let entry = &schema[1 + leaf::wide(table)];
+    if !within(entry, rows_of(rows, n, table)) {
         return false;
     }
-    let b = &cell[..];
-    let count = b[36];
+    let count = catalog::index_count(entry);
     if count == 0 {
         return true;
     }
-    if !unique(b, 37, rows, n, table) {
+    if !unique(catalog::first_index(entry), rows, n, table) {
         return false;
     }
     if count == 1 {
         return true;
     }
-    unique(b, 41, rows, n, table)
+    unique(catalog::second_index(entry), rows, n, table)
 }
 
 // Whether every table has no more rows than it may, and no two that are equal in an index.
-pub fn tables_good(schema: &[[u8; 48]], rows: &[[[u8; 25]; 25]], n: usize) -> bool
+pub fn tables_good(schema: &Catalog, rows: &[Row], n: usize) -> bool
     requires { ⌜ Accepted (now schema) ⌝ }
     requires { ⌜ n ≤ length (now rows) ⌝ }
     ensures { λ r. ⌜ r ≡ tablesGood 0 (packedTables (now (schema .entry))) (working (packedTables (now (schema .entry))) n (now (rows .entry))) ⌝ }
 {
-    let k = schema[0][25];
+    let k = catalog::table_count(&schema[0]);
     let mut t = 0;
     while t < k {
         if !table_good(schema, t, rows, n) {

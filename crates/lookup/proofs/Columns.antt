@@ -11,9 +11,9 @@ use Rattle.model.specs.Base.{placeOf}
 use Rattle.model.specs.Json.{Json, null, bool, num, str, arr, obj}
 use Rattle.model.specs.Text.{isWord}
 use Rattle.model.specs.Schema.{Column}
-use Rattle.inner.specs.Packed.{cellName, columnFrom}
-use Rattle.names.specs.Names.{foundAt, cellNamed}
-use Rattle.names.proofs.Named.{foundFrom, left, named-start, named-here, named-next, named-end}
+use Rattle.model.specs.Catalog.{cellName, columnFrom}
+use Rattle.catalog.specs.Entries.{foundAt, cellNamed}
+use Rattle.catalog.proofs.Lookups.{foundFrom, left, named-start, named-here, named-next, named-end}
 use Rattle.lookup.specs.Lookup.{columnIn}
 
 names-of : (cells : List (List ℕ)) → map (λ (c : Column). c .name) (map columnFrom cells) ≡ map cellName cells

@@ -28,7 +28,7 @@ triple-items (arr xs) = refl
 triple-items (obj ms) = refl
 
 pub text-some : (j : Json) → isText (kindOf j) ≡ true → stringIn j ≡ some (Text.wordIn j)
-unfolding kindOf isText Text.wordIn
+unfolding kindOf Text.wordIn
 text-some null h = cc
 text-some (bool b) h = cc
 text-some (num t) h = cc
@@ -37,7 +37,7 @@ text-some (arr xs) h = cc
 text-some (obj ms) h = cc
 
 pub text-none : (j : Json) → isText (kindOf j) ≡ false → stringIn j ≡ none
-unfolding kindOf isText
+unfolding kindOf
 text-none null h = refl
 text-none (bool b) h = refl
 text-none (num t) h = refl

@@ -7,7 +7,7 @@ use mathlib.Core.Option.{Option, none, some}
 use Rattle.model.specs.Json.{Json}
 use Rattle.inner.specs.Positions.{treeAt, wellAt}
 use Rattle.inner.specs.Positions as Text
-use Rattle.model.specs.Schema.{Column, columnNamed}
+use Rattle.model.specs.Schema.{Column, Schema, columnNamed, tableNamed}
 use Rattle.model.specs.Written.{stringIn}
 use Rattle.model.specs.Conditions.{tripleIn}
 use Rattle.lookup.specs.declared.Triple.{Triple}
@@ -16,6 +16,10 @@ use Rattle.lookup.specs.declared.Triple.the-variants.{Of, Other}
 -- the place of the column that a value names, none where it is no string or names none
 abbrev pub columnIn : List Column → Json → Option ℕ
 columnIn cs j = elim (stringIn j) [ none ↦ none | some w ↦ columnNamed cs w ]
+
+-- the number of the table that a value names, none where it is no string or names none
+abbrev pub tableIn : Schema → Json → Option ℕ
+tableIn s j = elim (stringIn j) [ none ↦ none | some w ↦ tableNamed s w ]
 
 -- three places stand for a name, a word and a value
 pub record Thrice (s : List ℕ) (a b c : ℕ) (j : Json) : Type 0 where

@@ -14,8 +14,8 @@ use lib.Seq.{drop-cons}
 use Rattle.model.specs.Octets.{big, value}
 use Rattle.model.specs.Text.{chars, begins}
 use Rattle.model.specs.Schema.{Base, integer, boolean, text, uuid, Column}
-use Rattle.inner.specs.Packed.{baseNumbered}
-use Rattle.inner.specs.Packed.{columnFrom}
+use Rattle.model.specs.Catalog.{baseNumbered}
+use Rattle.model.specs.Catalog.{columnFrom}
 use Rattle.model.specs.Value.{Value, elements, countInLimits, allInLimits, intOf, fromTwos, textOf, inLimits, atomInLimits}
 use Rattle.inner.specs.Working.{valueIn}
 use Rattle.model.proofs.Tests.{split}

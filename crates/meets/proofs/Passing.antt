@@ -8,25 +8,25 @@ use borrow.Author.Tests.{ltb-true, le-leb}
 use lib.Dec.{leb, ltb}
 use lib.ListN.{length, getD, take, drop, length-map, length-take}
 use lib.Seq.{drop-drop, getD-drop}
-use Rattle.model.specs.Base.{all, isSome}
+use Rattle.model.specs.Base.{all}
 use Rattle.model.specs.Schema.{Column, Schema, columnsOf}
-use Rattle.inner.specs.Packed.{columnFrom, packedTables}
+use Rattle.model.specs.Catalog.{columnFrom, packedTables}
 use Rattle.model.specs.Value.{Value, canonicalTests, canonicalFor, countInLimits, allInLimits, elements, meets}
 use Rattle.model.specs.Records.{known}
-use Rattle.model.specs.SchemaText.{readSchema}
-use Rattle.model.specs.Areas as areas
-use Rattle.model.specs.Areas.{columnsFrom, rowFrom, ascends, distinctIds, valuesPass, rowPasses, rowsPass, textFrom, decodeStore, storeOf}
+use Rattle.model.specs.Limits.{rowsOffset, storeBytes}
+use Rattle.model.specs.Areas.{columnsFrom, rowFrom, ascends, distinctIds, valuesPass, rowPasses, rowsPass, entriesIn, databaseIn, decodeStore, storeOf}
 use Rattle.model.specs.Commit.{lawful}
 use Rattle.inner.specs.Working.{working, tableIn, valueIn}
 use Rattle.model.proofs.Tests.{split, and-l, and-r, parts}
 use Rattle.model.proofs.Octets.{octet}
-use Rattle.model.proofs.Accepted.{text-kept}
-use Rattle.area.specs.Layout.{columnCells, rowGood, rowsGood, textLength, rowCount, rowsIn, restZero, partGood}
+use Rattle.catalog.specs.Accepted.{isAccepted}
+use Rattle.area.specs.Layout.{rowGood, rowsGood, rowCount, rowsIn, restZero, partGood}
+use Rattle.catalog.specs.Entries.{columnCells}
 use Rattle.area.specs.Writing.{when}
 use Rattle.area.proofs.Copies.{rows-length}
 use Rattle.area.proofs.Schemas.{tables-count, columns-in, rows-same}
-use Rattle.area.proofs.Good.{Holds, part-holds}
-use Rattle.area.proofs.States.{store-is}
+use Rattle.area.proofs.Good.{Holds}
+use Rattle.area.proofs.States.{part-passed, store-is}
 use Rattle.meets.specs.Met.{metFor, metFrom, rowMeets, rowsMeet}
 
 -- ── one value ──
@@ -123,16 +123,19 @@ module _ (schema : List (List ℕ)) where
       and-one false = refl
 
 -- ── a store's area, its schema in cells and its rows read from it ──
-module _ (schema : List (List ℕ)) (a : List ℕ) (size : 24107 ≤ length a) (bytes : all octet a ≡ true) (same : packedTables schema ≡ areas.tablesIn (textFrom a)) (rows : List (List (List ℕ))) where
+module _ (schema : List (List ℕ)) (a : List ℕ) (size : storeBytes ≤ length a) (bytes : all octet a ≡ true) (there : schema ≡ entriesIn a) (accepted : isAccepted schema ≡ true) (rows : List (List (List ℕ))) where
   abbrev d : Schema
   d = packedTables schema
+
+  same : d ≡ databaseIn a .tables
+  same = ap packedTables there
 
   abbrev n : ℕ
   n = rowCount a
 
-  module _ (good : partGood schema a ≡ true) (read : take (rowCount a) rows ≡ rowsIn (rowCount a) (drop 4107 a)) where
+  module _ (good : partGood schema a ≡ true) (read : take (rowCount a) rows ≡ rowsIn (rowCount a) (drop rowsOffset a)) where
     held : Holds a
-    held = part-holds schema a size bytes same (rw same (text-kept (textFrom a) .narrow)) good
+    held = part-passed schema a size bytes there accepted good
 
     -- the rows are those of the state
     pub rows-held : decodeStore a .rows ≡ working (packedTables schema) (rowCount a) rows
@@ -140,20 +143,20 @@ module _ (schema : List (List ℕ)) (a : List ℕ) (size : 24107 ≤ length a) (
     rows-held = held .rows ∙ (λ j. map (rowFrom (sym same j)) (sym read j))
 
     -- "every value is canonical and meets its type"
-    pub rows-met : rowsMeet schema (rowCount a) rows ≡ rowsPass meets (areas.tablesIn (textFrom a)) (decodeStore a .rows)
+    pub rows-met : rowsMeet schema (rowCount a) rows ≡ rowsPass meets (databaseIn a .tables) (decodeStore a .rows)
     unfolding partGood
     rows-met =
-        let all-good : rowsGood schema n (rowsIn n (drop 4107 a)) ≡ true = and-r (restZero a) _ (and-r (leb n 32) _ (and-r (leb (textLength a) 4096) _ good)) in
-        rows-pass schema n rows (held .few) (rows-same schema n rows (rowsIn n (drop 4107 a)) read (rows-length n (drop 4107 a)) ∙ all-good)
+        let all-good : rowsGood schema n (rowsIn n (drop rowsOffset a)) ≡ true = and-r (restZero a) _ (and-r (leb n 32) _ good) in
+        rows-pass schema n rows (held .few) (rows-same schema n rows (rowsIn n (drop rowsOffset a)) read (rows-length n (drop rowsOffset a)) ∙ all-good)
         ∙ (λ j. rowsPass meets (same j) (sym rows-held j))
 
   -- "Good order, for a store", by the tests that the code makes
-  pub store-when : isSome (readSchema (textFrom a)) ≡ true → length a ≡ 24107 → (partGood schema a ≡ true → take (rowCount a) rows ≡ rowsIn (rowCount a) (drop 4107 a))
+  pub store-when : length a ≡ storeBytes → (partGood schema a ≡ true → take (rowCount a) rows ≡ rowsIn (rowCount a) (drop rowsOffset a))
       → storeOf a ≡ when (partGood schema a && (rowsMeet schema (rowCount a) rows && lawful (packedTables schema) (working (packedTables schema) (rowCount a) rows))) (decodeStore a)
-  store-when accepted long read =
+  store-when long read =
       let tests = rowsMeet schema n rows && lawful d (working d n rows) in
-      let asked = rowsPass meets (areas.tablesIn (textFrom a)) (decodeStore a .rows) && lawful (areas.tablesIn (textFrom a)) (decodeStore a .rows) in
-      store-is schema a size bytes same accepted long
+      let asked = rowsPass meets (databaseIn a .tables) (decodeStore a .rows) && lawful (databaseIn a .tables) (decodeStore a .rows) in
+      store-is schema a size bytes there accepted long
       ∙ split
       (partGood schema a)
       (λ e. λ j. when (partGood schema a && (sym (rows-met e (read e)) j && lawful (sym same j) (rows-held e (read e) j))) (decodeStore a))

@@ -3,13 +3,14 @@ use Prim.Native.Nat.{ℕ, suc}
 use mathlib.Core.Bool.{Bool, true, _&&_}
 use mathlib.Core.List.{List, [], _∷_}
 use lib.Dec.{leb, ltb}
-use lib.ListN.{getD, take}
+use lib.ListN.{take}
+use Rattle.model.specs.Limits.{mostElements}
 use Rattle.model.specs.Base.{all}
 use Rattle.model.specs.Schema.{Column}
-use Rattle.inner.specs.Packed.{columnFrom}
+use Rattle.model.specs.Catalog.{columnFrom, tableCount}
 use Rattle.model.specs.Value.{Value, elements, countInLimits, allInLimits}
 use Rattle.inner.specs.Working.{tableIn, valueIn}
-use Rattle.area.specs.Layout.{columnCells}
+use Rattle.catalog.specs.Entries.{columnCells}
 
 -- "range, length in characters" of atoms, by their column's cell
 unfoldable pub allMet : List ℕ → List (List ℕ) → Bool
@@ -17,7 +18,7 @@ allMet cell l = allInLimits (columnFrom cell) l
 
 -- "range, length in characters, count" of a value
 unfoldable pub metFor : Column → Value → Bool
-metFor c v = leb (v .count) 4 && countInLimits c (v .count) && allInLimits c (elements v)
+metFor c v = leb (v .count) mostElements && countInLimits c (v .count) && allInLimits c (elements v)
 
 -- of the columns from c on
 abbrev pub metFrom : ℕ → List (List ℕ) → List (List ℕ) → Bool
@@ -26,7 +27,7 @@ metFrom c (cell ∷ cells) row = metFor (columnFrom cell) (valueIn c row) && met
 
 -- of a row of a table of the schema
 unfoldable pub rowMeets : List (List ℕ) → List (List ℕ) → Bool
-rowMeets schema row = ltb (tableIn row) (getD (getD schema 0 []) 25 0) && metFrom 0 (columnCells schema (tableIn row)) row
+rowMeets schema row = ltb (tableIn row) (tableCount schema) && metFrom 0 (columnCells schema (tableIn row)) row
 
 -- of the first n rows
 unfoldable pub rowsMeet : List (List ℕ) → ℕ → List (List (List ℕ)) → Bool

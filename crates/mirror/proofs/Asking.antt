@@ -8,8 +8,9 @@ use borrow.Author.Tests.{eq-eqb, eqb-true, eqb-false, not-false}
 use lib.Dec.{eqb}
 use lib.ListN.{length, replicate}
 use lib.Seq.{getD-drop}
+use Rattle.model.specs.Limits.{storeBytes, mirrorBytes}
 use Rattle.model.specs.Octets.{value}
-use Rattle.inner.specs.Packed as packed
+use Rattle.model.specs.Catalog as packed
 use Rattle.model.specs.Rows.{Row, keyOf, has}
 use Rattle.inner.specs.Working.{working}
 use Rattle.model.specs.Mirror.{Mirror, level}
@@ -32,8 +33,8 @@ use Rattle.mirror.specs.declared.Presence as code
 pub numbers-are : (a : List ℕ) → steps.mirrorOf (numbersIn a) (decodeMirror a .mirror .rows) ≡ decodeMirror a .mirror
 unfolding numbersIn decodeMirror decodeStore
 numbers-are a =
-    let x = sym (getD-drop 24107 a 4 0) in
-    let y = sym (getD-drop 24107 a 5 0) in
+    let x = sym (getD-drop storeBytes a 4 0) in
+    let y = sym (getD-drop storeBytes a 5 0) in
     λ j. record { rows = decodeMirror a .mirror .rows; n = numberIn a; top = topIn a; heard = eqb (x j) 1; whole = eqb (y j) 1 }
 
 pub progress-is : (a : List ℕ) (m : Numbers) (l : Bool) → m ≡ numbersIn a → l ≡ levelOf m → progressOf (decodeMirror a .mirror) ≡ record { answer = Accepted; n = m .n; level = l }
@@ -64,16 +65,16 @@ module _ {a : List ℕ} {schema : List (List ℕ)} {cells : List (List (List ℕ
 
 -- a question, by what was found
 module _ {A : Type 0} (a : List ℕ) (refuse : Answer → A) (ask : Mirror → A) where
-  pub ask-other : (length a ≡ 24113 → ⊥) → asked a refuse ask ≡ refuse WrongLength
-  ask-other h = by-test (λ (z : A). z ≡ refuse WrongLength) (eqb (length a) 24113) (λ e. absurd (h (eqb-true (length a) 24113 e))) (λ e. refl)
+  pub ask-other : (length a ≡ mirrorBytes → ⊥) → asked a refuse ask ≡ refuse WrongLength
+  ask-other h = by-test (λ (z : A). z ≡ refuse WrongLength) (eqb (length a) mirrorBytes) (λ e. absurd (h (eqb-true (length a) mirrorBytes e))) (λ e. refl)
 
-  module _ (size : length a ≡ 24113) where
+  module _ (size : length a ≡ mirrorBytes) where
     chosen : Option MirrorState → A
     chosen o = elim o [ none ↦ refuse Disordered | some m ↦ ask (m .mirror) ]
 
     by-state : asked a refuse ask ≡ chosen (mirrorOf a)
     unfolding chosen
-    by-state = by-test (λ (z : A). z ≡ chosen (mirrorOf a)) (eqb (length a) 24113) (λ e. refl) (λ e. absurd (eqb-false (length a) 24113 e size))
+    by-state = by-test (λ (z : A). z ≡ chosen (mirrorOf a)) (eqb (length a) mirrorBytes) (λ e. refl) (λ e. absurd (eqb-false (length a) mirrorBytes e size))
 
     pub ask-bad : mirrorOf a ≡ none → asked a refuse ask ≡ refuse Disordered
     unfolding chosen
@@ -88,11 +89,11 @@ module _ {A : Type 0} (a : List ℕ) (refuse : Answer → A) (ask : Mirror → A
 
 -- a column's question: an output or an area of another length, and one that is answered
 module _ (a : List ℕ) (t : ℕ) (id : List ℕ) (c : ℕ) (out : List ℕ) where
-  pub column-other : (not (eqb (length out) 101) || not (eqb (length a) 24113)) ≡ true → mirrorColumn a t id c out ≡ record { answer = WrongLength; out = replicate (length out) 0 }
+  pub column-other : (not (eqb (length out) 101) || not (eqb (length a) mirrorBytes)) ≡ true → mirrorColumn a t id c out ≡ record { answer = WrongLength; out = replicate (length out) 0 }
   unfolding mirrorColumn
   column-other h =
       by-test (λ (z : Contents). z ≡ noContents out WrongLength) (eqb (length out) 101)
-      (λ e. ask-other a (noContents out) (contentsOf t id c) (λ l. clash (not (eqb (length a) 24113)) (sym (ap (λ (b : Bool). not b || not (eqb (length a) 24113)) e) ∙ h) (ap not (eq-eqb (length a) 24113 l))))
+      (λ e. ask-other a (noContents out) (contentsOf t id c) (λ l. clash (not (eqb (length a) mirrorBytes)) (sym (ap (λ (b : Bool). not b || not (eqb (length a) mirrorBytes)) e) ∙ h) (ap not (eq-eqb (length a) mirrorBytes l))))
       (λ e. refl)
 
   pub column-asked : length out ≡ 101 → mirrorColumn a t id c out ≡ asked a (noContents out) (contentsOf t id c)
@@ -101,6 +102,6 @@ module _ (a : List ℕ) (t : ℕ) (id : List ℕ) (c : ℕ) (out : List ℕ) whe
       by-test (λ (z : Contents). z ≡ asked a (noContents out) (contentsOf t id c)) (eqb (length out) 101) (λ e. refl) (λ e. absurd (eqb-false (length out) 101 e h))
 
 -- neither length is another
-pub both-sized : (m n : ℕ) → (not (eqb m 101) || not (eqb n 24113)) ≡ false → (m ≡ 101) × (n ≡ 24113)
+pub both-sized : (m n : ℕ) → (not (eqb m 101) || not (eqb n mirrorBytes)) ≡ false → (m ≡ 101) × (n ≡ mirrorBytes)
 both-sized m n h =
-    (eqb-true m 101 (not-false (eqb m 101) (or-l (not (eqb m 101)) (not (eqb n 24113)) h)), eqb-true n 24113 (not-false (eqb n 24113) (or-r (not (eqb m 101)) (not (eqb n 24113)) h)))
+    (eqb-true m 101 (not-false (eqb m 101) (or-l (not (eqb m 101)) (not (eqb n mirrorBytes)) h)), eqb-true n mirrorBytes (not-false (eqb n mirrorBytes) (or-r (not (eqb m 101)) (not (eqb n mirrorBytes)) h)))

@@ -8,13 +8,14 @@ use native.Mathlib.Omega.{arith}
 use borrow.Author.Tests.{eqb-true, eqb-false, lt-ltb, not-true, not-false}
 use lib.Dec.{eqb}
 use lib.ListN.{length, take}
+use Rattle.model.specs.Limits.{storeBytes, mirrorBytes, countOffset}
 use Rattle.model.specs.Octets.{big, value, part}
 use Rattle.model.specs.Base.{all}
 use Rattle.model.specs.Schema.{Schema}
-use Rattle.inner.specs.Packed as packed
+use Rattle.model.specs.Catalog as packed
 use Rattle.model.specs.Records.{Record, decode}
 use Rattle.model.specs.Mirror.{Mirror, Step, hears, step}
-use Rattle.model.specs.Areas.{tablesIn, decodeStore, MirrorState, storePart, encodeMirror, decodeMirror, headTests, mirrorOf}
+use Rattle.model.specs.Areas.{decodeStore, MirrorState, storePart, encodeMirror, decodeMirror, headTests, mirrorOf}
 use Rattle.inner.specs.Working.{working, Tidy}
 use Rattle.model.proofs.Order.{Good}
 use Rattle.model.specs.Calls.{Arrived, mirrorAfter, hearOn, mirrorHear}
@@ -65,7 +66,7 @@ module _ {s : Schema} {run : ℕ} {m : Mirror} where
 
 fine-fits : (m : MirrorState) → MirrorFine m → Fits (storePart m)
 fine-fits m f =
-    pass-fits (storePart m) (whole (headTests (storePart m)) (f .accepted, (lt-ltb (m .run) (256 ^ 4) (f .run), (lt-ltb (m .mirror .n) (256 ^ 4) (f .n), tt)))) (of-good (tablesIn (m .schema)) (m .mirror .rows) (f .rows))
+    pass-fits (storePart m) (whole (headTests (storePart m)) (f .accepted, (lt-ltb (m .run) (256 ^ 4) (f .run), (lt-ltb (m .mirror .n) (256 ^ 4) (f .n), tt)))) (of-good (m .database .tables) (m .mirror .rows) (f .rows))
 
 -- ── an area in good order, and what an arrival left of its rows ──
 module _ (a x : List ℕ) (schema : List (List ℕ)) (cells exit : List (List (List ℕ))) (r : Outcome) (state : mirrorOf a ≡ some (decodeMirror a)) (h : Held a schema cells)
@@ -74,7 +75,7 @@ module _ (a x : List ℕ) (schema : List (List ℕ)) (cells exit : List (List (L
   m = decodeMirror a
 
   abbrev after : Step
-  after = step (tablesIn (m .schema)) (m .run) (m .mirror) x
+  after = step (m .database .tables) (m .run) (m .mirror) x
 
   -- the mirror that the code has afterwards
   abbrev got : Mirror
@@ -99,8 +100,8 @@ module _ (a x : List ℕ) (schema : List (List ℕ)) (cells exit : List (List (L
   fits-after : Fits (storePart (withMirror got m))
   fits-after = subst (λ (y : Mirror). Fits (storePart (withMirror y m))) (sym got-is) (fine-fits (mirrorAfter m (after .next)) (step-fine m fine x (number-lt x bytes)))
 
-  view : Said (tablesIn (m .schema)) (m .run) (m .mirror) (decode x) after
-  view = said (tablesIn (m .schema)) (m .run) (m .mirror) (decode x)
+  view : Said (m .database .tables) (m .run) (m .mirror) (decode x) after
+  view = said (m .database .tables) (m .run) (m .mirror) (decode x)
 
   tidy : Tidy (packed.packedTables schema) (take (r .count) exit)
   unfolding decodeMirror decodeStore
@@ -135,13 +136,13 @@ module _ (a x : List ℕ) (schema : List (List ℕ)) (cells exit : List (List (L
         ((λ j. ap (λ (y : Mirror). y .heard) (sym got-is) j && not (sym was-heard j)) ∙ g) in
         sym encoded ∙ ap (λ (y : Mirror). encodeMirror (withMirror y m)) (sym e)
 
-    written-own : placed 24107 6 (tailBytes (r .numbers .top) (r .numbers .heard) (r .numbers .whole)) a ≡ encodeMirror (withMirror got m)
-    written-own = ap (placed 24107 6 (tailBytes (r .numbers .top) (r .numbers .heard) (r .numbers .whole))) (sym encoded) ∙ own-put m fits got fits-after (n ∙ was-n) rows-still
+    written-own : placed storeBytes 6 (tailBytes (r .numbers .top) (r .numbers .heard) (r .numbers .whole)) a ≡ encodeMirror (withMirror got m)
+    written-own = ap (placed storeBytes 6 (tailBytes (r .numbers .top) (r .numbers .heard) (r .numbers .whole))) (sym encoded) ∙ own-put m fits got fits-after (n ∙ was-n) rows-still
 
-  written-all : placed 24107 6 (tailBytes (r .numbers .top) (r .numbers .heard) (r .numbers .whole)) (placed 4106 20001 (rowsPart (r .count) exit) (placed 4 4 (big 4 (r .numbers .n)) a)) ≡ encodeMirror (withMirror got m)
+  written-all : placed storeBytes 6 (tailBytes (r .numbers .top) (r .numbers .heard) (r .numbers .whole)) (placed countOffset 20001 (rowsPart (r .count) exit) (placed 4 4 (big 4 (r .numbers .n)) a)) ≡ encodeMirror (withMirror got m)
   written-all =
       let p = rows-are (packed.packedTables schema) exit (r .count) (omega (arith, st .few)) tidy in
-      (λ j. placed 24107 6 (tailBytes (r .numbers .top) (r .numbers .heard) (r .numbers .whole)) (placed 4106 20001 (p j) (placed 4 4 (big 4 (r .numbers .n)) (sym encoded j)))) ∙ mirror-put m fits got fits-after
+      (λ j. placed storeBytes 6 (tailBytes (r .numbers .top) (r .numbers .heard) (r .numbers .whole)) (placed countOffset 20001 (p j) (placed 4 4 (big 4 (r .numbers .n)) (sym encoded j)))) ∙ mirror-put m fits got fits-after
 
   written : rewritten (numbersIn a) (r .numbers) (r .count) exit a ≡ encodeMirror (withMirror got m)
   unfolding rewritten
@@ -179,12 +180,12 @@ hear-got a x schema cells exit r run was count u w k state h st bytes room after
 -- ── what is written, by the tests that the code makes ──
 module _ (was is : Numbers) (count : ℕ) (cells : List (List (List ℕ))) (a : List ℕ) where
   abbrev own : List ℕ → List ℕ
-  own l = placed 24107 6 (tailBytes (is .top) (is .heard) (is .whole)) l
+  own l = placed storeBytes 6 (tailBytes (is .top) (is .heard) (is .whole)) l
 
-  pub rewrite-all : (is .n ≡ was .n → ⊥) → (x y z : List ℕ) → x ≡ placed 4 4 (big 4 (is .n)) a → y ≡ placed 4106 20001 (rowsPart count cells) x → z ≡ own y → z ≡ rewritten was is count cells a
+  pub rewrite-all : (is .n ≡ was .n → ⊥) → (x y z : List ℕ) → x ≡ placed 4 4 (big 4 (is .n)) a → y ≡ placed countOffset 20001 (rowsPart count cells) x → z ≡ own y → z ≡ rewritten was is count cells a
   unfolding rewritten
   rewrite-all h x y z p q e =
-      by-test (λ (l : List ℕ). z ≡ l) (eqb (is .n) (was .n)) (λ b. absurd (h (eqb-true (is .n) (was .n) b))) (λ _. e ∙ ap own (q ∙ ap (placed 4106 20001 (rowsPart count cells)) p))
+      by-test (λ (l : List ℕ). z ≡ l) (eqb (is .n) (was .n)) (λ b. absurd (h (eqb-true (is .n) (was .n) b))) (λ _. e ∙ ap own (q ∙ ap (placed countOffset 20001 (rowsPart count cells)) p))
 
   abbrev still : Bool
   still = eqb (is .top) (was .top) && not (is .heard && not (was .heard))
@@ -202,10 +203,10 @@ module _ (was is : Numbers) (count : ℕ) (cells : List (List (List ℕ))) (a : 
 
 -- ── an area that is refused ──
 module _ (a x : List ℕ) where
-  pub hear-other : (length a ≡ 24113 → ⊥) → mirrorHear a x ≡ record { answer = WrongLength; area = a }
+  pub hear-other : (length a ≡ mirrorBytes → ⊥) → mirrorHear a x ≡ record { answer = WrongLength; area = a }
   unfolding mirrorHear
-  hear-other h = by-test (λ (z : Arrived). z ≡ record { answer = WrongLength; area = a }) (eqb (length a) 24113) (λ e. absurd (h (eqb-true (length a) 24113 e))) (λ e. refl)
+  hear-other h = by-test (λ (z : Arrived). z ≡ record { answer = WrongLength; area = a }) (eqb (length a) mirrorBytes) (λ e. absurd (h (eqb-true (length a) mirrorBytes e))) (λ e. refl)
 
-  pub hear-bad : length a ≡ 24113 → mirrorOf a ≡ none → mirrorHear a x ≡ record { answer = Disordered; area = a }
+  pub hear-bad : length a ≡ mirrorBytes → mirrorOf a ≡ none → mirrorHear a x ≡ record { answer = Disordered; area = a }
   unfolding mirrorHear
-  hear-bad h n = by-test (λ (z : Arrived). z ≡ record { answer = Disordered; area = a }) (eqb (length a) 24113) (λ e. ap (hearOn a x) n) (λ e. absurd (eqb-false (length a) 24113 e h))
+  hear-bad h n = by-test (λ (z : Arrived). z ≡ record { answer = Disordered; area = a }) (eqb (length a) mirrorBytes) (λ e. ap (hearOn a x) n) (λ e. absurd (eqb-false (length a) mirrorBytes e h))

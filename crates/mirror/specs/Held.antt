@@ -2,22 +2,24 @@
 use mathlib.Core.Path.{_≡_}
 use mathlib.Core.Bool.{Bool, true, false, not, _&&_}
 use mathlib.Core.List.{List}
-use Prim.Native.Nat.{ℕ, _≤_}
+use Prim.Native.Nat.{ℕ, _+_, _*_, _≤_}
 use lib.Dec.{eqb}
 use lib.ListN.{getD, take}
 use Rattle.model.specs.Octets.{big}
-use Rattle.inner.specs.Packed as packed
-use Rattle.model.specs.Areas.{textFrom, tablesIn, decodeMirror, mirrorOf}
+use Rattle.model.specs.Limits.{mostRows, numberBytes, rowBytes, numberOffset, countOffset, topOffset, heardOffset, wholeOffset}
+use Rattle.model.specs.Catalog as packed
+use Rattle.model.specs.Areas.{databaseIn, decodeMirror, mirrorOf}
 use Rattle.inner.specs.Working.{working, Tidy}
-use Rattle.area.specs.Layout.{Sized, rowCount}
+use Rattle.catalog.specs.Accepted.{Accepted}
+use Rattle.area.specs.Layout.{rowCount}
 use Rattle.area.specs.Writing.{topIn, numberIn, tailBytes, placed, rowsPart, when}
 use Rattle.arrival.specs.declared.Numbers.{Numbers}
 
--- an area in good order: its schema and its rows in cells
+-- an area in good order: its catalog, and its rows in cells
 pub record Held (a : List ℕ) (schema : List (List ℕ)) (cells : List (List (List ℕ))) : Type 0 where
-  pub fit : Sized schema
-  pub tables : packed.packedTables schema ≡ tablesIn (textFrom a)
-  pub few : rowCount a ≤ 32
+  pub accepted : Accepted schema
+  pub tables : packed.packedTables schema ≡ databaseIn a .tables
+  pub few : rowCount a ≤ mostRows
   pub rows : working (packed.packedTables schema) (rowCount a) cells ≡ decodeMirror a .mirror .rows
   pub tidy : Tidy (packed.packedTables schema) (take (rowCount a) cells)
 
@@ -28,7 +30,7 @@ pub record Opened (a : List ℕ) (schema : List (List ℕ)) (cells : List (List 
 
 -- a mirror's numbers, where they lie
 unfoldable pub numbersIn : List ℕ → Numbers
-numbersIn a = record { n = numberIn a; top = topIn a; heard = eqb (getD a 24111 0) 1; whole = eqb (getD a 24112 0) 1 }
+numbersIn a = record { n = numberIn a; top = topIn a; heard = eqb (getD a heardOffset 0) 1; whole = eqb (getD a wholeOffset 0) 1 }
 
 -- the area once the numbers are others: n, the rows and the mirror's own bytes where n has moved, its own bytes where only those have
 unfoldable pub rewritten : Numbers → Numbers → ℕ → List (List (List ℕ)) → List ℕ → List ℕ
@@ -37,7 +39,7 @@ rewritten was is count cells a =
       | true ↦
           elim (eqb (is .top) (was .top) && not (is .heard && not (was .heard))) [
             | true ↦ a
-            | false ↦ placed 24107 6 (tailBytes (is .top) (is .heard) (is .whole)) a
+            | false ↦ placed topOffset (numberBytes + 2) (tailBytes (is .top) (is .heard) (is .whole)) a
           ]
-      | false ↦ placed 24107 6 (tailBytes (is .top) (is .heard) (is .whole)) (placed 4106 20001 (rowsPart count cells) (placed 4 4 (big 4 (is .n)) a))
+      | false ↦ placed topOffset (numberBytes + 2) (tailBytes (is .top) (is .heard) (is .whole)) (placed countOffset (1 + rowBytes * mostRows) (rowsPart count cells) (placed numberOffset numberBytes (big numberBytes (is .n)) a))
     ]

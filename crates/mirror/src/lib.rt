@@ -2,11 +2,24 @@
 // Each promises its answer's number, as the first refusal of document 01 that applies (crates/model/specs/FirstRefusal.antt), and the equation of the model's definition for that
 // call (Calls.antt): its answer, and its area or output afterwards. Demand 3 (Demands.antt) speaks of those same definitions, so with these equations it speaks of this code.
 use arrival::Numbers;
+use model::ATOM;
 use model::Answer;
+use model::CELLS;
+use model::Catalog;
+use model::ENTRIES;
+use model::ENTRY;
+use model::HEARD_OFFSET;
+use model::ID;
+use model::MIRROR_BYTES;
+use model::ROWS;
+use model::Row;
+use model::VALUE_BYTES;
+use model::WHOLE_OFFSET;
 ghost use mathlib.Core.Path.{_≡_};
 ghost use mathlib.Core.Bool.{false};
 ghost use Prim.Native.Nat.{_≤_};
 ghost use lib.ListN.{length};
+ghost use Rattle.model.specs.Limits.{mostRows, mirrorBytes};
 ghost use Rattle.model.specs.Refusals.{numberOf};
 ghost use Rattle.model.specs.FirstRefusal.{mirrorStartNumber, hearNumber, askNumber, columnNumber};
 ghost use Rattle.model.specs.Calls.{zeroed, mirrorStart, mirrorHear, mirrorProgress, mirrorHasRow, mirrorColumn};
@@ -25,16 +38,14 @@ pub struct Presence {
     pub there: bool,
 }
 
-// Whether an area of a mirror's length is in good order. The cells of its schema and its rows are read on the way.
-fn opened(area: &[u8], schema: &mut [[u8; 48]; 29], rows: &mut [[[u8; 25]; 25]]) -> bool
-    requires { ⌜ (length (now area) ≡ 24113) × (32 ≤ length (now rows)) ⌝ }
+// Whether an area of a mirror's length is in good order. Its catalog and its rows are read on the way.
+fn opened(area: &[u8], schema: &mut Catalog, rows: &mut [Row]) -> bool
+    requires { ⌜ (length (now area) ≡ mirrorBytes) × (mostRows ≤ length (now rows)) ⌝ }
     ensures { λ r. ⌜ Opened (now (area .entry)) (now (schema .exit)) (now (rows .exit)) r ⌝ }
 {
-    let k = area::text_length(area);
-    if 4096 < k {
-        return false;
-    }
-    if !schema::read(&area[10..10 + k], schema) {
+    let entries = area::catalog_of(area);
+    *schema = entries;
+    if !catalog::rules::is_accepted(schema) {
         return false;
     }
     if !area::part_good(area, schema, rows) {
@@ -45,7 +56,7 @@ fn opened(area: &[u8], schema: &mut [[u8; 48]; 29], rows: &mut [[[u8; 25]; 25]])
 
 // A mirror's numbers, where they lie in its area.
 fn numbers_of(area: &[u8]) -> Numbers
-    requires { ⌜ 24113 ≤ length (now area) ⌝ }
+    requires { ⌜ mirrorBytes ≤ length (now area) ⌝ }
     ensures { λ r. ⌜ r ≡ numbersIn (now (area .entry)) ⌝ }
 {
     let n = area::number_of(area);
@@ -53,14 +64,14 @@ fn numbers_of(area: &[u8]) -> Numbers
     Numbers {
         n,
         top,
-        heard: area[24111] == 1,
-        whole: area[24112] == 1,
+        heard: area[HEARD_OFFSET] == 1,
+        whole: area[WHOLE_OFFSET] == 1,
     }
 }
 
 // What an arrival changed, written to the area.
-fn rewrite(area: &mut [u8], was: Numbers, is: Numbers, rows: &[[[u8; 25]; 25]], count: usize)
-    requires { ⌜ (24113 ≤ length (now area)) × (count ≤ 32) × (32 ≤ length (now rows)) ⌝ }
+fn rewrite(area: &mut [u8], was: Numbers, is: Numbers, rows: &[Row], count: usize)
+    requires { ⌜ (mirrorBytes ≤ length (now area)) × (count ≤ mostRows) × (mostRows ≤ length (now rows)) ⌝ }
     ensures { λ _. ⌜ now (area .exit) ≡ rewritten was is count (now (rows .entry)) (now (area .entry)) ⌝ }
 {
     if is.n != was.n {
@@ -80,15 +91,15 @@ pub fn start(area: &mut [u8], schema: &[u8], run: u32) -> Answer
     ensures { λ r. ⌜ numberOf r ≡ mirrorStartNumber (now (area .entry)) (now (schema .entry)) ⌝ }
     ensures { λ r. ⌜ mirrorStart (now (area .entry)) (now (schema .entry)) run ≡ record { answer = r; area = now (area .exit) } ⌝ }
 {
-    if area.len() != 24113 {
+    if area.len() != MIRROR_BYTES {
         return Answer::WrongLength;
     }
-    let mut cells = [[0u8; 48]; 29];
-    if !schema::read(schema, &mut cells) {
+    let mut catalog = [[0u8; ENTRY]; ENTRIES];
+    if !schema::read(schema, &mut catalog) {
         return Answer::BadSchema;
     }
-    let rows = [[[0u8; 25]; 25]; 1];
-    area::write_store(area, run, 0, schema, &rows, 0);
+    let rows = [[[0u8; ATOM]; CELLS]; 1];
+    area::write_store(area, run, 0, &catalog, &rows, 0);
     area::write_tail(area, 0, false, true);
     Answer::Accepted
 }
@@ -98,11 +109,11 @@ pub fn hear(area: &mut [u8], bytes: &[u8]) -> Answer
     ensures { λ r. ⌜ numberOf r ≡ hearNumber (now (area .entry)) (now (bytes .entry)) ⌝ }
     ensures { λ r. ⌜ mirrorHear (now (area .entry)) (now (bytes .entry)) ≡ record { answer = r; area = now (area .exit) } ⌝ }
 {
-    if area.len() != 24113 {
+    if area.len() != MIRROR_BYTES {
         return Answer::WrongLength;
     }
-    let mut schema = [[0u8; 48]; 29];
-    let mut rows = [[[0u8; 25]; 25]; 32];
+    let mut schema = [[0u8; ENTRY]; ENTRIES];
+    let mut rows = [[[0u8; ATOM]; CELLS]; ROWS];
     if !opened(area, &mut schema, &mut rows) {
         return Answer::Disordered;
     }
@@ -131,11 +142,11 @@ pub fn progress(area: &[u8]) -> Standing
     ensures { λ r. ⌜ numberOf (r .answer) ≡ askNumber (now (area .entry)) ⌝ }
     ensures { λ r. ⌜ mirrorProgress (now (area .entry)) ≡ record { answer = r .answer; n = r .n; level = r .level } ⌝ }
 {
-    if area.len() != 24113 {
+    if area.len() != MIRROR_BYTES {
         return no_standing(Answer::WrongLength);
     }
-    let mut schema = [[0u8; 48]; 29];
-    let mut rows = [[[0u8; 25]; 25]; 32];
+    let mut schema = [[0u8; ENTRY]; ENTRIES];
+    let mut rows = [[[0u8; ATOM]; CELLS]; ROWS];
     if !opened(area, &mut schema, &mut rows) {
         return no_standing(Answer::Disordered);
     }
@@ -158,15 +169,15 @@ fn no_presence(answer: Answer) -> Presence
 }
 
 // Whether a row is there, by table and id.
-pub fn has_row(area: &[u8], table: u8, id: &[u8; 16]) -> Presence
+pub fn has_row(area: &[u8], table: u8, id: &[u8; ID]) -> Presence
     ensures { λ r. ⌜ numberOf (r .answer) ≡ askNumber (now (area .entry)) ⌝ }
     ensures { λ r. ⌜ mirrorHasRow (now (area .entry)) table (now (id .entry)) ≡ record { answer = r .answer; there = r .there } ⌝ }
 {
-    if area.len() != 24113 {
+    if area.len() != MIRROR_BYTES {
         return no_presence(Answer::WrongLength);
     }
-    let mut schema = [[0u8; 48]; 29];
-    let mut rows = [[[0u8; 25]; 25]; 32];
+    let mut schema = [[0u8; ENTRY]; ENTRIES];
+    let mut rows = [[[0u8; ATOM]; CELLS]; ROWS];
     if !opened(area, &mut schema, &mut rows) {
         return no_presence(Answer::Disordered);
     }
@@ -185,16 +196,16 @@ fn no_contents(out: &mut [u8], answer: Answer) -> Answer
     answer
 }
 
-// The count and the atoms of a column, by table, id and column, as a column record has them: 101 bytes, all zero where the row or the column is missing or the question is refused.
-pub fn column(area: &[u8], table: u8, id: &[u8; 16], column: u8, out: &mut [u8]) -> Answer
+// The count and the atoms of a column, by table, id and column, as a column record has them, all zero where the row or the column is missing or the question is refused.
+pub fn column(area: &[u8], table: u8, id: &[u8; ID], column: u8, out: &mut [u8]) -> Answer
     ensures { λ r. ⌜ numberOf r ≡ columnNumber (now (area .entry)) (now (out .entry)) ⌝ }
     ensures { λ r. ⌜ mirrorColumn (now (area .entry)) table (now (id .entry)) column (now (out .entry)) ≡ record { answer = r; out = now (out .exit) } ⌝ }
 {
-    if (out.len() != 101) | (area.len() != 24113) {
+    if (out.len() != VALUE_BYTES) | (area.len() != MIRROR_BYTES) {
         return no_contents(out, Answer::WrongLength);
     }
-    let mut schema = [[0u8; 48]; 29];
-    let mut rows = [[[0u8; 25]; 25]; 32];
+    let mut schema = [[0u8; ENTRY]; ENTRIES];
+    let mut rows = [[[0u8; ATOM]; CELLS]; ROWS];
     if !opened(area, &mut schema, &mut rows) {
         return no_contents(out, Answer::Disordered);
     }

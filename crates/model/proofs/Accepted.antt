@@ -1,22 +1,17 @@
--- What an accepted schema's text and tables keep to: at most 4,096 bytes, 4 tables, 6 columns in each. Assumes nothing.
+-- What the tables of an accepted schema keep to: at most 4 of them, and 6 columns in each. Assumes nothing.
 use mathlib.Core.Path.{_≡_, refl}
 use mathlib.Core.Bool.{Bool, true, false}
 use mathlib.Core.List.{List}
-use mathlib.Core.Option.{Option, none, some}
 use Prim.Native.Nat.{ℕ, _≤_}
-use native.Mathlib.Omega.{arith}
 use borrow.Author.Tests.{leb-true}
 use lib.Dec.{leb}
 use lib.ListN.{length}
-use Rattle.model.specs.Base.{all, isSome}
-use Rattle.model.specs.Limits.{mostSchemaBytes, mostTables, mostColumns}
+use Rattle.model.specs.Base.{all}
+use Rattle.model.specs.Limits.{mostTables, mostColumns}
 use Rattle.model.specs.Schema.{Table, Schema, Database}
-use Rattle.model.specs.SchemaText.{readSchema}
-use Rattle.model.proofs.Sane.{tableSane, saneTable, databaseSane, sane}
-use Rattle.model.specs.Areas.{tablesOf, tablesIn}
-use Rattle.model.proofs.Tests.{split, clash, parts}
+use Rattle.model.specs.Sane.{tableSane, saneTable, databaseSane, sane}
+use Rattle.model.proofs.Tests.{parts}
 use Rattle.model.proofs.Lists.{all-imply}
-use Rattle.model.proofs.SchemaLaws.{read-sane}
 
 -- "columns in a table | 6", of one table and of all
 abbrev pub narrowTable : Table → Bool
@@ -42,14 +37,3 @@ sane-kept d h =
       few = leb-true (length (d .tables)) mostTables (p .1 .0);
       narrow = all-imply (saneTable (length (d .tables))) narrowTable (table-narrow (length (d .tables))) (d .tables) (p .1 .1 .0);
     }
-
-pub text-kept : (t : List ℕ) → Kept (tablesIn t)
-text-kept t = go (readSchema t) refl
-  where
-    go : (o : Option Database) → readSchema t ≡ o → Kept (tablesOf o)
-    go none e = record { few = omega arith; narrow = refl }
-    go (some d) e = sane-kept d (read-sane t d e)
-
-pub text-short : (t : List ℕ) → isSome (readSchema t) ≡ true → length t ≤ mostSchemaBytes
-unfolding readSchema
-text-short t h = split (leb (length t) mostSchemaBytes) (λ p. leb-true (length t) mostSchemaBytes p) (λ p. absurd (clash false (rw (p, readSchema) at h) refl))

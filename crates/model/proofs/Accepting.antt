@@ -9,11 +9,11 @@ use borrow.Author.Tests.{leb-true, eqb-true}
 use lib.Dec.{eqb, leb}
 use lib.ListN.{length, replicate}
 use Rattle.model.specs.Octets.{filled, value, eqBytes}
-use Rattle.model.specs.Limits.{freshBytes, leastRecords, leastAnswer, leastMark, lastNumber}
+use Rattle.model.specs.Limits.{freshBytes, leastRecords, leastAnswer, leastMark, lastNumber, storeBytes, mirrorBytes}
 use Rattle.model.specs.Base.{all, every, isSome, flat}
 use Rattle.model.specs.Schema.{Schema, Database}
 use Rattle.model.specs.SchemaText.{readSchema}
-use Rattle.model.proofs.Sane.{sane}
+use Rattle.model.specs.Sane.{sane}
 use Rattle.model.specs.Refusals.{numberOf, isRefusal}
 use Rattle.model.specs.Rows.{Row}
 use Rattle.model.specs.Replies.{Reply, refused, reply, replyTo, named, freshly, told, changesOf}
@@ -21,8 +21,8 @@ use Rattle.model.specs.Replies as Replies
 use Rattle.model.specs.Transact.{Request, Transaction, transactRows, freshIds, idsGood, readRequest}
 use Rattle.model.specs.Records.{Change, mark, encode, diff, numberFrom}
 use Rattle.model.specs.Mirror.{Mirror, columnBytes, columnAnswer}
-use Rattle.model.specs.Areas.{Store, storeGood, storeBytes, encodeStore, storeOf, MirrorState, mirrorBytes, mirrorOf, tablesIn}
-use Rattle.model.specs.Calls.{zeroed, lengthsGood, heldDatabase, replyOf, storeAfter, recordsAfter, storeTransact, transactOn, transactReplied, transactRefused, storeMark, markOn, asked, noProgress, progressOf, noPresence, presenceOf, noContents, contentsOf, Progress, mirrorProgress, Presence, mirrorHasRow, Contents, mirrorColumn}
+use Rattle.model.specs.Areas.{Store, storeGood, encodeStore, storeOf, MirrorState, mirrorOf}
+use Rattle.model.specs.Calls.{zeroed, lengthsGood, replyOf, storeAfter, recordsAfter, storeTransact, transactOn, transactReplied, transactRefused, storeMark, markOn, asked, noProgress, progressOf, noPresence, presenceOf, noContents, contentsOf, Progress, mirrorProgress, Presence, mirrorHasRow, Contents, mirrorColumn}
 use Rattle.model.specs.Calls as Calls
 use Rattle.model.specs.Laid.{storeOr, mirrorOr, requestOr, held, tables, succeeds, rowsLaid, changesLaid, recordsLaid, textLaid, storeLaid}
 use Rattle.model.specs.FirstRefusal.{given, askConditions, askNumber, columnNumber}
@@ -31,8 +31,7 @@ use Rattle.model.specs.declared.Answer.{Answer}
 use Rattle.model.specs.declared.Answer.the-variants.{Accepted, Disordered, WrongLength, BadRequest, OtherDatabase, BadFreshIds, AnswerTooLong, NumbersSpent}
 use Rattle.model.proofs.Tests.{split, clash, and-l, parts, Trues}
 use Rattle.model.proofs.Octets.{octet}
-use Rattle.model.proofs.SchemaLaws.{read-sane}
-use Rattle.model.proofs.Accepted.{narrow, text-kept}
+use Rattle.model.proofs.Accepted.{narrow, sane-kept}
 use Rattle.model.proofs.Areas.{store-of-is, mirror-of-is}
 use Rattle.model.proofs.States.{StoreFine, store-parts, store-whole, mirror-parts, column-answer-length}
 use Rattle.model.proofs.Lengths.{commit-length}
@@ -44,40 +43,35 @@ use Rattle.model.proofs.Replied.{Replied, reply-as, replied-laid, repli
 use Rattle.model.proofs.StoreCalls.{filled-is, transact-there}
 
 -- ── a store in good order ──
-tables-are : (st : Store) → heldDatabase st .tables ≡ tablesIn (st .schema)
-tables-are st = look (readSchema (st .schema)) (λ e. rw (heldDatabase, e)) (λ d e. rw (heldDatabase, e))
-
 module _ (area : List ℕ) (st : Store) (here : storeOf area ≡ some st) where
   pub fine-at : StoreFine st
   fine-at = store-parts st (store-of-is area st here .1)
 
-  is-sane : sane (heldDatabase st) ≡ true
-  is-sane = look (readSchema (st .schema))
-      (λ e. absurd (clash (isSome (readSchema (st .schema))) (fine-at .accepted) (rw e)))
-      (λ d e. rw (heldDatabase, e) (read-sane (st .schema) d e))
+  is-sane : sane (st .database) ≡ true
+  is-sane = fine-at .accepted
 
-  pub in-order : InOrder (heldDatabase st .tables) (st .rows)
-  in-order = rw (tables-are st) (record { good = fine-at .rows; meet = fine-at .meets; laws = fine-at .lawful })
+  pub in-order : InOrder (st .database .tables) (st .rows)
+  in-order = record { good = fine-at .rows; meet = fine-at .meets; laws = fine-at .lawful }
 
-  pub narrow-at : narrow (heldDatabase st .tables) ≡ true
-  narrow-at = rw (tables-are st) (text-kept (st .schema) .narrow)
+  pub narrow-at : narrow (st .database .tables) ≡ true
+  narrow-at = sane-kept (st .database) is-sane .narrow
 
   module _ (request fresh : List ℕ) (room : ℕ) (l : length fresh ≡ freshBytes) (b : all octet fresh ≡ true) where
     abbrev said : Reply
     said = replyOf st request fresh room
 
-    pub order-after : InOrder (heldDatabase st .tables) (said .rows)
-    order-after = reply-keeps (heldDatabase st) (st .number) (st .rows) fresh room is-sane l b in-order request
+    pub order-after : InOrder (st .database .tables) (said .rows)
+    order-after = reply-keeps (st .database) (st .number) (st .rows) fresh room is-sane l b in-order request
 
     -- a reply's changes are those between the rows before and after it
-    pub changes-between : said .changes ≡ diff (heldDatabase st .tables) (st .rows) (said .rows)
+    pub changes-between : said .changes ≡ diff (st .database .tables) (st .rows) (said .rows)
     changes-between =
-        replied-diff (reply-as (heldDatabase st) (st .number) (st .rows) request fresh room) (diff-self (heldDatabase st .tables) (st .rows) (in-order .good .sorted))
-        (transact-stays (heldDatabase st .tables) (freshIds fresh) (st .rows) (requestOr (readRequest request)))
+        replied-diff (reply-as (st .database) (st .number) (st .rows) request fresh room) (diff-self (st .database .tables) (st .rows) (in-order .good .sorted))
+        (transact-stays (st .database .tables) (freshIds fresh) (st .rows) (requestOr (readRequest request)))
 
     -- its records fit the shortest buffer
     records-fit : length (recordsAfter st said) ≤ leastRecords
-    records-fit = rw changes-between (commit-length (heldDatabase st .tables) (st .run) (st .number) (st .rows) (said .rows) (in-order .good) (order-after .good) narrow-at)
+    records-fit = rw changes-between (commit-length (st .database .tables) (st .run) (st .number) (st .rows) (said .rows) (in-order .good) (order-after .good) narrow-at)
 
 -- ── a reply's text fits the answer buffer, and its numbers do not pass the last one ──
 pub record Room (number : ℕ) (room : ℕ) (r : Reply) : Type 0 where
@@ -111,8 +105,8 @@ pub after-good : (area : List ℕ) (st : Store) → storeOf area ≡ some st →
     → storeGood (storeAfter st (replyOf st request fresh room)) ≡ true
 after-good area st here request fresh room l b =
     let f = fine-at area st here in
-    let o = subst (λ (s : Schema). InOrder s (replyOf st request fresh room .rows)) (tables-are st) (order-after area st here request fresh room l b) in
-    let n = reply-room (st .number) room (omega (arith, f .number)) (heldDatabase st) (st .rows) request fresh in
+    let o = order-after area st here request fresh room l b in
+    let n = reply-room (st .number) room (omega (arith, f .number)) (st .database) (st .rows) request fresh in
     store-whole (storeAfter st (replyOf st request fresh room))
     (record { accepted = f .accepted; run = f .run; number = omega (arith, n .last); rows = o .good; meets = o .meet; lawful = o .laws })
 
@@ -145,7 +139,7 @@ module _ (area request fresh records text : List ℕ) where
   given-of : lengthsGood area fresh records text ≡ true → storeOf area ≡ some st → isRefusal (r .answer) ≡ false → Given
   given-of h here a =
       let p = parts lengths h in
-      let laid = replied-laid (reply-as (heldDatabase st) (st .number) (st .rows) request fresh (length text)) a in
+      let laid = replied-laid (reply-as (st .database) (st .number) (st .rows) request fresh (length text)) a in
       let rows : r .rows ≡ rowsLaid area request fresh = laid .0 ∙ laid-rows area request fresh in
       let changes : r .changes ≡ changesLaid area request fresh = laid .1 ∙ laid-changes area request fresh in
       let words : r .text ≡ textLaid area request fresh = laid .2 ∙ laid-text area request fresh in
@@ -157,10 +151,10 @@ module _ (area request fresh records text : List ℕ) where
         wide = leb-true leastRecords (length records) (p .1 .1 .0);
         rows = rows;
         changes = changes;
-        areaIs = ap (λ (t : Calls.Transacted). t .area) e ∙ (λ i. encodeStore (record { run = st .run; number = st .number + length (changes i); schema = st .schema; rows = rows i }));
+        areaIs = ap (λ (t : Calls.Transacted). t .area) e ∙ (λ i. encodeStore (record { run = st .run; number = st .number + length (changes i); database = st .database; rows = rows i }));
         recordsAre = ap (λ (t : Calls.Transacted). t .records) e ∙ ap (λ (es : List Change). filled (length records) (flat (map encode (numberFrom (st .run) (st .number) es)))) changes;
         textIs = ap (λ (t : Calls.Transacted). t .text) e ∙ ap (filled (length text)) words;
-        textFits = subst (λ (w : List ℕ). length w ≤ length text) words (reply-room (st .number) (length text) (omega (arith, fine-at area st here .number)) (heldDatabase st) (st .rows) request fresh .text);
+        textFits = subst (λ (w : List ℕ). length w ≤ length text) words (reply-room (st .number) (length text) (omega (arith, fine-at area st here .number)) (st .database) (st .rows) request fresh .text);
       }
 
   pub given-is : isRefusal (storeTransact area request fresh records text .answer) ≡ false → Given
@@ -283,7 +277,7 @@ unfolding mirrorColumn
 column-accepted area t id c out = split (eqb (length out) columnBytes)
     (λ f. rw (mirrorColumn, f)
     (asked-accepted area (noContents out) (contentsOf t id c) (λ (m : Mirror) (p : Contents). (length (columnAnswer m t (value id) c) ≡ length out) × (p .out ≡ columnAnswer m t (value id) c)) (λ (p : Contents). p .answer) (λ a. refl)
-    (λ m e. (column-answer-length (tablesIn (m .schema)) (m .mirror) t (value id) c (mirror-parts m (mirror-of-is area m e .1) .rows) ∙ sym (eqb-true (length out) columnBytes f), refl))))
+    (λ m e. (column-answer-length (m .database .tables) (m .mirror) t (value id) c (mirror-parts m (mirror-of-is area m e .1) .rows) ∙ sym (eqb-true (length out) columnBytes f), refl))))
     (λ f. rw (mirrorColumn, f) (λ h. absurd (clash true refl h)))
 
 column-ends : (area : List ℕ) (t : ℕ) (id : List ℕ) (c : ℕ) (out : List ℕ) → ColumnEnds area t id c out

@@ -9,21 +9,25 @@ use borrow.Author.Tests.{eq-eqb, ltb-true}
 use lib.Dec.{eqb}
 use lib.ListN.{length, getD, take, drop, replicate, length-append, length-map, length-replicate}
 use lib.Seq.{take-at, drop-at, getD-at}
-use Rattle.model.specs.Octets.{big, value, part, eqBytes}
+use Rattle.model.specs.Octets.{big, value, part, chunks, eqBytes}
+use Rattle.model.specs.Limits.{entryBytes, entryCount, catalogBytes, countOffset, rowsOffset, storeBytes, mirrorBytes}
 use Rattle.model.specs.Base.{all, every, flat}
-use Rattle.model.specs.Schema.{Column, Schema, columnsOf}
+use Rattle.model.specs.Schema.{Column, Schema, Database, columnsOf}
+use Rattle.model.specs.Sane.{sane}
 use Rattle.model.specs.Value.{Value, blank, shaped, canonicalTests, canonicalFor, meets}
 use Rattle.model.specs.Rows.{Row}
 use Rattle.model.specs.Records.{cut}
 use Rattle.model.proofs.Order.{Typed, Fine, AllFine}
 use Rattle.model.specs.Commit.{lawful}
-use Rattle.model.specs.Areas.{headCell, atomCells, rowCells, columnsFrom, rowFrom, Store, storeBytes, tablesIn, rowsBytes, encodeStore, rowsFrom, textFrom, decodeStore, MirrorState, mirrorBytes, bit, storePart, encodeMirror, decodeMirror, rowsPass, headTests, stateOf, storeGood, storeOf, mirrorTests, mirrorGood, mirrorOf}
+use Rattle.model.specs.Areas.{headCell, atomCells, rowCells, columnsFrom, rowFrom, Store, rowsBytes, encodeStore, rowsFrom, entriesIn, databaseIn, decodeStore, MirrorState, storePart, encodeMirror, decodeMirror, rowsPass, headTests, stateOf, storeGood, storeOf, mirrorTests, mirrorGood, mirrorOf}
+use Rattle.model.specs.Catalog.{bit, databaseFrom, catalogOf}
 use Rattle.model.proofs.Tests.{split, and-l, and-r, parts, bytes-self, bytes-same}
 use Rattle.model.proofs.Lists.{all-append, all-cons, all-same}
 use Rattle.model.proofs.Octets.{value-big-fits}
-use Rattle.model.proofs.Bytes.{sized, cut-flat, length-flat, four-atoms, value-sized}
+use Rattle.model.proofs.Bytes.{sized, chunks-flat, cut-flat, length-flat, four-atoms, value-sized}
 use Rattle.model.proofs.GoodOrder.{good-of, meets-pass}
-use Rattle.model.proofs.Accepted.{narrow, text-kept, text-short}
+use Rattle.model.proofs.Accepted.{narrow, sane-kept}
+use Rattle.model.proofs.Catalogs.{getD-past, drop-past, catalog-length, catalog-sized, catalog-bytes, catalog-read}
 use Rattle.model.proofs.Lengths.{narrow-at, typed-length}
 
 -- ── rows in cells ──
@@ -119,77 +123,70 @@ rows-length s (r ∷ rs) z = simp length-append (omega (arith, row-length s r (z
 pub record Fits (st : Store) : Type 0 where
   pub run : st .run < 256 ^ 4
   pub number : st .number < 256 ^ 4
-  pub short : length (st .schema) ≤ 4096
+  pub accepted : sane (st .database) ≡ true
   pub few : length (st .rows) ≤ 32
-  pub rows : AllSized (tablesIn (st .schema)) (st .rows)
+  pub rows : AllSized (st .database .tables) (st .rows)
 
-pub pass-fits : (st : Store) → every (headTests st) ≡ true → rowsPass canonicalFor (tablesIn (st .schema)) (st .rows) ≡ true → Fits st
+pub pass-fits : (st : Store) → every (headTests st) ≡ true → rowsPass canonicalFor (st .database .tables) (st .rows) ≡ true → Fits st
 pass-fits st h p =
     let t = parts (headTests st) h in
-    let g = good-of (tablesIn (st .schema)) (st .rows) p in
+    let g = good-of (st .database .tables) (st .rows) p in
     record {
       run = ltb-true (st .run) (256 ^ 4) (t .1 .0);
       number = ltb-true (st .number) (256 ^ 4) (t .1 .1 .0);
-      short = text-short (st .schema) (t .0);
+      accepted = t .0;
       few = g .few;
-      rows = all-sized (tablesIn (st .schema)) (st .rows) (text-kept (st .schema) .narrow) (g .fine);
+      rows = all-sized (st .database .tables) (st .rows) (sane-kept (st .database) (t .0) .narrow) (g .fine);
     }
 
-drop-past : (p : List ℕ) (c : ℕ) (q : List ℕ) (n : ℕ) → length p ≡ n → drop (suc n) (p ++ c ∷ q) ≡ q
-drop-past [] c q zero e = refl
-drop-past [] c q (suc n) e = absurd (omega arith)
-drop-past (x ∷ p) c q zero e = absurd (omega arith)
-drop-past (x ∷ p) c q (suc n) e = drop-past p c q n (omega arith)
-
 module _ (st : Store) (f : Fits st) where
-  -- the text in its place, and what stands Behind it
-  text : List ℕ
-  text = st .schema ++ replicate (4096 - length (st .schema)) 0
+  -- the catalog, and what stands behind it
+  catalog : List ℕ
+  catalog = flat (catalogOf (st .database))
 
-  rest : List ℕ
-  rest = rowsBytes (st .rows) ++ replicate (625 * (32 - length (st .rows))) 0
+  behind : List ℕ
+  behind = length (st .rows) ∷ rowsBytes (st .rows) ++ replicate (625 * (32 - length (st .rows))) 0
 
-  text-length : length text ≡ 4096
-  unfolding text
-  text-length = simp (length-append, length-replicate) (omega (arith, f .short))
+  catalog-wide : length catalog ≡ catalogBytes
+  unfolding catalog
+  catalog-wide = catalog-bytes (st .database) (f .accepted)
 
-  rest-length : length rest ≡ 20000
-  unfolding rest
-  rest-length = simp (length-append, length-replicate) (omega (arith, rows-length (tablesIn (st .schema)) (st .rows) (f .rows), f .few))
-
-  body-length : length (text ++ length (st .rows) ∷ rest) ≡ 24097
-  body-length = simp length-append (omega (arith, text-length, rest-length))
+  behind-length : length behind ≡ 20001
+  unfolding behind
+  behind-length = simp (length-append, length-replicate) (omega (arith, rows-length (st .database .tables) (st .rows) (f .rows), f .few))
 
   pub store-length : length (encodeStore st) ≡ storeBytes
-  unfolding encodeStore text rest
-  store-length = omega (arith, body-length)
+  unfolding encodeStore catalog behind
+  store-length = let e = length-append catalog behind in omega (arith, e, catalog-wide, behind-length)
 
   module _ (tail : List ℕ) where
-    Behind : (text ++ length (st .rows) ∷ rest) ++ tail ≡ text ++ (length (st .rows) ∷ (rest ++ tail))
-    Behind = append-assoc text (length (st .rows) ∷ rest) tail
+    Behind : (catalog ++ behind) ++ tail ≡ catalog ++ (behind ++ tail)
+    Behind = append-assoc catalog behind tail
 
-    pub read-text : textFrom (encodeStore st ++ tail) ≡ st .schema
-    unfolding encodeStore text rest
-    read-text =
-        ap (λ (n : ℕ). take n ((text ++ length (st .rows) ∷ rest) ++ tail)) (value-big-fits 2 (length (st .schema)) (omega (arith, f .short)))
-        ∙ ap (take (length (st .schema))) (Behind ∙ append-assoc (st .schema) (replicate (4096 - length (st .schema)) 0) (length (st .rows) ∷ (rest ++ tail)))
-        ∙ take-at (st .schema) (replicate (4096 - length (st .schema)) 0 ++ (length (st .rows) ∷ (rest ++ tail))) (length (st .schema)) refl
+    pub read-catalog : entriesIn (encodeStore st ++ tail) ≡ catalogOf (st .database)
+    unfolding encodeStore catalog behind
+    read-catalog =
+        ap (chunks entryBytes entryCount) Behind
+        ∙ chunks-flat entryBytes entryCount (catalogOf (st .database)) (behind ++ tail) (catalog-length (st .database) (f .accepted)) (catalog-sized (st .database) (f .accepted))
 
-    pub read-count : getD (encodeStore st ++ tail) 4106 0 ≡ length (st .rows)
-    unfolding encodeStore text rest
-    read-count = ap (λ (l : List ℕ). getD l 4096 0) Behind ∙ getD-at text (length (st .rows)) (rest ++ tail) 0 4096 text-length
+    pub read-database : databaseIn (encodeStore st ++ tail) ≡ st .database
+    read-database = ap databaseFrom read-catalog ∙ catalog-read (st .database) (f .accepted)
 
-    pub read-rest : drop 4107 (encodeStore st ++ tail) ≡ rowsBytes (st .rows) ++ (replicate (625 * (32 - length (st .rows))) 0 ++ tail)
-    unfolding encodeStore text rest
-    read-rest = ap (drop 4097) Behind ∙ drop-past text (length (st .rows)) (rest ++ tail) 4096 text-length ∙ append-assoc (rowsBytes (st .rows)) (replicate (625 * (32 - length (st .rows))) 0) tail
+    pub read-count : getD (encodeStore st ++ tail) countOffset 0 ≡ length (st .rows)
+    unfolding encodeStore catalog behind
+    read-count = ap (λ (l : List ℕ). getD l catalogBytes 0) Behind ∙ getD-past 0 catalog (behind ++ tail) catalogBytes 0 catalog-wide
+
+    pub read-rest : drop rowsOffset (encodeStore st ++ tail) ≡ rowsBytes (st .rows) ++ (replicate (625 * (32 - length (st .rows))) 0 ++ tail)
+    unfolding encodeStore catalog behind
+    read-rest = ap (drop (catalogBytes + 1)) Behind ∙ drop-past catalog (behind ++ tail) catalogBytes 1 catalog-wide ∙ append-assoc (rowsBytes (st .rows)) (replicate (625 * (32 - length (st .rows))) 0) tail
 
     pub store-read : decodeStore (encodeStore st ++ tail) ≡ st
     unfolding encodeStore decodeStore
     store-read = λ j. record {
       run = value-big-fits 4 (st .run) (f .run) j;
       number = value-big-fits 4 (st .number) (f .number) j;
-      schema = read-text j;
-      rows = ((λ k. rowsFrom (tablesIn (read-text k)) (read-count k) (read-rest k)) ∙ rows-read (tablesIn (st .schema)) (st .rows) (replicate (625 * (32 - length (st .rows))) 0 ++ tail) (f .rows)) j;
+      database = read-database j;
+      rows = ((λ k. rowsFrom (read-database k .tables) (read-count k) (read-rest k)) ∙ rows-read (st .database .tables) (st .rows) (replicate (625 * (32 - length (st .rows))) 0 ++ tail) (f .rows)) j;
     }
 
 -- ── a mirror's area ──
@@ -204,7 +201,7 @@ module _ (m : MirrorState) (f : Fits (storePart m)) where
 
   read-flags : drop storeBytes (encodeMirror m) ≡ flags
   unfolding encodeMirror flags
-  read-flags = drop-at (encodeStore (storePart m)) flags 24107 (store-length (storePart m) f)
+  read-flags = drop-at (encodeStore (storePart m)) flags storeBytes (store-length (storePart m) f)
 
   pub mirror-length : length (encodeMirror m) ≡ mirrorBytes
   unfolding encodeMirror
@@ -216,7 +213,7 @@ module _ (m : MirrorState) (f : Fits (storePart m)) where
       let e : decodeStore (encodeMirror m) ≡ storePart m = store-read (storePart m) f flags in
       λ j. record {
         run = e j .run;
-        schema = e j .schema;
+        database = e j .database;
         mirror = record {
           rows = e j .rows;
           n = e j .number;
@@ -245,9 +242,9 @@ module _ {S : Type 0} (encode : S → List ℕ) (decode : List ℕ → S) (good 
 good-fits : (st : Store) → storeGood st ≡ true → Fits st
 unfolding storeGood
 good-fits st h =
-    let p = and-l (every (headTests st) && rowsPass meets (tablesIn (st .schema)) (st .rows)) (lawful (tablesIn (st .schema)) (st .rows)) h in
-    pass-fits st (and-l (every (headTests st)) (rowsPass meets (tablesIn (st .schema)) (st .rows)) p)
-    (meets-pass (tablesIn (st .schema)) (st .rows) (and-r (every (headTests st)) (rowsPass meets (tablesIn (st .schema)) (st .rows)) p))
+    let p = and-l (every (headTests st) && rowsPass meets (st .database .tables) (st .rows)) (lawful (st .database .tables) (st .rows)) h in
+    pass-fits st (and-l (every (headTests st)) (rowsPass meets (st .database .tables) (st .rows)) p)
+    (meets-pass (st .database .tables) (st .rows) (and-r (every (headTests st)) (rowsPass meets (st .database .tables) (st .rows)) p))
 
 -- the encoding of a store in good order is in good order, and is that store's area
 pub store-of-encode : (st : Store) → storeGood st ≡ true → storeOf (encodeStore st) ≡ some st
@@ -263,20 +260,20 @@ pub store-of-length : (a : List ℕ) (st : Store) → storeOf a ≡ some st → 
 store-of-length a st h = let p = store-of-is a st h in ap length (sym (p .0)) ∙ store-length st (good-fits st (p .1))
 
 module _ (m : MirrorState) (h : mirrorGood m ≡ true) where
-  mirror-head : (every (headTests (storePart m)) && rowsPass canonicalFor (tablesIn (m .schema)) (m .mirror .rows)) ≡ true
+  mirror-head : (every (headTests (storePart m)) && rowsPass canonicalFor (m .database .tables) (m .mirror .rows)) ≡ true
   unfolding mirrorGood
-  mirror-head = and-l (every (headTests (storePart m)) && rowsPass canonicalFor (tablesIn (m .schema)) (m .mirror .rows)) (every (mirrorTests (m .mirror))) h
+  mirror-head = and-l (every (headTests (storePart m)) && rowsPass canonicalFor (m .database .tables) (m .mirror .rows)) (every (mirrorTests (m .mirror))) h
 
   mirror-fits : Fits (storePart m)
   mirror-fits =
-      pass-fits (storePart m) (and-l (every (headTests (storePart m))) (rowsPass canonicalFor (tablesIn (m .schema)) (m .mirror .rows)) mirror-head)
-      (and-r (every (headTests (storePart m))) (rowsPass canonicalFor (tablesIn (m .schema)) (m .mirror .rows)) mirror-head)
+      pass-fits (storePart m) (and-l (every (headTests (storePart m))) (rowsPass canonicalFor (m .database .tables) (m .mirror .rows)) mirror-head)
+      (and-r (every (headTests (storePart m))) (rowsPass canonicalFor (m .database .tables) (m .mirror .rows)) mirror-head)
 
   mirror-top : m .mirror .top < 256 ^ 4
   unfolding mirrorGood
   mirror-top =
       ltb-true (m .mirror .top) (256 ^ 4)
-      (parts (mirrorTests (m .mirror)) (and-r (every (headTests (storePart m)) && rowsPass canonicalFor (tablesIn (m .schema)) (m .mirror .rows)) (every (mirrorTests (m .mirror))) h) .0)
+      (parts (mirrorTests (m .mirror)) (and-r (every (headTests (storePart m)) && rowsPass canonicalFor (m .database .tables) (m .mirror .rows)) (every (mirrorTests (m .mirror))) h) .0)
 
   pub mirror-of-encode : mirrorOf (encodeMirror m) ≡ some m
   unfolding mirrorOf

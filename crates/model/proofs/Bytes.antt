@@ -4,12 +4,13 @@ use mathlib.Core.Bool.{Bool, true, false}
 use mathlib.Core.List.{List, [], _∷_, _++_, map, append-assoc, append-nil}
 use mathlib.Core.Option.{some}
 use Prim.Native.Nat.{ℕ, zero, suc, _+_, _*_, _^_, _≤_, _<_}
+use native.Mathlib.Nat.{add-comm, mul-suc, mul-zero}
 use native.Mathlib.Omega.{arith}
 use lib.Dec.{eqb, ltb}
 use lib.ListN.{length, replicate, length-append}
 use lib.Seq.{take-at, drop-at}
 use borrow.Author.Tests.{eqb-true}
-use Rattle.model.specs.Octets.{big, value}
+use Rattle.model.specs.Octets.{big, value, chunks}
 use Rattle.model.specs.Limits.{atomBytes}
 use Rattle.model.specs.Base.{all, flat}
 use Rattle.model.specs.Value.{Value, byteAtom, shaped}
@@ -18,30 +19,41 @@ use Rattle.model.proofs.Tests.{and-l, and-r}
 use Rattle.model.proofs.Lists.{all-head, all-tail, all-imply}
 use Rattle.model.proofs.Octets.{value-big-fits}
 
--- ── cells of 25 bytes, and values ──
+-- ── parts of one width, and values ──
+abbrev pub sizedAs : ℕ → List ℕ → Bool
+sizedAs w a = eqb (length a) w
+
+module _ (w : ℕ) where
+  sized-length : (a : List ℕ) (l : List (List ℕ)) → all (sizedAs w) (a ∷ l) ≡ true → length a ≡ w
+  sized-length a l h = eqb-true (length a) w (all-head (sizedAs w) a l h)
+
+  pub chunks-flat : (n : ℕ) (l : List (List ℕ)) (rest : List ℕ) → length l ≡ n → all (sizedAs w) l ≡ true → chunks w n (flat l ++ rest) ≡ l
+  chunks-flat zero [] rest e h = refl
+  chunks-flat zero (a ∷ l) rest e h = absurd (omega arith)
+  chunks-flat (suc n) [] rest e h = absurd (omega arith)
+  chunks-flat (suc n) (a ∷ l) rest e h =
+      let p = sized-length a l h in
+      rw (append-assoc a (flat l) rest, take-at a (flat l ++ rest) w p, drop-at a (flat l ++ rest) w p, chunks-flat n l rest (omega arith) (all-tail (sizedAs w) a l h))
+
+  pub length-parts : (l : List (List ℕ)) → all (sizedAs w) l ≡ true → length (flat l) ≡ w * length l
+  length-parts [] h = sym (mul-zero w)
+  length-parts (a ∷ l) h =
+      let p = sized-length a l h in
+      let q = length-parts l (all-tail (sizedAs w) a l h) in
+      simp length-append (rw (p, q) (add-comm w (w * length l) ∙ sym (mul-suc w (length l))))
+
+-- cells of 25 bytes
 abbrev pub sized : List ℕ → Bool
-sized a = eqb (length a) atomBytes
+sized a = sizedAs atomBytes a
 
 pub atoms-sized : (l : List (List ℕ)) → all byteAtom l ≡ true → all sized l ≡ true
 atoms-sized l h = all-imply byteAtom sized (λ a e. and-l (sized a) (all (λ (b : ℕ). ltb b 256) a) e) l h
 
-sized-length : (a : List ℕ) (l : List (List ℕ)) → all sized (a ∷ l) ≡ true → length a ≡ 25
-sized-length a l h = eqb-true (length a) 25 (all-head sized a l h)
-
 pub cut-flat : (n : ℕ) (l : List (List ℕ)) (rest : List ℕ) → length l ≡ n → all sized l ≡ true → cut n (flat l ++ rest) ≡ l
-cut-flat zero [] rest e h = refl
-cut-flat zero (a ∷ l) rest e h = absurd (omega arith)
-cut-flat (suc n) [] rest e h = absurd (omega arith)
-cut-flat (suc n) (a ∷ l) rest e h =
-    let p = sized-length a l h in
-    rw (append-assoc a (flat l) rest, take-at a (flat l ++ rest) 25 p, drop-at a (flat l ++ rest) 25 p, cut-flat n l rest (omega arith) (all-tail sized a l h))
+cut-flat n l rest e h = chunks-flat atomBytes n l rest e h
 
 pub length-flat : (l : List (List ℕ)) → all sized l ≡ true → length (flat l) ≡ 25 * length l
-length-flat [] h = refl
-length-flat (a ∷ l) h =
-    let p = sized-length a l h in
-    let q = length-flat l (all-tail sized a l h) in
-    simp length-append (omega arith)
+length-flat l h = omega (arith, length-parts atomBytes l h)
 
 module _ (v : Value) (h : shaped v ≡ true) where
   pub four-atoms : length (v .atoms) ≡ 4

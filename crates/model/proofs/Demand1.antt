@@ -7,8 +7,9 @@ use Prim.Native.Nat.{ℕ, suc, _+_}
 use native.Mathlib.Omega.{arith}
 use lib.Dec.{eqb, leb}
 use lib.ListN.{length}
+use Rattle.model.specs.Sane.{sane}
 use Rattle.model.specs.Octets.{eqBytes, value}
-use Rattle.model.specs.Limits.{leastMark, lastNumber}
+use Rattle.model.specs.Limits.{leastMark, lastNumber, storeBytes, mirrorBytes}
 use Rattle.model.specs.Base.{if_then_else_, every, isSome}
 use Rattle.model.specs.Schema.{Schema, Database}
 use Rattle.model.specs.SchemaText.{readSchema}
@@ -21,8 +22,8 @@ use Rattle.model.specs.Records.{Change, Record, numbered, mark, decode}
 use Rattle.model.specs.Mirror.{Mirror, bad, Step, onRead, step, columnBytes}
 use Rattle.model.specs.Value.{meets}
 use Rattle.model.specs.Commit.{lawful}
-use Rattle.model.specs.Areas.{rowsPass, Store, storeBytes, storeOf, MirrorState, mirrorBytes, mirrorOf, tablesIn, storeGood, headTests}
-use Rattle.model.specs.Calls.{Started, Transacted, transactRefused, Marked, Arrived, startAs, storeStart, mirrorStart, zeroed, lengthsGood, heldDatabase, replyOf, storeTransact, transactOn, transactReplied, storeMark, markOn, mirrorHear, hearOn, hearStep, mirrorProgress, mirrorHasRow, mirrorColumn}
+use Rattle.model.specs.Areas.{rowsPass, Store, storeOf, MirrorState, mirrorOf, storeGood, headTests}
+use Rattle.model.specs.Calls.{Started, Transacted, transactRefused, Marked, Arrived, startAs, storeStart, mirrorStart, zeroed, lengthsGood, replyOf, storeTransact, transactOn, transactReplied, storeMark, markOn, mirrorHear, hearOn, hearStep, mirrorProgress, mirrorHasRow, mirrorColumn}
 use Rattle.model.specs.Laid.{storeOr, requestOr, mirrorOr, held, tables, asks, changesLaid, textLaid}
 use Rattle.model.specs.FirstRefusal.{Condition, given, startConditions, storeStartNumber, mirrorStartNumber, transactConditions, transactNumber, markConditions, markNumber, badRecord, runIn, recordConditions, hearConditions, heardAs, hearNumber}
 use Rattle.model.specs.Demands.{StoreStartEnds, MirrorStartEnds, HearEnds}
@@ -49,20 +50,23 @@ chosen number d true k cs x y p q = q
 chosen number d false k cs x y p q = p
 
 -- ── starting ──
-starts : (bytes : ℕ) (area schema made : List ℕ) → numberOf (startAs bytes area schema made .answer) ≡ given (startConditions bytes area schema) 0
+starts : (bytes : ℕ) (area schema : List ℕ) (made : Database → List ℕ) → numberOf (startAs bytes area schema made .answer) ≡ given (startConditions bytes area schema) 0
 starts bytes area schema made = split (eqb (length area) bytes)
-    (λ e. split (isSome (readSchema schema)) (λ f. rw (startAs, e, f)) (λ f. rw (startAs, e, f)))
+    (λ e. look (readSchema schema) (λ f. rw (startAs, e, f)) (λ d f. rw (startAs, e, f)))
     (λ e. rw (startAs, e))
 
-starts-refused : (bytes : ℕ) (area schema made : List ℕ) → isRefusal (startAs bytes area schema made .answer) ≡ true → startAs bytes area schema made .area ≡ area
+starts-refused : (bytes : ℕ) (area schema : List ℕ) (made : Database → List ℕ) → isRefusal (startAs bytes area schema made .answer) ≡ true → startAs bytes area schema made .area ≡ area
 starts-refused bytes area schema made = split (eqb (length area) bytes)
-    (λ e. split (isSome (readSchema schema)) (λ f. rw (startAs, e, f) (λ h. absurd (clash false h refl))) (λ f. rw (startAs, e, f) (λ h. refl)))
+    (λ e. look (readSchema schema) (λ f. rw (startAs, e, f) (λ h. refl)) (λ d f. rw (startAs, e, f) (λ h. absurd (clash false h refl))))
     (λ e. rw (startAs, e) (λ h. refl))
 
-starts-accepted : (bytes : ℕ) (area schema made : List ℕ) → isRefusal (startAs bytes area schema made .answer) ≡ false → startAs bytes area schema made .area ≡ made
-starts-accepted bytes area schema made = split (eqb (length area) bytes)
-    (λ e. split (isSome (readSchema schema)) (λ f. rw (startAs, e, f) (λ h. refl)) (λ f. rw (startAs, e, f) (λ h. absurd (clash true refl h))))
-    (λ e. rw (startAs, e) (λ h. absurd (clash true refl h)))
+pub starts-accepted : (bytes : ℕ) (area schema : List ℕ) (made : Database → List ℕ) → isRefusal (startAs bytes area schema made .answer) ≡ false
+    → (d : Database) × (readSchema schema ≡ some d) × (startAs bytes area schema made .area ≡ made d)
+starts-accepted bytes area schema made h = split (eqb (length area) bytes)
+    (λ e. look (readSchema schema)
+    (λ f. absurd (clash true refl (rw (startAs, e, f) at h)))
+    (λ d f. (d, f, rw (startAs, e, f))))
+    (λ e. absurd (clash true refl (rw (startAs, e) at h)))
 
 pub store-start-first : (area schema : List ℕ) (run : ℕ) → numberOf (storeStart area schema run .answer) ≡ storeStartNumber area schema
 unfolding storeStart storeStartNumber
@@ -87,13 +91,13 @@ mirror-start-ends area schema run = (
 )
 
 -- ── transact ──
--- a store in good order holds an accepted schema
-pub holds-schema : (area : List ℕ) (st : Store) → storeOf area ≡ some st → isSome (readSchema (st .schema)) ≡ true
+-- the schema of a store in good order keeps every rule
+pub holds-schema : (area : List ℕ) (st : Store) → storeOf area ≡ some st → sane (st .database) ≡ true
 unfolding storeGood
 holds-schema area st e =
     let g = store-of-is area st e .1 in
-    let p = and-l (every (headTests st) && rowsPass meets (tablesIn (st .schema)) (st .rows)) (lawful (tablesIn (st .schema)) (st .rows)) g in
-    parts (headTests st) (and-l (every (headTests st)) (rowsPass meets (tablesIn (st .schema)) (st .rows)) p) .0
+    let p = and-l (every (headTests st) && rowsPass meets (st .database .tables) (st .rows)) (lawful (st .database .tables) (st .rows)) g in
+    parts (headTests st) (and-l (every (headTests st)) (rowsPass meets (st .database .tables) (st .rows)) p) .0
 
 abbrev behind : List Condition → List Condition
 behind [] = []
@@ -150,18 +154,18 @@ abbrev storeConditions : List ℕ → List ℕ → ℕ → Option Store → List
 storeConditions request fresh room o text es =
     let st = storeOr o in
     record { number = 1; applies = not (isSome o) }
-    ∷ record { number = 3; applies = not (isSome (readSchema (st .schema))) }
+    ∷ record { number = 3; applies = not (sane (st .database)) }
     ∷ record { number = 4; applies = not (isSome (readRequest request)) }
-    ∷ replyConditions (heldDatabase st) (st .number) (st .rows) (freshIds fresh) room (requestOr (readRequest request)) text es
+    ∷ replyConditions (st .database) (st .number) (st .rows) (freshIds fresh) room (requestOr (readRequest request)) text es
 
 on-first : (area request fresh records text : List ℕ) (o : Option Store) → storeOf area ≡ o
     → let st = storeOr o in
-    let d = heldDatabase st in
+    let d = st .database in
     let t = transactRows (d .tables) (freshIds fresh) (st .rows) (requestOr (readRequest request) .operations) in
     numberOf (transactOn area request fresh records text o .answer) ≡ first 0 (storeConditions request fresh (length text) o (t .text) (changesOf (d .tables) (st .rows) t))
 on-first area request fresh records text none e = refl
 on-first area request fresh records text (some st) e =
-    rw (holds-schema area st e) (ap numberOf (replied area records text st (replyOf st request fresh (length text))) ∙ reply-first (heldDatabase st) (st .number) (st .rows) request fresh (length text))
+    rw (holds-schema area st e) (ap numberOf (replied area records text st (replyOf st request fresh (length text))) ∙ reply-first (st .database) (st .number) (st .rows) request fresh (length text))
 
 pub transact-first : (area request fresh records text : List ℕ)
     → numberOf (storeTransact area request fresh records text .answer) ≡ transactNumber area request fresh records text
@@ -242,9 +246,9 @@ hear-first area x =
     go : (o : Option MirrorState)
         → let m = mirrorOr o in
         numberOf (hearOn area x o .answer)
-        ≡ first (heardAs (m .mirror .n) (decode x)) (record { number = 1; applies = not (isSome o) } ∷ recordConditions (tablesIn (m .schema)) (m .run) (m .mirror) (decode x))
+        ≡ first (heardAs (m .mirror .n) (decode x)) (record { number = 1; applies = not (isSome o) } ∷ recordConditions (m .database .tables) (m .run) (m .mirror) (decode x))
     go none = refl
-    go (some m) = ap numberOf (heard-answer area m (step (tablesIn (m .schema)) (m .run) (m .mirror) x)) ∙ step-first (tablesIn (m .schema)) (m .run) (m .mirror) (decode x)
+    go (some m) = ap numberOf (heard-answer area m (step (m .database .tables) (m .run) (m .mirror) x)) ∙ step-first (m .database .tables) (m .run) (m .mirror) (decode x)
 
 pub hear-refused : (area x : List ℕ) → isRefusal (mirrorHear area x .answer) ≡ true → mirrorHear area x .area ≡ area
 unfolding mirrorHear
@@ -259,7 +263,7 @@ hear-refused area x = split (eqb (length area) mirrorBytes)
 
     go : (o : Option MirrorState) → isRefusal (hearOn area x o .answer) ≡ true → hearOn area x o .area ≡ area
     go none h = refl
-    go (some m) h = on m (step (tablesIn (m .schema)) (m .run) (m .mirror) x) h
+    go (some m) h = on m (step (m .database .tables) (m .run) (m .mirror) x) h
 
 pub hear-ends : (area x : List ℕ) → HearEnds area x
 hear-ends area x = record { first = hear-first area x; refused = λ h. (hear-refused area x h, tt); accepted = λ h. tt }

@@ -16,7 +16,7 @@ use Rattle.model.specs.Rows.{Row}
 use Rattle.model.specs.Refusals.{isRefusal}
 use Rattle.model.specs.Records.{Change, diff, numbered, numberFrom, encode, pieces}
 use Rattle.model.specs.Areas.{Store, encodeStore, storeGood, storeOf}
-use Rattle.model.specs.Calls.{zeroed, heldDatabase, replyOf, storeAfter, Transacted}
+use Rattle.model.specs.Calls.{zeroed, replyOf, storeAfter, Transacted}
 use Rattle.model.specs.Laid.{storeOr, held, tables, kept, succeeds, rowsLaid, changesLaid, recordsLaid, textLaid, storeLaid}
 use Rattle.model.specs.Demands.{call, commits, Transacts, Demand2}
 use Rattle.model.proofs.Tests.{split, clash, and-l, and-r}
@@ -70,7 +70,7 @@ module _ (area request fresh records text : List ℕ) where
   same-area : (g : G) → es ≡ [] → rowsLaid area request fresh ≡ st .rows → it .area ≡ area
   same-area g e p =
       g .areaIs
-      ∙ (λ i. encodeStore (record { run = st .run; number = (ap (λ (l : List Change). st .number + length l) e ∙ add-zero (st .number)) i; schema = st .schema; rows = p i }))
+      ∙ (λ i. encodeStore (record { run = st .run; number = (ap (λ (l : List Change). st .number + length l) e ∙ add-zero (st .number)) i; database = st .database; rows = p i }))
       ∙ store-of-is area st (g .here) .0
 
   stay : commits area request fresh records text ≡ false → (it .area ≡ area) × (it .records ≡ zeroed records)
@@ -86,7 +86,7 @@ module _ (area request fresh records text : List ℕ) where
     holds : storeOf (it .area) ≡ some after
     holds =
         let e : storeAfter st (replyOf st request fresh (length text)) ≡ after =
-        (λ i. record { run = st .run; number = st .number + length (g .changes i); schema = st .schema; rows = g .rows i }) in
+        (λ i. record { run = st .run; number = st .number + length (g .changes i); database = st .database; rows = g .rows i }) in
         ap storeOf (g .areaIs) ∙ store-of-encode after (subst (λ (x : Store). storeGood x ≡ true) e (after-good area st (g .here) request fresh (length text) (g .sized) b))
 
     -- the changes are those between the rows
@@ -101,7 +101,7 @@ module _ (area request fresh records text : List ℕ) where
 
     room : st .number + length (diff (tables area request fresh) (st .rows) (rowsLaid area request fresh)) ≤ lastNumber
     room =
-        let r = reply-room (st .number) (length text) (omega (arith, fine-at area st (g .here) .number)) (heldDatabase st) (st .rows) request fresh .last in
+        let r = reply-room (st .number) (length text) (omega (arith, fine-at area st (g .here) .number)) (st .database) (st .rows) request fresh .last in
         subst (λ (l : List Change). st .number + length l ≤ lastNumber) (g .changes ∙ between) r
 
     quiet : it .records ≡ zeroed records → rowsLaid area request fresh ≡ st .rows

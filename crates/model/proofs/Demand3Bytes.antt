@@ -7,6 +7,7 @@ use Prim.Native.Nat.{ℕ, zero, suc, _^_, _≤_, _<_}
 use native.Mathlib.Omega.{arith}
 use lib.Dec.{eqb}
 use lib.ListN.{length, getD, take, length-map}
+use Rattle.model.specs.Sane.{sane}
 use Rattle.model.specs.Base.{all, isSome}
 use Rattle.model.specs.Octets.{value}
 use Rattle.model.specs.Rows.{keyOf, has}
@@ -16,7 +17,8 @@ use Rattle.model.specs.Records.{Change, end, acts, Record, numbered, mar
 use Rattle.model.specs.Mirror.{Mirror, fresh, level, Step, onRead, step, numberCarried, columnAnswer}
 use Rattle.model.proofs.StateDemand.{through, heardOf}
 use Rattle.model.specs.Refusals.{numberOf, isRefusal}
-use Rattle.model.specs.Areas.{Store, storeBytes, encodeStore, storeOf, tablesOf, tablesIn, mirrorBytes, encodeMirror, storeGood}
+use Rattle.model.specs.Areas.{Store, encodeStore, storeOf, encodeMirror, storeGood}
+use Rattle.model.specs.Limits.{storeBytes, mirrorBytes}
 use Rattle.model.specs.Calls.{Started, startAs, storeStart, mirrorStart, mirrorHear, Progress, mirrorProgress}
 use Rattle.model.specs.Histories.{StoreCall, ofBytes, areaAfterAll, recordsOf, sentOf, changeIn, made, endsCommit, heardAll, Arrivals, heardNumbers}
 use Rattle.model.proofs.StateHistory.{State, empty, Call, finally, changes, records, written}
@@ -24,7 +26,8 @@ use Rattle.model.proofs.StateDemand as OnStates
 use Rattle.model.specs.FirstRefusal.{given, recordConditions, heardAs}
 use Rattle.model.specs.Demands as claimed
 use Rattle.model.specs.Demands.{leftBy, Follows, Keeps, Demand3}
-use Rattle.model.specs.declared.Answer.the-variants.{Accepted, WrongLength, BadSchema, Applied}
+use Rattle.model.specs.declared.Answer.{Answer}
+use Rattle.model.specs.declared.Answer.the-variants.{Accepted, Applied}
 use Rattle.model.proofs.Tests.{clash}
 use Rattle.model.proofs.Lists.{all-take}
 use Rattle.model.proofs.TextUtf8.{by-test}
@@ -37,34 +40,31 @@ use Rattle.model.proofs.SchemaLaws.{read-sane}
 use Rattle.model.proofs.Lengths.{AllFit, chain-fit, fit-wide}
 use Rattle.model.proofs.Areas.{store-of-encode, mirror-of-encode}
 use Rattle.model.proofs.Arrivals.{Said, unread, strangeMark, marked, unfit, strange, again, next, early, said}
-use Rattle.model.proofs.Demand1.{look, step-first}
+use Rattle.model.proofs.Demand1.{starts-accepted, step-first}
 use Rattle.model.proofs.States.{MirrorFine, mirror-whole, hear-answer, hear-area, fresh-fine, store-whole, start-fine}
 use Rattle.model.proofs.StoreCalls.{storeAt, callOf, calls-keep}
 use Rattle.model.proofs.StoreHistory.{Lifted, lifted, said-changes, said-length, record-at, ends-same, map-take}
 use Rattle.model.proofs.MirrorArrivals.{mirrorAt, progress-is, has-row-is, column-is, arrivals-take, answer-at, area-at, good-at, came}
 
 -- ── a started store and a started mirror ──
-start-is : (bytes : ℕ) (area schema made : List ℕ) → startAs bytes area schema made .answer ≡ Accepted → (isSome (readSchema schema) ≡ true) × (startAs bytes area schema made .area ≡ made)
-start-is bytes area schema made =
-    by-test Right (eqb (length area) bytes) (λ e. by-test Right (isSome (readSchema schema)) (λ f h. (f, refl)) (λ f h. absurd (wrong h))) (λ e h. absurd (longer h))
-  where
-    Right : Started → Type 0
-    Right x = x .answer ≡ Accepted → (isSome (readSchema schema) ≡ true) × (x .area ≡ made)
+not-refused : (a : Answer) → a ≡ Accepted → isRefusal a ≡ false
+not-refused a e = ap isRefusal e
 
-    wrong : BadSchema ≡ Accepted → ⊥
-    wrong z = let y : _≡_ {A = ℕ} 0 1 = cc in omega arith
+same-some : {A : Type 0} (x y : A) (o : Option A) → o ≡ some x → o ≡ some y → x ≡ y
+same-some x y o p q = cc
 
-    longer : WrongLength ≡ Accepted → ⊥
-    longer z = let y : _≡_ {A = ℕ} 0 1 = cc in omega arith
+start-is : (bytes : ℕ) (area schema : List ℕ) (made : Database → List ℕ) (d : Database) → readSchema schema ≡ some d → startAs bytes area schema made .answer ≡ Accepted → startAs bytes area schema made .area ≡ made d
+start-is bytes area schema made d e h =
+    let r = starts-accepted bytes area schema made (not-refused (startAs bytes area schema made .answer) h) in
+    r .2 ∙ ap made (same-some (r .0) d (readSchema schema) (r .1) e)
 
-store-start : (old schema : List ℕ) (run : ℕ) → storeStart old schema run .answer ≡ Accepted
-    → (isSome (readSchema schema) ≡ true) × (storeStart old schema run .area ≡ encodeStore (storeAt schema run empty))
+store-start : (old schema : List ℕ) (run : ℕ) (d : Database) → readSchema schema ≡ some d → storeStart old schema run .answer ≡ Accepted → storeStart old schema run .area ≡ encodeStore (storeAt d run empty)
 unfolding storeStart
-store-start old schema run h = start-is storeBytes old schema (encodeStore (storeAt schema run empty)) h
+store-start old schema run d e h = start-is storeBytes old schema (λ (x : Database). encodeStore (storeAt x run empty)) d e h
 
-mirror-start : (old schema : List ℕ) (run : ℕ) → mirrorStart old schema run .answer ≡ Accepted → mirrorStart old schema run .area ≡ encodeMirror (mirrorAt schema run fresh)
+mirror-start : (old schema : List ℕ) (run : ℕ) (d : Database) → readSchema schema ≡ some d → mirrorStart old schema run .answer ≡ Accepted → mirrorStart old schema run .area ≡ encodeMirror (mirrorAt d run fresh)
 unfolding mirrorStart
-mirror-start old schema run h = start-is mirrorBytes old schema (encodeMirror (mirrorAt schema run fresh)) h .1
+mirror-start old schema run d e h = start-is mirrorBytes old schema (λ (x : Database). encodeMirror (mirrorAt x run fresh)) d e h
 
 fit-at : (es : List Change) (j : ℕ) → AllFit es → j < length es → Fits (getD es j end)
 fit-at [] j f h = absurd (omega arith)
@@ -73,9 +73,6 @@ fit-at (e ∷ es) (suc j) f h = fit-at es j (f .1) (omega arith)
 
 carried : (l : Record) → Wide l → numberCarried (some l) < 256 ^ 4 → numberCarried (decode (encode l)) < 256 ^ 4
 carried l w h = rw (decode-encode l w) h
-
-same-some : {A : Type 0} (x y : A) (o : Option A) → o ≡ some x → o ≡ some y → x ≡ y
-same-some x y o p q = cc
 
 -- a step leaves what its answer's number says
 left-by : (s : Schema) (run : ℕ) (m : Mirror) (o : Option Record) → onRead s run m o .next ≡ leftBy s (numberOf (onRead s run m o .answer)) m o
@@ -92,15 +89,12 @@ left-by s run m o = go (said s run m o)
     go (early u k e r p) = refl
 
 -- ── the history ──
-module _ (schema : List ℕ) (run : ℕ) (d : Database) (read : readSchema schema ≡ some d) (short : run < 256 ^ 4) (calls : List StoreCall) (bytes : all ofBytes calls ≡ true) where
+module _ (d : Database) (run : ℕ) (sound : sane d ≡ true) (short : run < 256 ^ 4) (calls : List StoreCall) (bytes : all ofBytes calls ≡ true) where
   abbrev s : Schema
   s = d .tables
 
-  abbrev same : tablesIn schema ≡ s
-  same = ap tablesOf read
-
   abbrev area : List ℕ
-  area = encodeStore (storeAt schema run empty)
+  area = encodeStore (storeAt d run empty)
 
   abbrev history : List Call
   history = map (callOf d) calls
@@ -111,11 +105,11 @@ module _ (schema : List ℕ) (run : ℕ) (d : Database) (read : readSchema schem
   abbrev recs : List (List ℕ)
   recs = recordsOf area calls
 
-  start : storeGood (storeAt schema run empty) ≡ true
-  start = store-whole (storeAt schema run empty) (start-fine run schema short (ap isSome read))
+  start : storeGood (storeAt d run empty) ≡ true
+  start = store-whole (storeAt d run empty) (start-fine run d short sound)
 
   keeps : OnStates.Keeps s history
-  keeps = calls-keep d (read-sane schema d read) calls bytes
+  keeps = calls-keep d sound calls bytes
 
   all-fit : AllFit R
   all-fit = chain-fit s R [] (finally s run empty history .rows) (past-chain s run empty history keeps (good-empty s))
@@ -123,11 +117,11 @@ module _ (schema : List ℕ) (run : ℕ) (d : Database) (read : readSchema schem
   few : length R ≤ 4294967295
   few = omega (arith, past-room s run empty history (omega arith))
 
-  up-to : (j : ℕ) → Lifted schema run d empty (take j calls)
-  up-to j = lifted schema run d read empty (start) (take j calls) (all-take ofBytes j calls bytes)
+  up-to : (j : ℕ) → Lifted d run empty (take j calls)
+  up-to j = lifted d run empty (start) (take j calls) (all-take ofBytes j calls bytes)
 
-  all-calls : Lifted schema run d empty calls
-  all-calls = lifted schema run d read empty (start) calls bytes
+  all-calls : Lifted d run empty calls
+  all-calls = lifted d run empty (start) calls bytes
 
   records-are : recs ≡ map encode (numberFrom run 0 R)
   records-are = all-calls .records
@@ -145,13 +139,13 @@ module _ (schema : List ℕ) (run : ℕ) (d : Database) (read : readSchema schem
   after-is : (j : ℕ) → finally s run empty (take j history) ≡ after j
   after-is j = ap (finally s run empty) (sym (map-take (callOf d) j calls))
 
-  store-after : (j : ℕ) → storeOf (areaAfterAll area (take j calls)) ≡ some (storeAt schema run (after j))
-  store-after j = ap storeOf (up-to j .area) ∙ store-of-encode (storeAt schema run (after j)) (up-to j .good)
+  store-after : (j : ℕ) → storeOf (areaAfterAll area (take j calls)) ≡ some (storeAt d run (after j))
+  store-after j = ap storeOf (up-to j .area) ∙ store-of-encode (storeAt d run (after j)) (up-to j .good)
 
-  history-keeps : Keeps schema run area calls
+  history-keeps : Keeps d run area calls
   history-keeps = record {
     inOrder = λ j. (
-      storeAt schema run (after j),
+      storeAt d run (after j),
       store-after j,
       refl,
       refl,
@@ -174,9 +168,9 @@ module _ (schema : List ℕ) (run : ℕ) (d : Database) (read : readSchema schem
       rw (u .2) (told-wide (u .0) (told s run empty history (u .0) (u .1)))
 
   -- ── a mirror that follows the state's history follows the area's ──
-  module _ (m : Mirror) (ks : List ℕ) (g : MirrorFine (mirrorAt schema run m)) (f : OnStates.Follows s run history m ks) where
+  module _ (m : Mirror) (ks : List ℕ) (g : MirrorFine (mirrorAt d run m)) (f : OnStates.Follows s run history m ks) where
     abbrev shown : List ℕ
-    shown = encodeMirror (mirrorAt schema run m)
+    shown = encodeMirror (mirrorAt d run m)
 
     next-is : m .n < length recs → getD recs (m .n) [] ≡ encode (numbered run (suc (m .n)) (getD R (m .n) end))
     next-is h = ap (λ (l : List (List ℕ)). getD l (m .n) []) records-are ∙ record-at run 0 R (m .n) (omega (arith, count)) ∙ ap (λ (k : ℕ). encode (numbered run (suc k) (getD R (m .n) end))) (omega arith)
@@ -191,80 +185,78 @@ module _ (schema : List ℕ) (run : ℕ) (d : Database) (read : readSchema schem
         → (step s run m (getD recs (m .n) []) .answer ≡ Applied) × (step s run m (getD recs (m .n) []) .next .n ≡ suc (m .n))
     next-moves h = f .moves (getD recs (m .n) []) (omega (arith, count)) (next-is h)
 
-    rows-made : made (tablesIn schema) (take (m .n) recs) ≡ acts s (take (m .n) R) []
-    rows-made = λ i. acts (same i) ((map-take changeIn (m .n) recs ∙ ap (take (m .n)) changes-are) i) []
+    rows-made : made s (take (m .n) recs) ≡ acts s (take (m .n) R) []
+    rows-made = λ i. acts s ((map-take changeIn (m .n) recs ∙ ap (take (m .n)) changes-are) i) []
 
     ends-are : m .whole ≡ endsCommit recs (m .n)
     ends-are = f .whole ∙ sym (ap (λ (l : List (List ℕ)). endsCommit l (m .n)) records-are ∙ ends-same run R (m .n) (f .within))
 
     -- the mirror is just what its number and what it heard make
     abbrev M : Mirror
-    M = claimed.mirrorAt schema run area calls (m .n) ks
+    M = claimed.mirrorAt d run area calls (m .n) ks
 
     mirror-is : m ≡ M
     mirror-is i = record { rows = (f .rows ∙ sym rows-made) i; n = m .n; top = f .top i; heard = f .loud i; whole = ends-are i }
 
-    answer-is : (x : List ℕ) → numberOf (mirrorHear shown x .answer) ≡ numberOf (step (tablesIn schema) run m x .answer)
-    answer-is x = ap numberOf (hear-answer (mirrorAt schema run m) g x)
+    answer-is : (x : List ℕ) → numberOf (mirrorHear shown x .answer) ≡ numberOf (step s run m x .answer)
+    answer-is x = ap numberOf (hear-answer (mirrorAt d run m) g x)
 
-    left-is : (x : List ℕ) → mirrorHear shown x .area ≡ encodeMirror (mirrorAt schema run (leftBy (tablesIn schema) (numberOf (mirrorHear shown x .answer)) M (decode x)))
+    left-is : (x : List ℕ) → mirrorHear shown x .area ≡ encodeMirror (mirrorAt d run (leftBy s (numberOf (mirrorHear shown x .answer)) M (decode x)))
     left-is x =
-        hear-area (mirrorAt schema run m) g x
-        ∙ ap (λ (y : Mirror). encodeMirror (mirrorAt schema run y)) (left-by (tablesIn schema) run m (decode x) ∙ (λ i. leftBy (tablesIn schema) (sym (answer-is x) i) (mirror-is i) (decode x)))
+        hear-area (mirrorAt d run m) g x
+        ∙ ap (λ (y : Mirror). encodeMirror (mirrorAt d run y)) (left-by s run m (decode x) ∙ (λ i. leftBy s (sym (answer-is x) i) (mirror-is i) (decode x)))
 
-    history-follows : Follows schema run area calls shown ks
+    history-follows : Follows d run area calls shown ks
     history-follows = record {
       n = m .n;
       within = omega (arith, count, f .within);
-      bytes = ap (λ (y : Mirror). encodeMirror (mirrorAt schema run y)) mirror-is;
-      state = mirror-of-encode (mirrorAt schema run m) (mirror-whole (mirrorAt schema run m) g) ∙ ap (λ (y : Mirror). some (mirrorAt schema run y)) mirror-is;
-      tells = progress-is (mirrorAt schema run m) g ∙ ap (λ (y : Mirror). record { answer = Accepted; n = m .n; level = level y }) mirror-is;
-      tellsRow = λ t id. has-row-is (mirrorAt schema run m) g t id ∙ ap (λ (y : Mirror). record { answer = Accepted; there = has (keyOf t (value id)) (y .rows) }) mirror-is;
-      tellsColumn = λ t id c out l. column-is (mirrorAt schema run m) g t id c out l ∙ ap (λ (y : Mirror). record { answer = Accepted; out = columnAnswer y t (value id) c }) mirror-is;
-      answers = λ x. answer-is x ∙ step-first (tablesIn schema) run m (decode x) ∙ ap (λ (y : Mirror). given (recordConditions (tablesIn schema) run y (decode x)) (heardAs (m .n) (decode x))) mirror-is;
+      bytes = ap (λ (y : Mirror). encodeMirror (mirrorAt d run y)) mirror-is;
+      state = mirror-of-encode (mirrorAt d run m) (mirror-whole (mirrorAt d run m) g) ∙ ap (λ (y : Mirror). some (mirrorAt d run y)) mirror-is;
+      tells = progress-is (mirrorAt d run m) g ∙ ap (λ (y : Mirror). record { answer = Accepted; n = m .n; level = level y }) mirror-is;
+      tellsRow = λ t id. has-row-is (mirrorAt d run m) g t id ∙ ap (λ (y : Mirror). record { answer = Accepted; there = has (keyOf t (value id)) (y .rows) }) mirror-is;
+      tellsColumn = λ t id c out l. column-is (mirrorAt d run m) g t id c out l ∙ ap (λ (y : Mirror). record { answer = Accepted; out = columnAnswer y t (value id) c }) mirror-is;
+      answers = λ x. answer-is x ∙ step-first s run m (decode x) ∙ ap (λ (y : Mirror). given (recordConditions s run y (decode x)) (heardAs (m .n) (decode x))) mirror-is;
       leaves = left-is;
-      moved = λ h. answer-at schema run s same m g (getD recs (m .n) []) ∙ next-moves h .0;
+      moved = λ h. answer-at d run m g (getD recs (m .n) []) ∙ next-moves h .0;
       moves = λ h.
           let x : List ℕ = getD recs (m .n) [] in
-          ap (λ (a : List ℕ). mirrorProgress a .n) (area-at schema run s same m g x)
-          ∙ ap (λ (p : Progress). p .n) (progress-is (mirrorAt schema run (step s run m x .next)) (good-at schema run s same m g x (next-wide h))) ∙ next-moves h .1;
-      refusesNone = λ x b. ap isRefusal (answer-at schema run s same m g x) ∙ f .refusesNone x (rw (all-calls .sent) at b);
+          ap (λ (a : List ℕ). mirrorProgress a .n) (area-at d run m g x)
+          ∙ ap (λ (p : Progress). p .n) (progress-is (mirrorAt d run (step s run m x .next)) (good-at d run m g x (next-wide h))) ∙ next-moves h .1;
+      refusesNone = λ x b. ap isRefusal (answer-at d run m g x) ∙ f .refusesNone x (rw (all-calls .sent) at b);
       store = λ v j st e q.
-          let p : storeAt schema run (after j) ≡ st = same-some (storeAt schema run (after j)) st (storeOf (areaAfterAll area (take j calls))) (store-after j) e in
+          let p : storeAt d run (after j) ≡ st = same-some (storeAt d run (after j)) st (storeOf (areaAfterAll area (take j calls))) (store-after j) e in
           ap (λ (y : Mirror). y .rows) (sym mirror-is) ∙ f .store (sym level-told ∙ v) j (ap (λ (z : State). z .last) (after-is j) ∙ ap (λ (z : Store). z .number) p ∙ q) ∙ ap (λ (z : State). z .rows) (after-is j) ∙ ap (λ (z : Store). z .rows) p;
       commit = λ v.
           let c = f .commit (sym level-told ∙ v) in
-          (c .0, storeAt schema run (after (c .0)), omega (arith, c .1, length-map calls (callOf d)), store-after (c .0), sym (ap (λ (z : State). z .last) (after-is (c .0))) ∙ c .2);
+          (c .0, storeAt d run (after (c .0)), omega (arith, c .1, length-map calls (callOf d)), store-after (c .0), sym (ap (λ (z : State). z .last) (after-is (c .0))) ∙ c .2);
     }
       where
         level-told : mirrorProgress shown .level ≡ level m
-        level-told = ap (λ (p : Progress). p .level) (progress-is (mirrorAt schema run m) g)
+        level-told = ap (λ (p : Progress). p .level) (progress-is (mirrorAt d run m) g)
 
   -- ── the claim, of areas as they were started ──
   abbrev begun : List ℕ
-  begun = encodeMirror (mirrorAt schema run fresh)
+  begun = encodeMirror (mirrorAt d run fresh)
 
-  arrivals-follow : (xs : List (List ℕ)) → Arrivals (sentOf area calls) begun xs → (i : ℕ) → Follows schema run area calls (heardAll begun (take i xs)) (heardNumbers begun (take i xs))
+  arrivals-follow : (xs : List (List ℕ)) → Arrivals (sentOf area calls) begun xs → (i : ℕ) → Follows d run area calls (heardAll begun (take i xs)) (heardNumbers begun (take i xs))
   arrivals-follow xs a i =
       let sent : List (List ℕ) = sentOf area calls in
-      let new = fresh-fine run schema short (ap isSome read) in
-      let c = came schema run s same sent sent-wide fresh new (take i xs) (arrivals-take sent begun xs i a) in
-      let w : OnStates.Arrive s run (written s run empty history) fresh xs = subst (λ (l : List (List ℕ)). OnStates.Arrive s run l fresh xs) (all-calls .sent) (came schema run s same sent sent-wide fresh new xs a .arrive) in
+      let new = fresh-fine run d short sound in
+      let c = came d run sent sent-wide fresh new (take i xs) (arrivals-take sent begun xs i a) in
+      let w : OnStates.Arrive s run (written s run empty history) fresh xs = subst (λ (l : List (List ℕ)). OnStates.Arrive s run l fresh xs) (all-calls .sent) (came d run sent sent-wide fresh new xs a .arrive) in
       let f = history-follows (through s run fresh (take i xs)) (heardOf s run fresh (take i xs)) (c .good) (OfStates.demand3 s run short history keeps xs w i) in
-      subst (λ (y : List ℕ). Follows schema run area calls y (heardNumbers begun (take i xs))) (sym (c .area))
-      (subst (Follows schema run area calls (encodeMirror (mirrorAt schema run (through s run fresh (take i xs))))) (sym (c .numbers)) f)
+      subst (λ (y : List ℕ). Follows d run area calls y (heardNumbers begun (take i xs))) (sym (c .area))
+      (subst (Follows d run area calls (encodeMirror (mirrorAt d run (through s run fresh (take i xs))))) (sym (c .numbers)) f)
 
 -- of a store's and a mirror's area that were started
-abbrev Claim : List ℕ → ℕ → List StoreCall → List ℕ → List ℕ → Type 0
-Claim schema run calls area shown =
-    Keeps schema run area calls
-    × ((xs : List (List ℕ)) → Arrivals (sentOf area calls) shown xs → (i : ℕ) → Follows schema run area calls (heardAll shown (take i xs)) (heardNumbers shown (take i xs)))
+abbrev Claim : Database → ℕ → List StoreCall → List ℕ → List ℕ → Type 0
+Claim d run calls area shown =
+    Keeps d run area calls
+    × ((xs : List (List ℕ)) → Arrivals (sentOf area calls) shown xs → (i : ℕ) → Follows d run area calls (heardAll shown (take i xs)) (heardNumbers shown (take i xs)))
 
 pub demand3 : Demand3
-demand3 schema run old oldShown short a b calls bytes =
-    let p = store-start old schema run a in
-    look (readSchema schema) (λ e. absurd (clash false (sym (ap isSome e) ∙ p .0) refl))
-    (λ d e.
-    subst (λ (x : List ℕ). Claim schema run calls x (mirrorStart oldShown schema run .area)) (sym (p .1))
-    (subst (Claim schema run calls (encodeStore (storeAt schema run empty))) (sym (mirror-start oldShown schema run b))
-    (history-keeps schema run d e short calls bytes, arrivals-follow schema run d e short calls bytes)))
+demand3 schema text d run old oldShown short e f a b calls bytes =
+    let sound = read-sane schema d e in
+    subst (λ (x : List ℕ). Claim d run calls x (mirrorStart oldShown text run .area)) (sym (store-start old schema run d e a))
+    (subst (Claim d run calls (encodeStore (storeAt d run empty))) (sym (mirror-start oldShown text run d f b))
+    (history-keeps d run sound short calls bytes, arrivals-follow d run sound short calls bytes))

@@ -1,4 +1,5 @@
 pub mod Tests
+pub mod Wholes
 pub mod SchemaLaws
 pub mod Opened
 pub mod Octets
@@ -22,6 +23,7 @@ pub mod Commits
 pub mod Demand3
 pub mod Same
 pub mod GoodOrder
+pub mod Catalogs
 pub mod Accepted
 pub mod Lengths
 pub mod Areas
@@ -50,7 +52,6 @@ pub mod Demand3Bytes
 pub mod Accepting
 pub mod Demand2
 pub mod Order
-pub mod Sane
 pub mod GoodTexts
 pub mod StateHistory
 pub mod StateDemand

@@ -9,13 +9,14 @@ use borrow.Author.Tests.{eq-eqb}
 use lib.Dec.{eqb}
 use lib.ListN.{length, take}
 use Rattle.model.specs.Octets.{value}
-use Rattle.model.specs.Schema.{Schema}
+use Rattle.model.specs.Schema.{Schema, Database}
 use Rattle.model.specs.Rows.{keyOf, has}
 use Rattle.model.specs.Records.{decode}
 use Rattle.model.specs.Mirror.{Mirror, level, step, numberCarried, columnBytes, columnAnswer}
 use Rattle.model.proofs.StateDemand.{through, heardOf}
 use Rattle.model.specs.Refusals.{isRefusal}
-use Rattle.model.specs.Areas.{MirrorState, mirrorBytes, encodeMirror, mirrorOf, tablesIn}
+use Rattle.model.specs.Areas.{MirrorState, encodeMirror, mirrorOf}
+use Rattle.model.specs.Limits.{mirrorBytes}
 use Rattle.model.specs.Calls.{mirrorHear, asked, noProgress, progressOf, mirrorProgress, noPresence, presenceOf, mirrorHasRow, noContents, contentsOf, mirrorColumn}
 use Rattle.model.specs.Histories.{heardAll, Arrivals, heardNumbers}
 use Rattle.model.proofs.StateDemand.{Arrive}
@@ -27,8 +28,8 @@ use Rattle.model.proofs.Areas.{mirror-of-encode, mirror-of-length}
 use Rattle.model.proofs.States.{MirrorFine, mirror-whole, step-fine, hear-answer, hear-area}
 
 -- the mirror's state that a mirror of a run and schema is
-abbrev pub mirrorAt : List ℕ → ℕ → Mirror → MirrorState
-mirrorAt schema run m = record { run = run; schema = schema; mirror = m }
+abbrev pub mirrorAt : Database → ℕ → Mirror → MirrorState
+mirrorAt d run m = record { run = run; database = d; mirror = m }
 
 -- a question to it is answered by it
 pub asked-there : {A : Type 0} (m : MirrorState) → MirrorFine m → (refuse : Answer → A) (ask : Mirror → A) → asked (encodeMirror m) refuse ask ≡ ask (m .mirror)
@@ -57,27 +58,30 @@ arrivals-take sent a [] (suc i) h = tt
 arrivals-take sent a (x ∷ xs) zero h = tt
 arrivals-take sent a (x ∷ xs) (suc i) h = (h .0, arrivals-take sent (mirrorHear a x .area) xs i (h .1))
 
-module _ (schema : List ℕ) (run : ℕ) (s : Schema) (same : tablesIn schema ≡ s) where
+module _ (d : Database) (run : ℕ) where
+  abbrev s : Schema
+  s = d .tables
+
   -- one arrival
-  pub answer-at : (m : Mirror) → MirrorFine (mirrorAt schema run m) → (x : List ℕ) → mirrorHear (encodeMirror (mirrorAt schema run m)) x .answer ≡ step s run m x .answer
-  answer-at m g x = hear-answer (mirrorAt schema run m) g x ∙ ap (λ (t : Schema). step t run m x .answer) same
+  pub answer-at : (m : Mirror) → MirrorFine (mirrorAt d run m) → (x : List ℕ) → mirrorHear (encodeMirror (mirrorAt d run m)) x .answer ≡ step s run m x .answer
+  answer-at m g x = hear-answer (mirrorAt d run m) g x
 
-  pub area-at : (m : Mirror) → MirrorFine (mirrorAt schema run m) → (x : List ℕ)
-      → mirrorHear (encodeMirror (mirrorAt schema run m)) x .area ≡ encodeMirror (mirrorAt schema run (step s run m x .next))
-  area-at m g x = hear-area (mirrorAt schema run m) g x ∙ ap (λ (t : Schema). encodeMirror (mirrorAt schema run (step t run m x .next))) same
+  pub area-at : (m : Mirror) → MirrorFine (mirrorAt d run m) → (x : List ℕ)
+      → mirrorHear (encodeMirror (mirrorAt d run m)) x .area ≡ encodeMirror (mirrorAt d run (step s run m x .next))
+  area-at m g x = hear-area (mirrorAt d run m) g x
 
-  pub good-at : (m : Mirror) → MirrorFine (mirrorAt schema run m) → (x : List ℕ) → numberCarried (decode x) < 256 ^ 4 → MirrorFine (mirrorAt schema run (step s run m x .next))
-  good-at m g x h = subst (λ (t : Schema). MirrorFine (mirrorAt schema run (step t run m x .next))) same (step-fine (mirrorAt schema run m) g x h)
+  pub good-at : (m : Mirror) → MirrorFine (mirrorAt d run m) → (x : List ℕ) → numberCarried (decode x) < 256 ^ 4 → MirrorFine (mirrorAt d run (step s run m x .next))
+  good-at m g x h = step-fine (mirrorAt d run m) g x h
 
   -- all arrivals, of what was sent, whose numbers have their widths, and of what is refused
   module _ (sent : List (List ℕ)) (wide : (x : List ℕ) → List·Memᴰ x sent → numberCarried (decode x) < 256 ^ 4) where
     pub record Came (m : Mirror) (xs : List (List ℕ)) : Type 0 where
-      pub good : MirrorFine (mirrorAt schema run (through s run m xs))
-      pub area : heardAll (encodeMirror (mirrorAt schema run m)) xs ≡ encodeMirror (mirrorAt schema run (through s run m xs))
-      pub numbers : heardNumbers (encodeMirror (mirrorAt schema run m)) xs ≡ heardOf s run m xs
+      pub good : MirrorFine (mirrorAt d run (through s run m xs))
+      pub area : heardAll (encodeMirror (mirrorAt d run m)) xs ≡ encodeMirror (mirrorAt d run (through s run m xs))
+      pub numbers : heardNumbers (encodeMirror (mirrorAt d run m)) xs ≡ heardOf s run m xs
       pub arrive : Arrive s run sent m xs
 
-    pub came : (m : Mirror) → MirrorFine (mirrorAt schema run m) → (xs : List (List ℕ)) → Arrivals sent (encodeMirror (mirrorAt schema run m)) xs → Came m xs
+    pub came : (m : Mirror) → MirrorFine (mirrorAt d run m) → (xs : List (List ℕ)) → Arrivals sent (encodeMirror (mirrorAt d run m)) xs → Came m xs
     came m g [] a = record { good = g; area = refl; numbers = refl; arrive = tt }
     came m g (x ∷ xs) a =
         let c = came (step s run m x .next) (good (now (a .0))) xs (subst (λ (y : List ℕ). Arrivals sent y xs) (area-at m g x) (a .1)) in
@@ -88,17 +92,17 @@ module _ (schema : List ℕ) (run : ℕ) (s : Schema) (same : tablesIn schema �
           arrive = (now (a .0), c .arrive);
         }
       where
-        now : List·Memᴰ x sent ⊎ (isRefusal (mirrorHear (encodeMirror (mirrorAt schema run m)) x .answer) ≡ true) → List·Memᴰ x sent ⊎ (isRefusal (step s run m x .answer) ≡ true)
+        now : List·Memᴰ x sent ⊎ (isRefusal (mirrorHear (encodeMirror (mirrorAt d run m)) x .answer) ≡ true) → List·Memᴰ x sent ⊎ (isRefusal (step s run m x .answer) ≡ true)
         now (inl h) = inl h
         now (inr h) = inr (ap isRefusal (sym (answer-at m g x)) ∙ h)
 
-        good : List·Memᴰ x sent ⊎ (isRefusal (step s run m x .answer) ≡ true) → MirrorFine (mirrorAt schema run (step s run m x .next))
+        good : List·Memᴰ x sent ⊎ (isRefusal (step s run m x .answer) ≡ true) → MirrorFine (mirrorAt d run (step s run m x .next))
         good (inl h) = good-at m g x (wide x h)
         good (inr h) = rw (refused-same (said s run m (decode x)) h) g
 
-        numbers : heardNumbers (encodeMirror (mirrorAt schema run (step s run m x .next))) xs ≡ heardOf s run (step s run m x .next) xs → heardNumbers (encodeMirror (mirrorAt schema run m)) (x ∷ xs) ≡ heardOf s run m (x ∷ xs)
+        numbers : heardNumbers (encodeMirror (mirrorAt d run (step s run m x .next))) xs ≡ heardOf s run (step s run m x .next) xs → heardNumbers (encodeMirror (mirrorAt d run m)) (x ∷ xs) ≡ heardOf s run m (x ∷ xs)
         numbers e =
-            let a : List ℕ = encodeMirror (mirrorAt schema run m) in
+            let a : List ℕ = encodeMirror (mirrorAt d run m) in
             let p : isRefusal (mirrorHear a x .answer) ≡ isRefusal (step s run m x .answer) = ap isRefusal (answer-at m g x) in
             let rest : heardNumbers (mirrorHear a x .area) xs ≡ heardOf s run (step s run m x .next) xs = ap (λ (y : List ℕ). heardNumbers y xs) (area-at m g x) ∙ e in
             by-test (λ (l : List ℕ). l ≡ heardOf s run m (x ∷ xs)) (isRefusal (mirrorHear a x .answer))

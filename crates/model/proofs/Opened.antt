@@ -14,5 +14,5 @@ use Rattle.model.specs.Value.{isUtf8}
 use Rattle.model.specs.Transact.{readRequest}
 
 unfoldable pub opened : ℕ
-unfolding andThen run passing isSpace isDigit withinAt wordAt thenRead inRange isCharacter utf8 restOf rangesAt formAt shortOf hexOf digitBy digitFrom digitAt testedFrom tested secondFrom paired escapedFrom going escapeBy charBy charBytes charAdds stringAt minusAt signAt someFrom wholeAt fracAt isExp expAt items members scalarBy keyAt commaOr afterItem listAt memberAt opens dispatch valueAt endAt textAt isRead kindOf listOf itemsIn textIn isText isArray isObject isTruth namedOf membersIn hasMember namedOr valueOr memberValue counting sized plusOf minusOf wholeText wholeOf isWhole wholeInt isWord begins chars truthOr only isWithin sizeOr isLetter isIdByte isId versionFrom isVersion isBase baseOf membersOr baseNumber limitOr lowOf highOf keyFits refersOf isMax typeFits columnFits columnOf columnsFit isLasting isIndexed indexFits indexesFit tableFits tableOf tablesFit schemaFits databaseOf schemaOf readSchema keyOf isUtf8 readRequest
+unfolding andThen run passing isSpace isDigit withinAt wordAt thenRead inRange isCharacter utf8 restOf rangesAt formAt shortOf hexOf digitBy digitFrom digitAt testedFrom tested secondFrom paired escapedFrom going escapeBy charBy charBytes charAdds stringAt minusAt signAt someFrom wholeAt fracAt isExp expAt items members scalarBy keyAt commaOr afterItem listAt memberAt opens dispatch valueAt endAt textAt isRead kindOf listOf itemsIn textIn namedOf membersIn hasMember namedOr valueOr memberValue counting sized plusOf minusOf wholeText wholeOf isWhole wholeInt isWord begins chars truthOr only isWithin sizeOr isLetter isIdByte isId versionFrom isVersion isBase baseOf membersOr baseNumber limitOr lowOf highOf keyFits refersOf isMax typeFits columnFits columnOf columnsFit isLasting isIndexed indexFits indexesFit tableFits tableOf tablesFit schemaFits databaseOf schemaOf readSchema keyOf isUtf8 readRequest
 opened = 0

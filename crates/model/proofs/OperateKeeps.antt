@@ -13,7 +13,6 @@ use Rattle.model.specs.Octets.{eqBytes}
 use Rattle.model.specs.Base.{all, placeOf, nth, ascii}
 use Rattle.model.specs.Limits.{mostRows}
 use Rattle.model.specs.Json.{Json, Named}
-use Rattle.model.proofs.Sane.{columnAt}
 use Rattle.model.proofs.GoodTexts.{textsGood}
 use Rattle.model.specs.Schema.{Column, Table, Schema, columnsOf, tableNamed}
 use Rattle.model.specs.SchemaText.{only}
@@ -27,6 +26,7 @@ use Rattle.model.specs.Mutations.{Mutation, readMutations, steps}
 use Rattle.model.specs.Operations.{memberAs, tableIn, knownNames, valueWritten, columnWritten, columnsWritten, rowOf, readRow, defaultFault, immutableFault, noFault, assigned, readWhere, Done, failed, nameFault, runInsert, runSelect, updateRow, runUpdate, mutateRow, mutateRows, readMutationList, runMutate, runDelete, runAbort, onTable, perform, operate}
 use Rattle.model.specs.declared.Fault.{Fault}
 use Rattle.model.specs.declared.Fault.the-variants.{Fine, Syntax, Resources, Constraint}
+use Rattle.model.proofs.SchemaLaws.{columnAt}
 use Rattle.model.proofs.Tests.{split, clash, and-l}
 use Rattle.model.proofs.Canonical.{initial-meets}
 use Rattle.model.proofs.FaultLaws.{earlier-fine, worst-fine, then-fine, check-true}

@@ -10,8 +10,10 @@ use native.Mathlib.Omega.{arith}
 use borrow.Author.Tests.{eq-eqb, ltb-true}
 use lib.Dec.{eqb, ltb}
 use lib.ListN.{length, replicate, length-append, length-replicate}
+use Rattle.model.proofs.SchemaLaws.{read-sane}
+use Rattle.model.specs.Sane.{sane}
 use Rattle.model.specs.Octets.{big, filled}
-use Rattle.model.specs.Limits.{freshBytes, leastRecords, leastAnswer, lastNumber}
+use Rattle.model.specs.Limits.{freshBytes, leastRecords, leastAnswer, lastNumber, storeBytes, mirrorBytes}
 use Rattle.model.specs.Base.{all, isSome, flat}
 use Rattle.model.specs.Schema.{Schema, Database}
 use Rattle.model.specs.SchemaText.{readSchema}
@@ -20,11 +22,11 @@ use Rattle.model.specs.Transact.{Transaction}
 use Rattle.model.specs.Replies.{Reply, reply}
 use Rattle.model.specs.Records.{Change, diff, numberFrom, encode, decode, pieces}
 use Rattle.model.specs.Mirror.{Mirror, fresh, level, step, numberCarried}
-use Rattle.model.specs.Areas.{Store, storeBytes, encodeStore, storeGood, storeOf, MirrorState, mirrorBytes, encodeMirror, mirrorOf, tablesIn, tablesOf}
-use Rattle.model.specs.Calls.{Started, startAs, storeStart, mirrorStart, heldDatabase, lengthsGood, replyOf, storeAfter, recordsAfter, transactReplied, Transacted, storeTransact, Progress, mirrorProgress, mirrorHear}
+use Rattle.model.specs.Areas.{Store, encodeStore, storeGood, storeOf, MirrorState, encodeMirror, mirrorOf}
+use Rattle.model.specs.Calls.{Started, startAs, storeStart, mirrorStart, lengthsGood, replyOf, storeAfter, recordsAfter, transactReplied, Transacted, storeTransact, Progress, mirrorProgress, mirrorHear, newStore}
 use Rattle.model.specs.Histories.{heardAll}
-use Rattle.model.specs.Laid.{mirrorOr}
-use Rattle.model.specs.Readings.{Gave, Reading, idBytes, recordsRoom, textRoom, lastCall, callsOf, picks, mirrorOn, gave, got, padded, table, Readings, mistakes, Mistakes}
+use Rattle.model.specs.Laid.{mirrorOr, noDatabase}
+use Rattle.model.specs.Readings.{Gave, Reading, idsFrom, recordsRoom, textRoom, lastCall, callsOf, picks, mirrorOn, gave, got, padded, table, Readings, mistakes, Mistakes}
 use Rattle.model.specs.declared.Answer.{Answer}
 use Rattle.model.specs.declared.Answer.the-variants.{Accepted}
 use Rattle.model.proofs.Tests.{split, clash, and-l, and-r}
@@ -55,7 +57,7 @@ sayCall d st q ids =
 
 abbrev lastSaid : Database → ℕ → Said → List (List ℕ) → Said
 lastSaid d i x [] = x
-lastSaid d i x (q ∷ qs) = lastSaid d (i + 16) (sayCall d (x .store) q (idBytes 16 i)) qs
+lastSaid d i x (q ∷ qs) = lastSaid d (i + 16) (sayCall d (x .store) q (idsFrom 16 i)) qs
 
 -- what such a call leaves of areas and buffers
 abbrev onArea : Said → Transacted
@@ -65,13 +67,13 @@ zeros-length : (n : ℕ) → length (replicate {A = ℕ} n 0) ≡ n
 zeros-length n = length-replicate {A = ℕ} n 0
 
 -- the fresh ids are 256 bytes
-ids-octets : (n i : ℕ) → all octet (idBytes n i) ≡ true
+ids-octets : (n i : ℕ) → all octet (idsFrom n i) ≡ true
 ids-octets zero i = refl
-ids-octets (suc n) i = all-append octet (big 16 i) (idBytes n (suc i)) (big-octets 16 i) (ids-octets n (suc i))
+ids-octets (suc n) i = all-append octet (big 16 i) (idsFrom n (suc i)) (big-octets 16 i) (ids-octets n (suc i))
 
-ids-length : (n i : ℕ) → length (idBytes n i) ≡ 16 * n
+ids-length : (n i : ℕ) → length (idsFrom n i) ≡ 16 * n
 ids-length zero i = refl
-ids-length (suc n) i = length-append (big 16 i) (idBytes n (suc i)) ∙ omega (arith, length-big 16 i, ids-length n (suc i))
+ids-length (suc n) i = length-append (big 16 i) (idsFrom n (suc i)) ∙ omega (arith, length-big 16 i, ids-length n (suc i))
 
 -- refused or not, a reply leaves the area of the store after it, and buffers that it filled
 abbrev repliedAs : List ℕ → List ℕ → Store → Reply → Transacted
@@ -81,7 +83,7 @@ replied-is : (records text : List ℕ) (st : Store) {s : Schema} {t : Transactio
 replied-is records text st (refusing a h) =
     rw (transactReplied, h) (λ i. record {
       answer = a;
-      area = encodeStore (record { run = st .run; number = sym (add-zero (st .number)) i; schema = st .schema; rows = st .rows });
+      area = encodeStore (record { run = st .run; number = sym (add-zero (st .number)) i; database = st .database; rows = st .rows });
       records = sym (no-bytes (length records)) i;
       text = sym (no-bytes (length text)) i;
     })
@@ -90,75 +92,75 @@ replied-is records text st (making r h p q u) = rw (transactReplied, h)
 -- ── a call on the area of a state in good order ──
 record Sound (d : Database) (x : Said) : Type 0 where
   good : storeGood (x .store) ≡ true
-  same : heldDatabase (x .store) ≡ d
+  same : x .store .database ≡ d
   cut : pieces (padded leastRecords (flat (x .lines))) ≡ x .lines
 
 module _ (st : Store) (g : storeGood st ≡ true) (q : List ℕ) (i : ℕ) where
   abbrev here : storeOf (encodeStore st) ≡ some st
   here = store-of-encode st g
 
-  abbrev sized : length (idBytes 16 i) ≡ freshBytes
+  abbrev sized : length (idsFrom 16 i) ≡ freshBytes
   sized = ids-length 16 i
 
-  lengths : lengthsGood (encodeStore st) (idBytes 16 i) recordsRoom textRoom ≡ true
+  lengths : lengthsGood (encodeStore st) (idsFrom 16 i) recordsRoom textRoom ≡ true
   lengths =
-      rw (eq-eqb (length (encodeStore st)) storeBytes (store-of-length (encodeStore st) st here), eq-eqb (length (idBytes 16 i)) freshBytes sized)
+      rw (eq-eqb (length (encodeStore st)) storeBytes (store-of-length (encodeStore st) st here), eq-eqb (length (idsFrom 16 i)) freshBytes sized)
 
-  call-is : storeTransact (encodeStore st) q (idBytes 16 i) recordsRoom textRoom ≡ onArea (sayCall (heldDatabase st) st q (idBytes 16 i))
+  call-is : storeTransact (encodeStore st) q (idsFrom 16 i) recordsRoom textRoom ≡ onArea (sayCall (st .database) st q (idsFrom 16 i))
   unfolding padded
   call-is =
-      transact-there (encodeStore st) q (idBytes 16 i) recordsRoom textRoom st lengths here
-      ∙ replied-is recordsRoom textRoom st (reply-as (heldDatabase st) (st .number) (st .rows) q (idBytes 16 i) (length textRoom))
-      ∙ (λ j. let r = replyOf st q (idBytes 16 i) (zeros-length 1000 j) in
+      transact-there (encodeStore st) q (idsFrom 16 i) recordsRoom textRoom st lengths here
+      ∙ replied-is recordsRoom textRoom st (reply-as (st .database) (st .number) (st .rows) q (idsFrom 16 i) (length textRoom))
+      ∙ (λ j. let r = replyOf st q (idsFrom 16 i) (zeros-length 1000 j) in
       record { answer = r .answer; area = encodeStore (storeAfter st r); records = filled (zeros-length leastRecords j) (recordsAfter st r); text = filled (zeros-length 1000 j) (r .text) })
 
   -- its records are found again in the buffer
-  cut-is : pieces (padded leastRecords (flat (sayCall (heldDatabase st) st q (idBytes 16 i) .lines))) ≡ sayCall (heldDatabase st) st q (idBytes 16 i) .lines
+  cut-is : pieces (padded leastRecords (flat (sayCall (st .database) st q (idsFrom 16 i) .lines))) ≡ sayCall (st .database) st q (idsFrom 16 i) .lines
   unfolding padded
   cut-is =
-      let s = heldDatabase st .tables in
-      let r = replyOf st q (idBytes 16 i) 1000 in
+      let s = st .database .tables in
+      let r = replyOf st q (idsFrom 16 i) 1000 in
       let b = ids-octets 16 i in
-      let e : r .changes ≡ diff s (st .rows) (r .rows) = changes-between (encodeStore st) st here q (idBytes 16 i) 1000 sized b in
-      let room = reply-room (st .number) 1000 (omega (arith, fine-at (encodeStore st) st here .number)) (heldDatabase st) (st .rows) q (idBytes 16 i) .last in
+      let e : r .changes ≡ diff s (st .rows) (r .rows) = changes-between (encodeStore st) st here q (idsFrom 16 i) 1000 sized b in
+      let room = reply-room (st .number) 1000 (omega (arith, fine-at (encodeStore st) st here .number)) (st .database) (st .rows) q (idsFrom 16 i) .last in
       subst (λ (es : List Change). pieces (filled leastRecords (flat (map encode (numberFrom (st .run) (st .number) es)))) ≡ map encode (numberFrom (st .run) (st .number) es)) (sym e)
-      (commit-filled s (st .run) leastRecords (st .rows) (r .rows) (st .number) (in-order (encodeStore st) st here .good) (order-after (encodeStore st) st here q (idBytes 16 i) 1000 sized b .good)
+      (commit-filled s (st .run) leastRecords (st .rows) (r .rows) (st .number) (in-order (encodeStore st) st here .good) (order-after (encodeStore st) st here q (idsFrom 16 i) 1000 sized b .good)
       (narrow-at (encodeStore st) st here) (fine-at (encodeStore st) st here .run) (subst (λ (es : List Change). st .number + length es ≤ lastNumber) e room) (omega arith))
 
-  call-sound : Sound (heldDatabase st) (sayCall (heldDatabase st) st q (idBytes 16 i))
-  call-sound = record { good = after-good (encodeStore st) st here q (idBytes 16 i) 1000 sized (ids-octets 16 i); same = refl; cut = cut-is }
+  call-sound : Sound (st .database) (sayCall (st .database) st q (idsFrom 16 i))
+  call-sound = record { good = after-good (encodeStore st) st here q (idsFrom 16 i) 1000 sized (ids-octets 16 i); same = refl; cut = cut-is }
 
 module _ (d : Database) where
-  next-sound : (i : ℕ) (x : Said) → Sound d x → (q : List ℕ) → Sound d (sayCall d (x .store) q (idBytes 16 i))
-  next-sound i x v q = subst (λ (e : Database). Sound e (sayCall e (x .store) q (idBytes 16 i))) (v .same) (call-sound (x .store) (v .good) q i)
+  next-sound : (i : ℕ) (x : Said) → Sound d x → (q : List ℕ) → Sound d (sayCall d (x .store) q (idsFrom 16 i))
+  next-sound i x v q = subst (λ (e : Database). Sound e (sayCall e (x .store) q (idsFrom 16 i))) (v .same) (call-sound (x .store) (v .good) q i)
 
-  next-is : (i : ℕ) (x : Said) → Sound d x → (q : List ℕ) → storeTransact (encodeStore (x .store)) q (idBytes 16 i) recordsRoom textRoom ≡ onArea (sayCall d (x .store) q (idBytes 16 i))
-  next-is i x v q = subst (λ (e : Database). storeTransact (encodeStore (x .store)) q (idBytes 16 i) recordsRoom textRoom ≡ onArea (sayCall e (x .store) q (idBytes 16 i))) (v .same) (call-is (x .store) (v .good) q i)
+  next-is : (i : ℕ) (x : Said) → Sound d x → (q : List ℕ) → storeTransact (encodeStore (x .store)) q (idsFrom 16 i) recordsRoom textRoom ≡ onArea (sayCall d (x .store) q (idsFrom 16 i))
+  next-is i x v q = subst (λ (e : Database). storeTransact (encodeStore (x .store)) q (idsFrom 16 i) recordsRoom textRoom ≡ onArea (sayCall e (x .store) q (idsFrom 16 i))) (v .same) (call-is (x .store) (v .good) q i)
 
   calls-are : (i : ℕ) (x : Said) → Sound d x → (qs : List (List ℕ)) → (lastCall i (onArea x) qs ≡ onArea (lastSaid d i x qs)) × Sound d (lastSaid d i x qs)
   calls-are i x v [] = (refl, v)
   calls-are i x v (q ∷ qs) =
-      let rest = calls-are (i + 16) (sayCall d (x .store) q (idBytes 16 i)) (next-sound i x v q) qs in
+      let rest = calls-are (i + 16) (sayCall d (x .store) q (idsFrom 16 i)) (next-sound i x v q) qs in
       (ap (λ (c : Transacted). lastCall (i + 16) c qs) (next-is i x v q) ∙ rest .0, rest .1)
 
 -- ── a mirror that hears what its area's state hears ──
 abbrev wide : List ℕ → Bool
 wide x = ltb (numberCarried (decode x)) 4294967296
 
-heard-through : (schema : List ℕ) (m : Mirror) → MirrorFine (mirrorAt schema 1 m) → (xs : List (List ℕ)) → all wide xs ≡ true
-    → (heardAll (encodeMirror (mirrorAt schema 1 m)) xs ≡ encodeMirror (mirrorAt schema 1 (through (tablesIn schema) 1 m xs))) × MirrorFine (mirrorAt schema 1 (through (tablesIn schema) 1 m xs))
-heard-through schema m f [] w = (refl, f)
-heard-through schema m f (x ∷ xs) w =
-    let n = step-fine (mirrorAt schema 1 m) f x (ltb-true (numberCarried (decode x)) 4294967296 (all-head wide x xs w)) in
-    let rest = heard-through schema (step (tablesIn schema) 1 m x .next) n xs (all-tail wide x xs w) in
-    (ap (λ (a : List ℕ). heardAll a xs) (hear-area (mirrorAt schema 1 m) f x) ∙ rest .0, rest .1)
+heard-through : (d : Database) (m : Mirror) → MirrorFine (mirrorAt d 1 m) → (xs : List (List ℕ)) → all wide xs ≡ true
+    → (heardAll (encodeMirror (mirrorAt d 1 m)) xs ≡ encodeMirror (mirrorAt d 1 (through (d .tables) 1 m xs))) × MirrorFine (mirrorAt d 1 (through (d .tables) 1 m xs))
+heard-through d m f [] w = (refl, f)
+heard-through d m f (x ∷ xs) w =
+    let n = step-fine (mirrorAt d 1 m) f x (ltb-true (numberCarried (decode x)) 4294967296 (all-head wide x xs w)) in
+    let rest = heard-through d (step (d .tables) 1 m x .next) n xs (all-tail wide x xs w) in
+    (ap (λ (a : List ℕ). heardAll a xs) (hear-area (mirrorAt d 1 m) f x) ∙ rest .0, rest .1)
 
 -- ── a reading on states ──
-abbrev begun : List ℕ → Said
-begun schema = record { answer = Accepted; text = []; lines = []; store = record { run = 1; number = 0; schema = schema; rows = [] } }
+abbrev begun : Database → Said
+begun d = record { answer = Accepted; text = []; lines = []; store = newStore 1 d }
 
 abbrev saidOf : Database → Reading → Said
-saidOf d r = lastSaid d 1 (begun (r .schema)) (r .requests)
+saidOf d r = lastSaid d 1 (begun d) (r .requests)
 
 abbrev tells : Said → Mirror → Gave
 tells x m = record { answer = numberOf (x .answer); text = padded 1000 (x .text); records = padded leastRecords (flat (x .lines)); n = m .n; highest = m .top; level = level m }
@@ -167,7 +169,7 @@ abbrev heardBy : Database → Reading → List (List ℕ)
 heardBy d r = picks (r .hears) (saidOf d r .lines)
 
 abbrev onState : Reading → Option Database → Gave
-onState r none = tells (begun []) fresh
+onState r none = tells (begun noDatabase) fresh
 onState r (some d) = tells (saidOf d r) (through (d .tables) 1 fresh (heardBy d r))
 
 abbrev fits : Reading → Option Database → Bool
@@ -175,27 +177,27 @@ fits r none = false
 fits r (some d) = all wide (heardBy d r)
 
 module _ (r : Reading) (d : Database) (read : readSchema (r .schema) ≡ some d) (w : all wide (heardBy d r) ≡ true) where
-  abbrev accepted : isSome (readSchema (r .schema)) ≡ true
-  accepted = ap isSome read
+  abbrev accepted : sane d ≡ true
+  accepted = read-sane (r .schema) d read
 
-  store-starts : storeStart (replicate storeBytes 0) (r .schema) 1 ≡ record { answer = Accepted; area = encodeStore (begun (r .schema) .store) }
+  store-starts : storeStart (replicate storeBytes 0) (r .schema) 1 ≡ record { answer = Accepted; area = encodeStore (begun d .store) }
   unfolding storeStart
-  store-starts = rw (startAs, accepted)
+  store-starts = rw (startAs, read)
 
-  mirror-starts : mirrorStart (replicate mirrorBytes 0) (r .schema) 1 ≡ record { answer = Accepted; area = encodeMirror (mirrorAt (r .schema) 1 fresh) }
+  mirror-starts : mirrorStart (replicate mirrorBytes 0) (r .schema) 1 ≡ record { answer = Accepted; area = encodeMirror (mirrorAt d 1 fresh) }
   unfolding mirrorStart
-  mirror-starts = rw (startAs, eq-eqb (length (replicate {A = ℕ} mirrorBytes 0)) mirrorBytes (zeros-length mirrorBytes), accepted)
+  mirror-starts = rw (startAs, eq-eqb (length (replicate {A = ℕ} mirrorBytes 0)) mirrorBytes (zeros-length mirrorBytes), read)
 
-  begun-sound : Sound d (begun (r .schema))
+  begun-sound : Sound d (begun d)
   unfolding padded
   begun-sound = record {
-    good = store-whole (begun (r .schema) .store) (start-fine 1 (r .schema) (omega arith) accepted);
-    same = ap (λ (o : Option Database). elim o [ none ↦ record { name = []; tables = [] } | some y ↦ y ]) read;
+    good = store-whole (begun d .store) (start-fine 1 d (omega arith) accepted);
+    same = refl;
     cut = ap pieces (no-bytes leastRecords) ∙ none-there leastRecords;
   }
 
-  abbrev calls : (lastCall 1 (onArea (begun (r .schema))) (r .requests) ≡ onArea (saidOf d r)) × Sound d (saidOf d r)
-  calls = calls-are d 1 (begun (r .schema)) begun-sound (r .requests)
+  abbrev calls : (lastCall 1 (onArea (begun d)) (r .requests) ≡ onArea (saidOf d r)) × Sound d (saidOf d r)
+  calls = calls-are d 1 (begun d) begun-sound (r .requests)
 
   calls-of : callsOf r ≡ onArea (saidOf d r)
   unfolding padded
@@ -204,29 +206,28 @@ module _ (r : Reading) (d : Database) (read : readSchema (r .schema) ≡ some d)
       ∙ calls .0
 
   abbrev m : Mirror
-  m = through (tablesIn (r .schema)) 1 fresh (heardBy d r)
+  m = through (d .tables) 1 fresh (heardBy d r)
 
-  abbrev hearing : (heardAll (encodeMirror (mirrorAt (r .schema) 1 fresh)) (heardBy d r) ≡ encodeMirror (mirrorAt (r .schema) 1 m)) × MirrorFine (mirrorAt (r .schema) 1 m)
-  hearing = heard-through (r .schema) fresh (fresh-fine 1 (r .schema) (omega arith) accepted) (heardBy d r) w
+  abbrev hearing : (heardAll (encodeMirror (mirrorAt d 1 fresh)) (heardBy d r) ≡ encodeMirror (mirrorAt d 1 m)) × MirrorFine (mirrorAt d 1 m)
+  hearing = heard-through d fresh (fresh-fine 1 d (omega arith) accepted) (heardBy d r) w
 
-  mirror-on : mirrorOn r (callsOf r .records) ≡ encodeMirror (mirrorAt (r .schema) 1 m)
+  mirror-on : mirrorOn r (callsOf r .records) ≡ encodeMirror (mirrorAt d 1 m)
   mirror-on =
       (λ j. heardAll (mirror-starts j .area) (picks (r .hears) ((ap (λ (c : Transacted). pieces (c .records)) calls-of ∙ calls .1 .cut) j)))
       ∙ hearing .0
 
   got-is : got r ≡ onState r (some d)
   got-is =
-      let there : mirrorOf (encodeMirror (mirrorAt (r .schema) 1 m)) ≡ some (mirrorAt (r .schema) 1 m) = mirror-of-encode (mirrorAt (r .schema) 1 m) (mirror-whole (mirrorAt (r .schema) 1 m) (hearing .1)) in
+      let there : mirrorOf (encodeMirror (mirrorAt d 1 m)) ≡ some (mirrorAt d 1 m) = mirror-of-encode (mirrorAt d 1 m) (mirror-whole (mirrorAt d 1 m) (hearing .1)) in
       (λ j. gave (calls-of j) (mirror-on j))
       ∙ (λ j. record {
         answer = numberOf (saidOf d r .answer);
         text = padded 1000 (saidOf d r .text);
         records = padded leastRecords (flat (saidOf d r .lines));
-        n = progress-is (mirrorAt (r .schema) 1 m) (hearing .1) j .n;
+        n = progress-is (mirrorAt d 1 m) (hearing .1) j .n;
         highest = mirrorOr (there j) .mirror .top;
-        level = progress-is (mirrorAt (r .schema) 1 m) (hearing .1) j .level;
+        level = progress-is (mirrorAt d 1 m) (hearing .1) j .level;
       })
-      ∙ ap (λ (s : Schema). tells (saidOf d r) (through s 1 fresh (heardBy d r))) (ap tablesOf read)
 
 got-all : (l : List Reading) → all (λ (r : Reading). fits r (readSchema (r .schema))) l ≡ true → map got l ≡ map (λ (r : Reading). onState r (readSchema (r .schema))) l
 got-all [] h = refl

@@ -12,7 +12,7 @@ use Rattle.model.specs.Limits.{freshBytes, lastNumber}
 use Rattle.model.specs.Base.{if_then_else_, all}
 use Rattle.model.specs.Schema.{Schema, Database}
 use Rattle.model.specs.Rows.{Row}
-use Rattle.model.proofs.Sane.{sane}
+use Rattle.model.specs.Sane.{sane}
 use Rattle.model.specs.Transact.{Request, readRequest, freshIds, idsGood, Transaction, transactRows}
 use Rattle.model.specs.Records.{Change, diff}
 use Rattle.model.proofs.Order.{Sorted}

@@ -10,7 +10,7 @@ use lib.Dec.{ltb, leb}
 use lib.ListN.{length, length-map}
 use Rattle.model.specs.declared.Whole.{Whole}
 use Rattle.model.specs.declared.Whole.the-variants.{Plus, Minus, Other}
-use Rattle.model.specs.Base.{any, all, every, member, placeOf, nth, ascii}
+use Rattle.model.specs.Base.{any, all, every, member, distinct, placeOf, nth, ascii}
 use Rattle.model.specs.Octets.{eqBytes}
 use Rattle.model.specs.Limits.{mostElements, mostIndexColumns, mostIndexes, mostColumns, mostTables, mostSchemaBytes}
 use Rattle.model.specs.Json.{Json, null, bool, num, str, arr, obj, Named, textAt}
@@ -18,9 +18,10 @@ use Rattle.model.specs.Nav.{isRead, kindOf, isArray, itemsIn, textIn}
 use Rattle.model.specs.Members.{membersIn, hasMember, namedOr, valueOr, memberValue, counting}
 use Rattle.model.specs.Whole.{wholeOf}
 use Rattle.model.specs.Text.{isWord}
-use Rattle.model.specs.Schema.{Base, uuid, Refers, plain, strong, weak, Column, Table, Schema, Database, columnsOf}
-use Rattle.model.specs.SchemaText.{must, may, isStringOf, isOneOf, isString, sameBase, isWithin, sizeOr, names, placeOr, isId, isMax, keyTests, keyMembers, keyBase, keyFits, refersOf, minOf, maxOf, typeTests, typeMembers, typeFits, columnTests, columnFits, columnOf, tableColumns, partsTests, columnsFit, isIndexed, indexTests, indexFits, indexesTests, indexesFit, tableTests, tableFits, indexOf, tableOf, tablesFit, schemaTests, schemaFits, schemaTables, databaseOf, schemaOf, readSchema}
-use Rattle.model.proofs.Sane.{columnAt, refersBelow, saneColumn, indexSane, saneIndex, columnSane, tableSane, saneTable, databaseSane, sane}
+use Rattle.model.specs.Schema.{Base, integer, boolean, text, uuid, Refers, plain, strong, weak, Column, Table, Schema, Database, columnsOf}
+use Rattle.model.specs.SchemaText.{must, may, isStringOf, isOneOf, isString, baseNumber, sameBase, isWithin, sizeOr, names, placeOr, isId, isMax, lowOf, highOf, maxRowsOf, keyTests, keyMembers, keyBase, keyFits, refersOf, minOf, maxOf, typeTests, typeMembers, typeFits, columnTests, columnFits, columnOf, tableColumns, partsTests, columnsFit, isIndexed, indexTests, indexFits, indexesTests, indexesFit, tableTests, tableFits, indexOf, tableOf, tablesFit, schemaTests, schemaFits, schemaTables, databaseOf, schemaOf, readSchema}
+use Rattle.model.specs.Sane.{refersBelow, refersAs, limitsAs, maxRowsSane, saneColumn, indexSane, saneIndex, columnSane, tableSane, saneTable, databaseSane, sane}
+use Rattle.model.proofs.Wholes.{low-fits, high-fits}
 use Rattle.model.proofs.Tests.{split, clash, bytes-same, bytes-self, and-l, and-r, parts, whole}
 
 -- ── lists ──
@@ -86,6 +87,18 @@ counting-all p (m ∷ ms) h =
     let r : all p (names (counting ms)) ≡ true = counting-all p ms (and-r (p (m .name)) _ h) in
     split (hasMember (m .name) ms) (λ e. rw (counting, e) r) (λ e. rw (counting, e, and-l (p (m .name)) _ h) r)
 
+-- "a repeated name at its last place": the names that count are different
+pub counting-distinct : (ms : List Named) → distinct (names (counting ms)) ≡ true
+unfolding counting
+counting-distinct [] = refl
+counting-distinct (m ∷ ms) =
+    split (hasMember (m .name) ms) (λ e. rw (counting, e) (counting-distinct ms)) (λ e. rw (counting, e, counting-has (m .name) ms) (rw e (counting-distinct ms)))
+
+-- parts that have the names of members
+named-parts : {A : Type 0} (f : Named → A) (name : A → List ℕ) → ((m : Named) → name (f m) ≡ m .name) → (ms : List Named) → map name (map f ms) ≡ names ms
+named-parts f name e [] = refl
+named-parts f name e (m ∷ ms) = λ j. e m j ∷ named-parts f name e ms j
+
 -- ── tests of members ──
 pub may-true : (h b : Bool) → (not h || b) ≡ true → h ≡ true → b ≡ true
 may-true true b t e = t
@@ -134,7 +147,7 @@ max-size j h =
     (λ e. within-size 1 mostElements mostElements (wholeOf j) e)
     (λ e. rw (word-size (ascii "unlimited") mostElements j (rw e at h)) (omega arith, omega arith))
 
-max-sane : (ts : List Named) → may (ascii "max") isMax ts ≡ true → (1 ≤ maxOf ts) × (maxOf ts ≤ mostElements)
+pub max-sane : (ts : List Named) → may (ascii "max") isMax ts ≡ true → (1 ≤ maxOf ts) × (maxOf ts ≤ mostElements)
 max-sane ts h =
     split
     (hasMember (ascii "max") ts)
@@ -157,6 +170,30 @@ refers-sane tables base ks h =
     (length tables)
     (λ e. number-below _ tables (and-r (isString (memberValue (ascii "refTable") ks)) _ (and-r (sameBase base uuid) _ (may-true _ _ h e))))
 
+-- and only a uuid has one
+refers-as-by : (b w : Bool) (base : Base) (t : ℕ) → (b ≡ true → sameBase base uuid ≡ true) → refersAs base (elim b [ true ↦ elim w [ true ↦ weak t | false ↦ strong t ] | false ↦ plain ]) ≡ true
+refers-as-by true true base t h = h refl
+refers-as-by true false base t h = h refl
+refers-as-by false w base t h = refl
+
+refers-as : (tables : List (List ℕ)) (base : Base) (ks : List Named) → may (ascii "refTable") (λ (j : Json). sameBase base uuid && isOneOf tables j) ks ≡ true → refersAs base (refersOf tables ks) ≡ true
+unfolding refersOf
+refers-as tables base ks h =
+    refers-as-by
+    (hasMember (ascii "refTable") ks)
+    (isWord (ascii "weak") (memberValue (ascii "refType") ks))
+    base
+    (placeOr (textIn (memberValue (ascii "refTable") ks)) tables)
+    (λ e. and-l (sameBase base uuid) _ (may-true _ _ h e))
+
+-- the limits of a type that has none
+limits-as : (base : Base) (ks : List Named) → limitsAs base (lowOf base ks) (highOf base ks) ≡ true
+unfolding lowOf highOf baseNumber
+limits-as integer ks = refl
+limits-as boolean ks = refl
+limits-as text ks = refl
+limits-as uuid ks = refl
+
 column-sane : (tables : List (List ℕ)) (m : Named) → isId (m .name) ≡ true → columnFits tables (m .value) ≡ true → saneColumn (length tables) (columnOf tables m) ≡ true
 unfolding columnFits typeFits keyFits columnOf saneColumn
 column-sane tables m i h =
@@ -175,7 +212,7 @@ column-sane tables m i h =
           le-leb 1 (maxOf ts) (max-sane ts (t .1 .1 .1 .0) .0),
           (
             le-leb (maxOf ts) mostElements (max-sane ts (t .1 .1 .1 .0) .1),
-            (t .1 .1 .1 .1 .0, (k .1 .1 .1 .1 .1 .1 .0, (refers-sane tables (keyBase ks) ks (k .1 .1 .1 .1 .1 .1 .1 .0), tt))),
+            (t .1 .1 .1 .1 .0, (k .1 .1 .1 .1 .1 .1 .0, (refers-sane tables (keyBase ks) ks (k .1 .1 .1 .1 .1 .1 .1 .0), (refers-as tables (keyBase ks) ks (k .1 .1 .1 .1 .1 .1 .1 .0), (low-fits (keyBase ks) ks, (high-fits (keyBase ks) ks, (limits-as (keyBase ks) ks, tt))))))),
           ),
         ),
       ),
@@ -233,6 +270,24 @@ parts-sane p q f h [] i e = refl
 parts-sane p q f h (m ∷ cs) i e =
     rw (h m (and-l (isId (m .name)) _ i) (and-l (q (m .value)) _ e)) (parts-sane p q f h cs (and-r (isId (m .name)) _ i) (and-r (q (m .value)) _ e))
 
+-- "maxRows (1 or more)"
+max-rows-sane : (ms : List Named) → may (ascii "maxRows") (λ (j : Json). isWithin 1 9223372036854775807 (wholeOf j)) ms ≡ true → maxRowsSane (maxRowsOf ms) ≡ true
+max-rows-sane ms h =
+    split
+    (hasMember (ascii "maxRows") ms)
+    (λ e.
+    let w = within-size 1 9223372036854775807 0 (wholeOf (memberValue (ascii "maxRows") ms)) (may-true _ _ h e) in
+    rw (maxRowsOf, e, le-leb _ _ (w .0), le-leb _ _ (w .1)))
+    (λ e. rw (maxRowsOf, e))
+
+column-name : (tables : List (List ℕ)) (m : Named) → columnOf tables m .name ≡ m .name
+unfolding columnOf
+column-name tables m = refl
+
+table-name : (tables : List (List ℕ)) (m : Named) → tableOf tables m .name ≡ m .name
+unfolding tableOf
+table-name tables m = refl
+
 table-sane : (tables : List (List ℕ)) (m : Named) → isId (m .name) ≡ true → tableFits tables (m .value) ≡ true → saneTable (length tables) (tableOf tables m) ≡ true
 unfolding tableFits columnsFit tableOf saneTable
 table-sane tables m i h =
@@ -253,7 +308,16 @@ table-sane tables m i h =
         rw (length-map cs (columnOf tables)) (c .1 .1 .0),
         (
           parts-sane (saneColumn (length tables)) (columnFits tables) (columnOf tables) (column-sane tables) cs (counting-all isId columns (c .1 .0)) (c .1 .1 .1 .0),
-          (rw (length-map is (indexOf (names cs))) (x .0), (rw (length-map cs (columnOf tables)) (x .1), tt)),
+          (
+            rw (length-map is (indexOf (names cs))) (x .0),
+            (
+              rw (length-map cs (columnOf tables)) (x .1),
+              (
+                rw (named-parts (columnOf tables) (λ (c : Column). c .name) (column-name tables) cs) (counting-distinct columns),
+                (max-rows-sane ms (t .1 .1 .0), tt),
+              ),
+            ),
+          ),
         ),
       ),
     )
@@ -277,7 +341,7 @@ database-sane j h =
           rw
               (n, ← k)
               (parts-sane (saneTable (length (names ts))) (tableFits (names ts)) (tableOf (names ts)) (table-sane (names ts)) ts (counting-all isId tables (t .1 .0)) (t .1 .1 .1 .0)),
-          tt,
+          (rw (named-parts (tableOf (names ts)) (λ (t : Table). t .name) (table-name (names ts)) ts) (counting-distinct tables), tt),
         ),
       ),
     )
@@ -298,7 +362,10 @@ pub read-sane : (s : List ℕ) (d : Database) → readSchema s ≡ some d → sa
 unfolding readSchema
 read-sane s d h = schema-sane (textAt s .tree) d (when-true (isRead (textAt s .read)) _ d (when-true (leb (length s) mostSchemaBytes) _ d h .1) .1)
 
--- and so is each of its columns
+-- and so is each of its columns; column c of table t
+abbrev pub columnAt : Schema → ℕ → ℕ → Option Column
+columnAt s t c = nth (columnsOf s t) c
+
 columns-sane : (n : ℕ) (s : Schema) (t : ℕ) → all (saneTable n) s ≡ true → all (saneColumn n) (columnsOf s t) ≡ true
 unfolding saneTable
 columns-sane n [] t h = refl

@@ -11,20 +11,19 @@ use lib.Dec.{eqb, leb}
 use lib.ListN.{length, take, replicate}
 use lib.Seq.{take-append-add}
 use Rattle.model.specs.Octets.{filled}
-use Rattle.model.specs.Limits.{lastNumber, freshBytes, leastRecords, leastAnswer, leastMark}
+use Rattle.model.specs.Limits.{lastNumber, freshBytes, leastRecords, leastAnswer, leastMark, storeBytes}
 use Rattle.model.specs.Base.{all, every, flat}
 use Rattle.model.specs.Schema.{Schema, Database}
-use Rattle.model.specs.SchemaText.{readSchema}
 use Rattle.model.specs.Value.{meets}
 use Rattle.model.specs.Rows.{Row}
 use Rattle.model.specs.Commit.{lawful}
 use Rattle.model.proofs.Order.{Sorted, Good}
-use Rattle.model.proofs.Sane.{sane}
+use Rattle.model.specs.Sane.{sane}
 use Rattle.model.specs.Records.{Change, diff, mark, numberFrom, encode, pieces}
 use Rattle.model.specs.Refusals.{isRefusal}
 use Rattle.model.specs.Replies.{Reply}
-use Rattle.model.specs.Areas.{Store, storeBytes, encodeStore, storeOf, tablesIn, rowsPass, storeGood}
-use Rattle.model.specs.Calls.{zeroed, lengthsGood, Transacted, transactRefused, transactReplied, heldDatabase, replyOf, transactOn, storeTransact, Marked, markOn, storeMark}
+use Rattle.model.specs.Areas.{Store, encodeStore, storeOf, rowsPass, storeGood}
+use Rattle.model.specs.Calls.{zeroed, lengthsGood, Transacted, transactRefused, transactReplied, replyOf, transactOn, storeTransact, Marked, markOn, storeMark}
 use Rattle.model.specs.Histories.{StoreCall, transact, askMark, areBytes, ofBytes, areaAfter, recordsIn, sentIn}
 use Rattle.model.proofs.StateHistory as History
 use Rattle.model.proofs.StateDemand.{Keeps}
@@ -37,10 +36,9 @@ use Rattle.model.proofs.Bytes.{pieces-of}
 use Rattle.model.proofs.Past.{call-room}
 use Rattle.model.proofs.Same.{diff-self}
 use Rattle.model.proofs.GoodOrder.{good-of, meets-pass, meet-of, of-meet}
-use Rattle.model.proofs.Accepted.{narrow, text-kept}
+use Rattle.model.proofs.Accepted.{narrow, sane-kept}
 use Rattle.model.proofs.Lengths.{commit-length, commit-pieces}
 use Rattle.model.proofs.Areas.{store-of-encode, store-of-length}
-use Rattle.model.proofs.SchemaLaws.{read-sane}
 use Rattle.model.proofs.States.{StoreFine, store-parts, store-whole}
 use Rattle.model.proofs.TransactKeeps.{InOrder}
 use Rattle.model.proofs.ReplyLaws.{replyRows, AsCall, reply-call, rows-keep}
@@ -154,66 +152,62 @@ module _ (area out : List ℕ) where
 
 -- ── one call ──
 -- the store that a history's state is
-abbrev pub storeAt : List ℕ → ℕ → State → Store
-storeAt schema run σ = record { run = run; number = σ .last; schema = schema; rows = σ .rows }
+abbrev pub storeAt : Database → ℕ → State → Store
+storeAt d run σ = record { run = run; number = σ .last; database = d; rows = σ .rows }
 
-module _ (schema : List ℕ) (run : ℕ) (d : Database) where
+module _ (d : Database) (run : ℕ) where
   -- what a call on a state's area gives is what a history's call on the state gives
   pub record Called (σ : State) (c : StoreCall) (k : Call) : Type 0 where
-    pub good : storeGood (storeAt schema run (stateAfter (d .tables) run σ k)) ≡ true
-    pub area : areaAfter (encodeStore (storeAt schema run σ)) c ≡ encodeStore (storeAt schema run (stateAfter (d .tables) run σ k))
-    pub records : recordsIn (encodeStore (storeAt schema run σ)) c ≡ map encode (numberFrom run (σ .last) (changesOf (d .tables) run σ k))
-    pub sent : sentIn (encodeStore (storeAt schema run σ)) c ≡ map encode (recordsOf (d .tables) run σ k)
+    pub good : storeGood (storeAt d run (stateAfter (d .tables) run σ k)) ≡ true
+    pub area : areaAfter (encodeStore (storeAt d run σ)) c ≡ encodeStore (storeAt d run (stateAfter (d .tables) run σ k))
+    pub records : recordsIn (encodeStore (storeAt d run σ)) c ≡ map encode (numberFrom run (σ .last) (changesOf (d .tables) run σ k))
+    pub sent : sentIn (encodeStore (storeAt d run σ)) c ≡ map encode (recordsOf (d .tables) run σ k)
 
-  module _ (read : readSchema schema ≡ some d) (σ : State) (g : storeGood (storeAt schema run σ) ≡ true) where
+  module _ (σ : State) (g : storeGood (storeAt d run σ) ≡ true) where
     abbrev s : Schema
     s = d .tables
 
     abbrev before : List ℕ
-    before = encodeStore (storeAt schema run σ)
+    before = encodeStore (storeAt d run σ)
 
     -- an area and a records buffer are those of a history's call
     abbrev Gives : Call → Transacted → Type 0
     Gives c z =
-        (z .area ≡ encodeStore (storeAt schema run (stateAfter s run σ c)))
+        (z .area ≡ encodeStore (storeAt d run (stateAfter s run σ c)))
         × (pieces (z .records) ≡ map encode (numberFrom run (σ .last) (changesOf s run σ c)))
 
+    fine : StoreFine (storeAt d run σ)
+    fine = store-parts (storeAt d run σ) g
+
     sound : sane d ≡ true
-    sound = read-sane schema d read
-
-    tables-are : tablesIn schema ≡ s
-    tables-are = ap Rattle.model.specs.Areas.tablesOf read
-
-    fine : StoreFine (storeAt schema run σ)
-    fine = store-parts (storeAt schema run σ) g
+    sound = fine .accepted
 
     stored : InOrder s (σ .rows)
-    stored = let o : InOrder (tablesIn schema) (σ .rows) = record { good = fine .rows; meet = fine .meets; laws = fine .lawful } in rw tables-are at o
+    stored = record { good = fine .rows; meet = fine .meets; laws = fine .lawful }
 
-    there : storeOf before ≡ some (storeAt schema run σ)
-    there = store-of-encode (storeAt schema run σ) g
+    there : storeOf before ≡ some (storeAt d run σ)
+    there = store-of-encode (storeAt d run σ) g
 
     sized : length before ≡ storeBytes
-    sized = store-of-length before (storeAt schema run σ) there
+    sized = store-of-length before (storeAt d run σ) there
 
     -- the store after a call is in good order
-    good-after : (c : Call) → InOrder s (rowsAfter s run σ c) → storeGood (storeAt schema run (stateAfter s run σ c)) ≡ true
+    good-after : (c : Call) → InOrder s (rowsAfter s run σ c) → storeGood (storeAt d run (stateAfter s run σ c)) ≡ true
     good-after c w =
-        let o : InOrder (tablesIn schema) (rowsAfter s run σ c) = rw tables-are w in
-        store-whole (storeAt schema run (stateAfter s run σ c))
+        store-whole (storeAt d run (stateAfter s run σ c))
         (record {
           accepted = fine .accepted;
           run = fine .run;
           number = omega (arith, call-room s run σ c (omega (arith, fine .number)));
-          rows = o .good;
-          meets = o .meet;
-          lawful = o .laws;
+          rows = w .good;
+          meets = w .meet;
+          lawful = w .laws;
         })
 
     -- a call that leaves the state and sends nothing
     idle : (c : Call) → rowsAfter s run σ c ≡ σ .rows → changesOf s run σ c ≡ [] → (z : Transacted) → z .area ≡ before → pieces (z .records) ≡ [] → Gives c z
     idle c e n z p q = (
-      p ∙ (λ i. encodeStore (record { run = run; number = (sym (add-zero (σ .last)) ∙ ap (λ (l : List Change). σ .last + length l) (sym n)) i; schema = schema; rows = sym e i })),
+      p ∙ (λ i. encodeStore (record { run = run; number = (sym (add-zero (σ .last)) ∙ ap (λ (l : List Change). σ .last + length l) (sym n)) i; database = d; rows = sym e i })),
       q ∙ ap (λ (l : List Change). map encode (numberFrom run (σ .last) l)) (sym n),
     )
 
@@ -226,12 +220,10 @@ module _ (schema : List ℕ) (run : ℕ) (d : Database) where
 
       -- the reply on the state
       abbrev said : Reply
-      said = replyOf (storeAt schema run σ) q f (length t)
+      said = replyOf (storeAt d run σ) q f (length t)
 
       replied : AsCall s (σ .last) (σ .rows) said (replyRows d q f (length t) (σ .rows))
-      replied =
-          let p : heldDatabase (storeAt schema run σ) ≡ d = ap (λ (o : Option Database). elim o [ none ↦ record { name = []; tables = [] } | some x ↦ x ]) read in
-          rw p (reply-call d (σ .last) (σ .rows) q f (length t) (stored .good .sorted))
+      replied = reply-call d (σ .last) (σ .rows) q f (length t) (stored .good .sorted)
 
       module _ (h : fitLengths f r t ≡ true) where
         makes-is : makes d q f r t (σ .rows) ≡ replyRows d q f (length t) (σ .rows)
@@ -250,16 +242,16 @@ module _ (schema : List ℕ) (run : ℕ) (d : Database) where
           written =
               let p = parts (eqb (length f) freshBytes ∷ leb leastRecords (length r) ∷ leb leastAnswer (length t) ∷ []) h in
               split (room s run σ (makes d q f r t))
-              (λ e. rw e (commit-filled s run (length r) (σ .rows) (makes d q f r t (σ .rows)) (σ .last) (stored .good) w (rw tables-are at (text-kept schema .narrow)) (fine .run)
+              (λ e. rw e (commit-filled s run (length r) (σ .rows) (makes d q f r t (σ .rows)) (σ .last) (stored .good) w (sane-kept d sound .narrow) (fine .run)
               (leb-true (σ .last + length (diff s (σ .rows) (makes d q f r t (σ .rows)))) lastNumber e) (leb-true leastRecords (length r) (p .1 .0))))
               (λ e. rw e (ap pieces (no-bytes (length r)) ∙ none-there (length r)))
 
-          gives : Gives call (transactReplied before r t (storeAt schema run σ) said)
+          gives : Gives call (transactReplied before r t (storeAt d run σ) said)
           gives =
               by-test (Gives call) (isRefusal (said .answer))
               (λ e. idle call (sym rows-are ∙ replied .refuses e .0) (sym changes-are ∙ replied .refuses e .1) (transactRefused (said .answer) before r t) refl (none-there (length r)))
               (λ e. (
-                λ i. encodeStore (record { run = run; number = σ .last + length (changes-are i); schema = schema; rows = rows-are i }),
+                λ i. encodeStore (record { run = run; number = σ .last + length (changes-are i); database = d; rows = rows-are i }),
                 ap (λ (l : List Change). pieces (filled (length r) (flat (map encode (numberFrom run (σ .last) l))))) changes-are ∙ written,
               ))
 
@@ -267,7 +259,7 @@ module _ (schema : List ℕ) (run : ℕ) (d : Database) where
     module _ (q f r t : List ℕ) (b : areBytes f ≡ true) where
       transact-gives : Gives (History.transact (makes d q f r t)) (storeTransact before q f r t)
       transact-gives = split (fitLengths f r t)
-          (λ h. rw (transact-there before q f r t (storeAt schema run σ) (lengths-are q f r t ∙ h) there) (gives q f r t h (makes-stored d sound q f r t b (σ .rows) stored .good)))
+          (λ h. rw (transact-there before q f r t (storeAt d run σ) (lengths-are q f r t ∙ h) there) (gives q f r t h (makes-stored d sound q f r t b (σ .rows) stored .good)))
           (λ h.
           let n : makes d q f r t (σ .rows) ≡ σ .rows =
           by-test (λ (z : List Row). z ≡ σ .rows) (fitLengths f r t && inOrder s (σ .rows)) (λ e. absurd (clash (fitLengths f r t) (and-l (fitLengths f r t) (inOrder s (σ .rows)) e) h)) (λ e. refl) in
@@ -294,9 +286,9 @@ module _ (schema : List ℕ) (run : ℕ) (d : Database) where
         ∙ pieces-of (mark run (σ .last) ∷ []) (length o - length b) ((fine .run, fine .number), tt) in
         record {
           good = good-after History.askMark stored;
-          area = λ i. encodeStore (record { run = run; number = sym (add-zero (σ .last)) i; schema = schema; rows = σ .rows });
+          area = λ i. encodeStore (record { run = run; number = sym (add-zero (σ .last)) i; database = d; rows = σ .rows });
           records = refl;
-          sent = ap pieces (mark-there before o (storeAt schema run σ) (tests ∙ h) there) ∙ e;
+          sent = ap pieces (mark-there before o (storeAt d run σ) (tests ∙ h) there) ∙ e;
         })
         (λ h.
         let idly = idle (History.transact (λ (rows : List Row). rows)) (same-rows s run σ (λ (rows : List Row). rows) refl) (same-changes s run σ (λ (rows : List Row). rows) (stored .good .sorted) refl) (transactRefused WrongLength before [] []) refl refl in

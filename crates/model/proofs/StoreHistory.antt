@@ -9,7 +9,6 @@ use lib.Dec.{eqb}
 use lib.ListN.{length, getD, take}
 use Rattle.model.specs.Base.{all}
 use Rattle.model.specs.Schema.{Schema, Database}
-use Rattle.model.specs.SchemaText.{readSchema}
 use Rattle.model.specs.Records.{Change, born, gone, column, end, isEnd, numbered, numberFrom, encode, endKind}
 use Rattle.model.specs.Areas.{encodeStore, storeGood}
 use Rattle.model.specs.Histories.{StoreCall, ofBytes, areaAfterAll, recordsOf, sentOf, changeOf, changeIn, endsCommit}
@@ -27,24 +26,24 @@ number-append run k (e ∷ es) fs =
     ap (λ (l : List (List ℕ)). encode (numbered run (suc k) e) ∷ l)
     (number-append run (suc k) es fs ∙ ap (λ (n : ℕ). map encode (numberFrom run (suc k) es) ++ map encode (numberFrom run n fs)) (omega arith))
 
-module _ (schema : List ℕ) (run : ℕ) (d : Database) where
+module _ (d : Database) (run : ℕ) where
   abbrev s : Schema
   s = d .tables
 
   -- what calls on a state's area give is what a history's calls on the state give
   pub record Lifted (σ : State) (cs : List StoreCall) : Type 0 where
-    pub good : storeGood (storeAt schema run (finally (d .tables) run σ (map (callOf d) cs))) ≡ true
-    pub area : areaAfterAll (encodeStore (storeAt schema run σ)) cs ≡ encodeStore (storeAt schema run (finally (d .tables) run σ (map (callOf d) cs)))
-    pub records : recordsOf (encodeStore (storeAt schema run σ)) cs ≡ map encode (numberFrom run (σ .last) (changes (d .tables) run σ (map (callOf d) cs)))
-    pub sent : sentOf (encodeStore (storeAt schema run σ)) cs ≡ written (d .tables) run σ (map (callOf d) cs)
+    pub good : storeGood (storeAt d run (finally (d .tables) run σ (map (callOf d) cs))) ≡ true
+    pub area : areaAfterAll (encodeStore (storeAt d run σ)) cs ≡ encodeStore (storeAt d run (finally (d .tables) run σ (map (callOf d) cs)))
+    pub records : recordsOf (encodeStore (storeAt d run σ)) cs ≡ map encode (numberFrom run (σ .last) (changes (d .tables) run σ (map (callOf d) cs)))
+    pub sent : sentOf (encodeStore (storeAt d run σ)) cs ≡ written (d .tables) run σ (map (callOf d) cs)
 
-  pub lifted : readSchema schema ≡ some d → (σ : State) → storeGood (storeAt schema run σ) ≡ true → (cs : List StoreCall) → all ofBytes cs ≡ true → Lifted σ cs
-  lifted read σ g [] b = record { good = g; area = refl; records = refl; sent = refl }
-  lifted read σ g (c ∷ cs) b =
-      let k = called schema run d read σ g c (all-head ofBytes c cs b) in
-      let a : List ℕ = encodeStore (storeAt schema run σ) in
+  pub lifted : (σ : State) → storeGood (storeAt d run σ) ≡ true → (cs : List StoreCall) → all ofBytes cs ≡ true → Lifted σ cs
+  lifted σ g [] b = record { good = g; area = refl; records = refl; sent = refl }
+  lifted σ g (c ∷ cs) b =
+      let k = called d run σ g c (all-head ofBytes c cs b) in
+      let a : List ℕ = encodeStore (storeAt d run σ) in
       let next : State = stateAfter s run σ (callOf d c) in
-      let r = lifted read next (k .good) cs (all-tail ofBytes c cs b) in
+      let r = lifted next (k .good) cs (all-tail ofBytes c cs b) in
       record {
         good = r .good;
         area = ap (λ (x : List ℕ). areaAfterAll x cs) (k .area) ∙ r .area;

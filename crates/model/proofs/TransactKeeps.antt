@@ -13,7 +13,7 @@ use Rattle.model.specs.Base.{all}
 use Rattle.model.specs.Limits.{freshBytes, lastNumber}
 use Rattle.model.specs.Json.{Named}
 use Rattle.model.specs.Schema.{Schema, Database}
-use Rattle.model.proofs.Sane.{columnSane, saneColumn, sane}
+use Rattle.model.specs.Sane.{columnSane, saneColumn, sane}
 use Rattle.model.specs.Rows.{Row}
 use Rattle.model.proofs.Order.{Good, AllMeet}
 use Rattle.model.specs.Faults.{isFine}

@@ -6,26 +6,21 @@ use mathlib.Core.List.{List, [], _∷_, _++_, map}
 use mathlib.Core.Option.{Option, none, some}
 use lib.Dec.{eqb, ltb, leb}
 use lib.ListN.{length, getD, take, drop, replicate}
-use Rattle.model.specs.Octets.{big, value, part, eqBytes}
-use Rattle.model.specs.Limits.{mostSchemaBytes, mostColumns, mostRows, mostElements}
-use Rattle.model.specs.Base.{all, every, isSome, flat}
+use Rattle.model.specs.Octets.{big, value, part, chunks, eqBytes}
+use Rattle.model.specs.Limits.{mostColumns, mostRows, mostElements, numberBytes, idBytes, idOffset, countsOffset, rowCellCount, rowBytes, entryBytes, entryCount, runOffset, numberOffset, catalogOffset, countOffset, rowsOffset, storeBytes}
+use Rattle.model.specs.Base.{all, every, flat}
 use Rattle.model.specs.Schema.{Column, Schema, Database, columnsOf}
 use Rattle.model.specs.Value.{Value, blank, canonicalFor, meets}
 use Rattle.model.specs.Rows.{Row, key, hasId}
 use Rattle.model.specs.Records.{known, cut}
 use Rattle.model.specs.Mirror.{Mirror}
-use Rattle.model.specs.SchemaText.{readSchema}
+use Rattle.model.specs.Sane.{sane}
 use Rattle.model.specs.Commit.{lawful}
+use Rattle.model.specs.Catalog.{bit, databaseFrom, catalogOf}
 
 -- ── a row in 25 cells of 25 bytes: cell 0 is the table, the id, six counts and two zeros; cells 1 + 4c to 4 + 4c are the atoms of column c ──
-abbrev pub rowCellCount : ℕ
-rowCellCount = 25
-
-abbrev pub rowBytes : ℕ
-rowBytes = 625
-
 abbrev pub headCell : Row → List ℕ
-headCell r = r .table ∷ big 16 (r .id) ++ (map (λ (v : Value). v .count) (r .columns) ++ replicate (8 - length (r .columns)) 0)
+headCell r = r .table ∷ big idBytes (r .id) ++ (map (λ (v : Value). v .count) (r .columns) ++ replicate (mostColumns + 2 - length (r .columns)) 0)
 
 abbrev pub atomCells : List Value → List (List ℕ)
 atomCells [] = []
@@ -45,28 +40,15 @@ unfoldable pub rowFrom : Schema → List (List ℕ) → Row
 rowFrom s cells =
     let head = getD cells 0 [] in
     let t = getD head 0 0 in
-    record { table = t; id = value (part 1 16 head); columns = columnsFrom (length (columnsOf s t)) (drop 17 head) (drop 1 cells) }
+    record { table = t; id = value (part idOffset idBytes head); columns = columnsFrom (length (columnsOf s t)) (drop countsOffset head) (drop 1 cells) }
 
--- ── a store's area: run 4, number 4, schema text length 2, the text in 4,096 bytes, row count 1, 32 rows; unused bytes zero ──
+-- ── a store's area: run 4, number 4, the catalog in its entries, row count 1, 32 rows; unused bytes zero ──
+-- "the area keeps the schema": as the database that its text was read as
 pub record Store : Type 0 where
   pub run : ℕ
   pub number : ℕ
-  pub schema : List ℕ
+  pub database : Database
   pub rows : List Row
-
-abbrev pub storeBytes : ℕ
-storeBytes = 24107
-
--- "the area keeps the schema": its text; none of its tables where it is refused
-abbrev pub tablesOf : Option Database → Schema
-tablesOf none = []
-tablesOf (some d) = d .tables
-
-abbrev pub tablesIn : List ℕ → Schema
-tablesIn text = tablesOf (readSchema text)
-
-abbrev pub textBytes : List ℕ → List ℕ
-textBytes text = big 2 (length text) ++ (text ++ replicate (mostSchemaBytes - length text) 0)
 
 abbrev pub rowsBytes : List Row → List ℕ
 rowsBytes [] = []
@@ -74,43 +56,43 @@ rowsBytes (r ∷ rs) = flat (rowCells r) ++ rowsBytes rs
 
 unfoldable pub encodeStore : Store → List ℕ
 encodeStore st =
-    big 4 (st .run) ++ (big 4 (st .number) ++ (textBytes (st .schema) ++ (length (st .rows) ∷ rowsBytes (st .rows) ++ replicate (rowBytes * (mostRows - length (st .rows))) 0)))
+    big numberBytes (st .run)
+    ++ (big numberBytes (st .number)
+    ++ (flat (catalogOf (st .database))
+    ++ (length (st .rows) ∷ rowsBytes (st .rows) ++ replicate (rowBytes * (mostRows - length (st .rows))) 0)))
 
 abbrev pub rowsFrom : Schema → ℕ → List ℕ → List Row
 rowsFrom s zero b = []
 rowsFrom s (suc n) b = rowFrom s (cut rowCellCount b) ∷ rowsFrom s n (drop rowBytes b)
 
-abbrev pub textFrom : List ℕ → List ℕ
-textFrom a = part 10 (value (part 8 2 a)) a
+-- the catalog's entries, and what they say
+abbrev pub entriesIn : List ℕ → List (List ℕ)
+entriesIn a = chunks entryBytes entryCount (drop catalogOffset a)
+
+abbrev pub databaseIn : List ℕ → Database
+databaseIn a = databaseFrom (entriesIn a)
 
 unfoldable pub decodeStore : List ℕ → Store
 decodeStore a =
     record {
-      run = value (part 0 4 a);
-      number = value (part 4 4 a);
-      schema = textFrom a;
-      rows = rowsFrom (tablesIn (textFrom a)) (getD a 4106 0) (drop 4107 a);
+      run = value (part runOffset numberBytes a);
+      number = value (part numberOffset numberBytes a);
+      database = databaseIn a;
+      rows = rowsFrom (databaseIn a .tables) (getD a countOffset 0) (drop rowsOffset a);
     }
 
 -- ── a mirror's area: the same, and after it highest heard 4, whether anything was heard 1, whether n is 0 or ends a commit 1 ──
 pub record MirrorState : Type 0 where
   pub run : ℕ
-  pub schema : List ℕ
+  pub database : Database
   pub mirror : Mirror
-
-abbrev pub mirrorBytes : ℕ
-mirrorBytes = 24113
-
-abbrev pub bit : Bool → ℕ
-bit true = 1
-bit false = 0
 
 -- n stands where a store has its number
 abbrev pub storePart : MirrorState → Store
-storePart m = record { run = m .run; number = m .mirror .n; schema = m .schema; rows = m .mirror .rows }
+storePart m = record { run = m .run; number = m .mirror .n; database = m .database; rows = m .mirror .rows }
 
 unfoldable pub encodeMirror : MirrorState → List ℕ
-encodeMirror m = encodeStore (storePart m) ++ (big 4 (m .mirror .top) ++ bit (m .mirror .heard) ∷ bit (m .mirror .whole) ∷ [])
+encodeMirror m = encodeStore (storePart m) ++ (big numberBytes (m .mirror .top) ++ bit (m .mirror .heard) ∷ bit (m .mirror .whole) ∷ [])
 
 unfoldable pub decodeMirror : List ℕ → MirrorState
 decodeMirror a =
@@ -118,8 +100,8 @@ decodeMirror a =
     let b = drop storeBytes a in
     record {
       run = st .run;
-      schema = st .schema;
-      mirror = record { rows = st .rows; n = st .number; top = value (take 4 b); heard = eqb (getD b 4 0) 1; whole = eqb (getD b 5 0) 1 };
+      database = st .database;
+      mirror = record { rows = st .rows; n = st .number; top = value (take numberBytes b); heard = eqb (getD b numberBytes 0) 1; whole = eqb (getD b (numberBytes + 1) 0) 1 };
     }
 
 -- ── good order ──
@@ -156,7 +138,7 @@ rowsPass p s rows = every (rowsTests p s rows)
 
 -- "it holds an accepted schema"; the numbers have their widths
 abbrev pub headTests : Store → List Bool
-headTests st = isSome (readSchema (st .schema)) ∷ ltb (st .run) (256 ^ 4) ∷ ltb (st .number) (256 ^ 4) ∷ []
+headTests st = sane (st .database) ∷ ltb (st .run) (256 ^ numberBytes) ∷ ltb (st .number) (256 ^ numberBytes) ∷ []
 
 -- an area in good order is the encoding of a state that passes a test: that state, or none
 module _ {S : Type 0} (encode : S → List ℕ) (decode : List ℕ → S) (good : S → Bool) where
@@ -165,7 +147,7 @@ module _ {S : Type 0} (encode : S → List ℕ) (decode : List ℕ → S) (good 
 
 -- "Good order, for a store: .. every value is canonical and meets its type, and every commit rule below holds"
 unfoldable pub storeGood : Store → Bool
-storeGood st = every (headTests st) && rowsPass meets (tablesIn (st .schema)) (st .rows) && lawful (tablesIn (st .schema)) (st .rows)
+storeGood st = every (headTests st) && rowsPass meets (st .database .tables) (st .rows) && lawful (st .database .tables) (st .rows)
 
 -- the state of a store's area; none where it is not in good order (refusal 1)
 unfoldable pub storeOf : List ℕ → Option Store
@@ -173,11 +155,11 @@ storeOf a = stateOf encodeStore decodeStore storeGood a
 
 -- "n at most the highest heard"; one that has heard nothing has highest 0, and n = 0 is whole
 abbrev pub mirrorTests : Mirror → List Bool
-mirrorTests m = ltb (m .top) (256 ^ 4) ∷ leb (m .n) (m .top) ∷ (m .heard || eqb (m .top) 0) ∷ (m .whole || not (eqb (m .n) 0)) ∷ []
+mirrorTests m = ltb (m .top) (256 ^ numberBytes) ∷ leb (m .n) (m .top) ∷ (m .heard || eqb (m .top) 0) ∷ (m .whole || not (eqb (m .n) 0)) ∷ []
 
 -- "For a mirror: the same of schema and ids, values canonical, n at most the highest heard; limits, minimum counts and references aren't judged"
 unfoldable pub mirrorGood : MirrorState → Bool
-mirrorGood m = every (headTests (storePart m)) && rowsPass canonicalFor (tablesIn (m .schema)) (m .mirror .rows) && every (mirrorTests (m .mirror))
+mirrorGood m = every (headTests (storePart m)) && rowsPass canonicalFor (m .database .tables) (m .mirror .rows) && every (mirrorTests (m .mirror))
 
 unfoldable pub mirrorOf : List ℕ → Option MirrorState
 mirrorOf a = stateOf encodeMirror decodeMirror mirrorGood a

@@ -8,15 +8,15 @@ use mathlib.Core.Option.{Option, none, some}
 use lib.Dec.{eqb, leb}
 use lib.ListN.{length, replicate}
 use Rattle.model.specs.Octets.{value, filled}
-use Rattle.model.specs.Limits.{freshBytes, leastRecords, leastAnswer, leastMark}
-use Rattle.model.specs.Base.{every, isSome, flat}
+use Rattle.model.specs.Limits.{storeBytes, mirrorBytes, freshBytes, leastRecords, leastAnswer, leastMark}
+use Rattle.model.specs.Base.{every, flat}
 use Rattle.model.specs.Schema.{Database}
 use Rattle.model.specs.SchemaText.{readSchema}
 use Rattle.model.specs.Refusals.{isRefusal}
 use Rattle.model.specs.Replies.{Reply, reply}
 use Rattle.model.specs.Records.{mark, numberFrom, encode}
 use Rattle.model.specs.Mirror.{Mirror, fresh, level, Step, step, hasRow, columnAnswer, columnBytes}
-use Rattle.model.specs.Areas.{Store, storeBytes, encodeStore, storeOf, MirrorState, mirrorBytes, encodeMirror, mirrorOf, tablesIn}
+use Rattle.model.specs.Areas.{Store, encodeStore, storeOf, MirrorState, encodeMirror, mirrorOf}
 use Rattle.model.specs.declared.Answer.{Answer}
 use Rattle.model.specs.declared.Answer.the-variants.{Accepted, Disordered, WrongLength, BadSchema}
 
@@ -29,18 +29,25 @@ pub record Started : Type 0 where
   pub answer : Answer
   pub area : List ℕ
 
-abbrev pub startAs : ℕ → List ℕ → List ℕ → List ℕ → Started
+abbrev pub startAs : ℕ → List ℕ → List ℕ → (Database → List ℕ) → Started
 startAs bytes area schema made =
     elim (eqb (length area) bytes) [
-      | true ↦ elim (isSome (readSchema schema)) [ true ↦ record { answer = Accepted; area = made } | false ↦ record { answer = BadSchema; area = area } ]
+      | true ↦ elim (readSchema schema) [ none ↦ record { answer = BadSchema; area = area } | some d ↦ record { answer = Accepted; area = made d } ]
       | false ↦ record { answer = WrongLength; area = area }
     ]
 
+-- "makes no rows and number 0"
+abbrev pub newStore : ℕ → Database → Store
+newStore run d = record { run = run; number = 0; database = d; rows = [] }
+
+abbrev pub newMirror : ℕ → Database → MirrorState
+newMirror run d = record { run = run; database = d; mirror = fresh }
+
 unfoldable pub storeStart : List ℕ → List ℕ → ℕ → Started
-storeStart area schema run = startAs storeBytes area schema (encodeStore (record { run = run; number = 0; schema = schema; rows = [] }))
+storeStart area schema run = startAs storeBytes area schema (λ (d : Database). encodeStore (newStore run d))
 
 unfoldable pub mirrorStart : List ℕ → List ℕ → ℕ → Started
-mirrorStart area schema run = startAs mirrorBytes area schema (encodeMirror (record { run = run; schema = schema; mirror = fresh }))
+mirrorStart area schema run = startAs mirrorBytes area schema (λ (d : Database). encodeMirror (newMirror run d))
 
 -- ── transact ──
 pub record Transacted : Type 0 where
@@ -59,7 +66,7 @@ transactRefused a area records text = record { answer = a; area = area; records 
 
 -- the store after a reply: its rows, and its number moved by the changes
 abbrev pub storeAfter : Store → Reply → Store
-storeAfter st r = record { run = st .run; number = st .number + length (r .changes); schema = st .schema; rows = r .rows }
+storeAfter st r = record { run = st .run; number = st .number + length (r .changes); database = st .database; rows = r .rows }
 
 -- the bytes of its records: "Numbers run on from 1"
 abbrev pub recordsAfter : Store → Reply → List ℕ
@@ -78,12 +85,8 @@ transactReplied area records text st r =
           }
     ]
 
--- a store in good order holds an accepted schema
-abbrev pub heldDatabase : Store → Database
-heldDatabase st = elim (readSchema (st .schema)) [ none ↦ record { name = []; tables = [] } | some d ↦ d ]
-
 abbrev pub replyOf : Store → List ℕ → List ℕ → ℕ → Reply
-replyOf st request fresh room = reply (heldDatabase st) (st .number) (st .rows) request fresh room
+replyOf st request fresh room = reply (st .database) (st .number) (st .rows) request fresh room
 
 abbrev pub transactOn : List ℕ → List ℕ → List ℕ → List ℕ → List ℕ → Option Store → Transacted
 transactOn area request fresh records text none = transactRefused Disordered area records text
@@ -118,7 +121,7 @@ pub record Arrived : Type 0 where
   pub area : List ℕ
 
 abbrev pub mirrorAfter : MirrorState → Mirror → MirrorState
-mirrorAfter m next = record { run = m .run; schema = m .schema; mirror = next }
+mirrorAfter m next = record { run = m .run; database = m .database; mirror = next }
 
 abbrev pub hearStep : List ℕ → MirrorState → Step → Arrived
 hearStep area m x =
@@ -129,7 +132,7 @@ hearStep area m x =
 
 abbrev pub hearOn : List ℕ → List ℕ → Option MirrorState → Arrived
 hearOn area x none = record { answer = Disordered; area = area }
-hearOn area x (some m) = hearStep area m (step (tablesIn (m .schema)) (m .run) (m .mirror) x)
+hearOn area x (some m) = hearStep area m (step (m .database .tables) (m .run) (m .mirror) x)
 
 unfoldable pub mirrorHear : List ℕ → List ℕ → Arrived
 mirrorHear area x = elim (eqb (length area) mirrorBytes) [ true ↦ hearOn area x (mirrorOf area) | false ↦ record { answer = WrongLength; area = area } ]

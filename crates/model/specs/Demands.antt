@@ -9,13 +9,14 @@ use lib.Dec.{eqb}
 use lib.ListN.{length, getD, take, replicate}
 use Rattle.model.specs.Octets.{value}
 use Rattle.model.specs.Base.{all}
-use Rattle.model.specs.Schema.{Schema}
+use Rattle.model.specs.Schema.{Schema, Database}
+use Rattle.model.specs.SchemaText.{readSchema}
 use Rattle.model.specs.Rows.{Row, keyOf, has}
 use Rattle.model.specs.Refusals.{numberOf, isRefusal}
 use Rattle.model.specs.Records.{Record, mark, numberFrom, encode, decode}
-use Rattle.model.specs.Mirror.{Mirror, fresh, hears, applies, highest, something, numberCarried, columnBytes, columnAnswer}
-use Rattle.model.specs.Areas.{Store, encodeStore, storeOf, MirrorState, encodeMirror, mirrorOf, tablesIn}
-use Rattle.model.specs.Calls.{Started, zeroed, storeStart, mirrorStart, Transacted, storeTransact, storeMark, Arrived, mirrorHear, Progress, mirrorProgress, Presence, mirrorHasRow, Contents, mirrorColumn}
+use Rattle.model.specs.Mirror.{Mirror, hears, applies, highest, something, numberCarried, columnBytes, columnAnswer}
+use Rattle.model.specs.Areas.{Store, encodeStore, storeOf, MirrorState, encodeMirror, mirrorOf}
+use Rattle.model.specs.Calls.{Started, zeroed, newStore, newMirror, storeStart, mirrorStart, Transacted, storeTransact, storeMark, Arrived, mirrorHear, Progress, mirrorProgress, Presence, mirrorHasRow, Contents, mirrorColumn}
 use Rattle.model.specs.Laid.{storeOr, mirrorOr, succeeds, recordsLaid, textLaid, storeLaid}
 use Rattle.model.specs.FirstRefusal.{storeStartNumber, mirrorStartNumber, transactNumber, markNumber, recordConditions, heardAs, given, hearNumber, askNumber, columnNumber}
 use Rattle.model.specs.Histories.{StoreCall, areBytes, ofBytes, areaAfterAll, recordsOf, sentOf, changeOf, changeIn, made, endsCommit, heardAll, Arrivals, heardNumbers}
@@ -52,13 +53,13 @@ StoreStartEnds area schema run =
     let c = storeStart area schema run in
     Ends (storeStartNumber area schema) (c .answer) area (c .area) []
     -- "makes no rows and number 0"
-    × (isRefusal (c .answer) ≡ false → c .area ≡ encodeStore (record { run = run; number = 0; schema = schema; rows = [] }))
+    × (isRefusal (c .answer) ≡ false → (d : Database) × (readSchema schema ≡ some d) × (c .area ≡ encodeStore (newStore run d)))
 
 abbrev pub MirrorStartEnds : List ℕ → List ℕ → ℕ → Type 0
 MirrorStartEnds area schema run =
     let c = mirrorStart area schema run in
     Ends (mirrorStartNumber area schema) (c .answer) area (c .area) []
-    × (isRefusal (c .answer) ≡ false → c .area ≡ encodeMirror (record { run = run; schema = schema; mirror = fresh }))
+    × (isRefusal (c .answer) ≡ false → (d : Database) × (readSchema schema ≡ some d) × (c .area ≡ encodeMirror (newMirror run d)))
 
 abbrev pub TransactEnds : List ℕ → List ℕ → List ℕ → List ℕ → List ℕ → Type 0
 TransactEnds area request fresh records text =
@@ -133,18 +134,18 @@ Demand2 = (area request fresh records text : List ℕ) → areBytes fresh ≡ tr
 abbrev pub leftBy : Schema → ℕ → Mirror → Option Record → Mirror
 leftBy s answer m x = elim (eqb answer 103) [ true ↦ applies s m (changeOf x) | false ↦ elim (eqb answer 101 || eqb answer 102) [ true ↦ hears m (numberCarried x) | false ↦ m ] ]
 
--- `area` is the area of a store that was started with this schema and run
-module _ (schema : List ℕ) (run : ℕ) (area : List ℕ) (calls : List StoreCall) where
+-- `area` is the area of a store that was started with a schema's text that is read as this database, and with this run
+module _ (d : Database) (run : ℕ) (area : List ℕ) (calls : List StoreCall) where
   -- "its rows are what records 1 to n make"
   abbrev pub rowsAt : ℕ → List Row
-  rowsAt n = made (tablesIn schema) (take n (recordsOf area calls))
+  rowsAt n = made (d .tables) (take n (recordsOf area calls))
 
   -- a mirror at number n that heard these numbers: "the highest heard is the largest number carried by these, 0 if none"
   abbrev pub mirrorAt : ℕ → List ℕ → Mirror
   mirrorAt n heard = record { rows = rowsAt n; n = n; top = highest heard; heard = something heard; whole = endsCommit (recordsOf area calls) n }
 
   abbrev pub areaOf : Mirror → List ℕ
-  areaOf m = encodeMirror (record { run = run; schema = schema; mirror = m })
+  areaOf m = encodeMirror (record { run = run; database = d; mirror = m })
 
   -- of a mirror's area after arrivals by which it heard these numbers
   pub record Follows (shown : List ℕ) (heard : List ℕ) : Type 0 where
@@ -152,15 +153,15 @@ module _ (schema : List ℕ) (run : ℕ) (area : List ℕ) (calls : List StoreCa
     pub within : n ≤ length (recordsOf area calls)
     -- its bytes are these, in good order: its rows are what records 1 to n make
     pub bytes : shown ≡ areaOf (mirrorAt n heard)
-    pub state : mirrorOf shown ≡ some (record { run = run; schema = schema; mirror = mirrorAt n heard })
+    pub state : mirrorOf shown ≡ some (record { run = run; database = d; mirror = mirrorAt n heard })
     -- it names n, and says "level" exactly when it has heard something, n is the highest number heard, and n is 0 or ends a commit
     pub tells : mirrorProgress shown ≡ record { answer = Accepted; n = n; level = something heard && eqb n (highest heard) && endsCommit (recordsOf area calls) n }
     -- what it tells of rows and columns is told of those rows
     pub tellsRow : (t : ℕ) (id : List ℕ) → mirrorHasRow shown t id ≡ record { answer = Accepted; there = has (keyOf t (value id)) (rowsAt n) }
     pub tellsColumn : (t : ℕ) (id : List ℕ) (c : ℕ) (out : List ℕ) → length out ≡ columnBytes → mirrorColumn shown t id c out ≡ record { answer = Accepted; out = columnAnswer (mirrorAt n heard) t (value id) c }
     -- whatever comes next: its answer by its conditions, and what that leaves
-    pub answers : (x : List ℕ) → numberOf (mirrorHear shown x .answer) ≡ given (recordConditions (tablesIn schema) run (mirrorAt n heard) (decode x)) (heardAs n (decode x))
-    pub leaves : (x : List ℕ) → mirrorHear shown x .area ≡ areaOf (leftBy (tablesIn schema) (numberOf (mirrorHear shown x .answer)) (mirrorAt n heard) (decode x))
+    pub answers : (x : List ℕ) → numberOf (mirrorHear shown x .answer) ≡ given (recordConditions (d .tables) run (mirrorAt n heard) (decode x)) (heardAs n (decode x))
+    pub leaves : (x : List ℕ) → mirrorHear shown x .area ≡ areaOf (leftBy (d .tables) (numberOf (mirrorHear shown x .answer)) (mirrorAt n heard) (decode x))
     -- record n+1, when it comes, moves n by one
     pub moved : n < length (recordsOf area calls) → mirrorHear shown (getD (recordsOf area calls) n []) .answer ≡ Applied
     pub moves : n < length (recordsOf area calls) → mirrorProgress (mirrorHear shown (getD (recordsOf area calls) n []) .area) .n ≡ suc n
@@ -172,15 +173,16 @@ module _ (schema : List ℕ) (run : ℕ) (area : List ℕ) (calls : List StoreCa
 
   -- of the history itself: a started store is never out of good order; "Numbers run on from 1": record k carries the number k and the run, and is one laid down
   pub record Keeps : Type 0 where
-    pub inOrder : (j : ℕ) → (st : Store) × (storeOf (areaAfterAll area (take j calls)) ≡ some st) × (st .run ≡ run) × (st .schema ≡ schema) × (st .number ≡ length (recordsOf area (take j calls)))
+    pub inOrder : (j : ℕ) → (st : Store) × (storeOf (areaAfterAll area (take j calls)) ≡ some st) × (st .run ≡ run) × (st .database ≡ d) × (st .number ≡ length (recordsOf area (take j calls)))
     pub laid : recordsOf area calls ≡ map encode (numberFrom run 0 (map changeIn (recordsOf area calls)))
 
--- for every schema text, run, and two areas that can be started, whatever they held; every history; every list of arrivals, at the start and after each
+-- for every run, two texts of a schema that are read as the same database, one given to a store and one to a mirror, and two areas that can be started, whatever they held; every
+-- history; every list of arrivals, at the start and after each
 abbrev pub Demand3 : Type 0
-Demand3 = (schema : List ℕ) (run : ℕ) (old oldShown : List ℕ) → run < 256 ^ 4
-    → storeStart old schema run .answer ≡ Accepted → mirrorStart oldShown schema run .answer ≡ Accepted
+Demand3 = (schema shown : List ℕ) (d : Database) (run : ℕ) (old oldShown : List ℕ) → run < 256 ^ 4 → readSchema schema ≡ some d → readSchema shown ≡ some d
+    → storeStart old schema run .answer ≡ Accepted → mirrorStart oldShown shown run .answer ≡ Accepted
     → (calls : List StoreCall) → all ofBytes calls ≡ true
-    → Keeps schema run (storeStart old schema run .area) calls
-    × ((xs : List (List ℕ)) → Arrivals (sentOf (storeStart old schema run .area) calls) (mirrorStart oldShown schema run .area) xs
-    → (i : ℕ) → Follows schema run (storeStart old schema run .area) calls
-    (heardAll (mirrorStart oldShown schema run .area) (take i xs)) (heardNumbers (mirrorStart oldShown schema run .area) (take i xs)))
+    → Keeps d run (storeStart old schema run .area) calls
+    × ((xs : List (List ℕ)) → Arrivals (sentOf (storeStart old schema run .area) calls) (mirrorStart oldShown shown run .area) xs
+    → (i : ℕ) → Follows d run (storeStart old schema run .area) calls
+    (heardAll (mirrorStart oldShown shown run .area) (take i xs)) (heardNumbers (mirrorStart oldShown shown run .area) (take i xs)))

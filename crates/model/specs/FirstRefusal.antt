@@ -6,15 +6,15 @@ use mathlib.Core.Option.{Option, none, some}
 use lib.Dec.{eqb, leb}
 use lib.ListN.{length}
 use Rattle.model.specs.Octets.{eqBytes}
-use Rattle.model.specs.Limits.{freshBytes, leastRecords, leastAnswer, leastMark, lastNumber}
+use Rattle.model.specs.Limits.{storeBytes, mirrorBytes, freshBytes, leastRecords, leastAnswer, leastMark, lastNumber}
 use Rattle.model.specs.Base.{if_then_else_, every, isSome}
 use Rattle.model.specs.Schema.{Schema}
 use Rattle.model.specs.SchemaText.{readSchema}
 use Rattle.model.specs.Transact.{readRequest, freshIds, idsGood}
 use Rattle.model.specs.Records.{Record, numbered, mark, decode}
 use Rattle.model.specs.Mirror.{Mirror, bad, columnBytes}
-use Rattle.model.specs.Areas.{storeBytes, storeOf, mirrorBytes, mirrorOf, tablesIn}
-use Rattle.model.specs.Calls.{heldDatabase}
+use Rattle.model.specs.Areas.{storeOf, mirrorOf}
+use Rattle.model.specs.Sane.{sane}
 use Rattle.model.specs.Laid.{mirrorOr, held, asks, changesLaid, textLaid}
 
 -- a refusal's number, and whether it applies
@@ -52,14 +52,14 @@ storeStartNumber area schema = given (startConditions storeBytes area schema) 0
 unfoldable pub mirrorStartNumber : List ℕ → List ℕ → ℕ
 mirrorStartNumber area schema = given (startConditions mirrorBytes area schema) 0
 
--- ── transact: refusal 3 never applies, since an area in good order holds an accepted schema ──
+-- ── transact: refusal 3 never applies, since the schema of an area in good order keeps every rule ──
 abbrev pub transactConditions : List ℕ → List ℕ → List ℕ → List ℕ → List ℕ → List Condition
 transactConditions area request fresh records text =
     record { number = 2; applies = not (every (eqb (length area) storeBytes ∷ eqb (length fresh) freshBytes ∷ leb leastRecords (length records) ∷ leb leastAnswer (length text) ∷ [])) }
     ∷ record { number = 1; applies = not (isSome (storeOf area)) }
-    ∷ record { number = 3; applies = not (isSome (readSchema (held area request fresh .schema))) }
+    ∷ record { number = 3; applies = not (sane (held area request fresh .database)) }
     ∷ record { number = 4; applies = not (isSome (readRequest request)) }
-    ∷ record { number = 5; applies = not (eqBytes (asks area request fresh .name) (heldDatabase (held area request fresh) .name)) }
+    ∷ record { number = 5; applies = not (eqBytes (asks area request fresh .name) (held area request fresh .database .name)) }
     ∷ record { number = 6; applies = not (idsGood (freshIds fresh) (held area request fresh .rows)) }
     ∷ record { number = 7; applies = not (leb (length (textLaid area request fresh)) (length text)) }
     ∷ record { number = 10; applies = not (leb (held area request fresh .number + length (changesLaid area request fresh)) lastNumber) }
@@ -102,7 +102,7 @@ hearConditions area x =
     let m = mirrorOr (mirrorOf area) in
     record { number = 2; applies = not (eqb (length area) mirrorBytes) }
     ∷ record { number = 1; applies = not (isSome (mirrorOf area)) }
-    ∷ recordConditions (tablesIn (m .schema)) (m .run) (m .mirror) (decode x)
+    ∷ recordConditions (m .database .tables) (m .run) (m .mirror) (decode x)
 
 -- "It answers repeat to a record numbered n or less, behind to one above n+1, heard to a mark, and applied to record n+1": 100, 101, 102, 103
 abbrev pub heardAs : ℕ → Option Record → ℕ

@@ -5,7 +5,7 @@ use mathlib.Core.List.{List, [], _∷_, _++_, map}
 use mathlib.Core.Option.{Option, none, some}
 use lib.ListN.{length}
 use Rattle.model.specs.Base.{all, every, flat}
-use Rattle.model.specs.Schema.{Table, Schema, Database}
+use Rattle.model.specs.Schema.{Table, Schema, Database, Database}
 use Rattle.model.specs.Rows.{Row, ofTable}
 use Rattle.model.specs.Faults.{isFine}
 use Rattle.model.specs.Answers.{bracketed, errorText}
@@ -14,15 +14,18 @@ use Rattle.model.specs.Transact.{Request, readRequest, freshIds, namesOf
 use Rattle.model.specs.Records.{Change, diff, numberFrom, encode}
 use Rattle.model.specs.Mirror.{fresh}
 use Rattle.model.specs.Areas.{Store, storeOf, MirrorState}
-use Rattle.model.specs.Calls.{heldDatabase}
+
+-- no schema at all
+abbrev pub noDatabase : Database
+noDatabase = record { name = []; tables = [] }
 
 -- what an area holds, and a request asks; nothing where it is not in good order or can't be read, which its refusal says
 abbrev pub storeOr : Option Store → Store
-storeOr none = record { run = 0; number = 0; schema = []; rows = [] }
+storeOr none = record { run = 0; number = 0; database = noDatabase; rows = [] }
 storeOr (some st) = st
 
 abbrev pub mirrorOr : Option MirrorState → MirrorState
-mirrorOr none = record { run = 0; schema = []; mirror = fresh }
+mirrorOr none = record { run = 0; database = noDatabase; mirror = fresh }
 mirrorOr (some m) = m
 
 abbrev pub requestOr : Option Request → Request
@@ -44,7 +47,7 @@ module _ (area request fresh : List ℕ) where
   held = storeOr (storeOf area)
 
   abbrev pub tables : Schema
-  tables = heldDatabase held .tables
+  tables = held .database .tables
 
   abbrev pub asks : Request
   asks = requestOr (readRequest request)
@@ -81,4 +84,4 @@ module _ (area request fresh : List ℕ) where
 
   -- the store after it
   abbrev pub storeLaid : Store
-  storeLaid = record { run = held .run; number = held .number + length changesLaid; schema = held .schema; rows = rowsLaid }
+  storeLaid = record { run = held .run; number = held .number + length changesLaid; database = held .database; rows = rowsLaid }

@@ -21,6 +21,8 @@ pub mod Commit
 pub mod Answers
 pub mod Operations
 pub mod SchemaText
+pub mod Sane
+pub mod Catalog
 pub mod Refusals
 pub mod Records
 pub mod Mirror

@@ -5,6 +5,7 @@ use mathlib.Core.List.{List, [], _∷_}
 use mathlib.Core.Option.{Option, none, some}
 use lib.Dec.{eqb, leb}
 use lib.ListN.{replicate}
+use Rattle.model.specs.Limits.{valueWidth}
 use Rattle.model.specs.Base.{if_then_else_, nth}
 use Rattle.model.specs.Schema.{Schema}
 use Rattle.model.specs.Value.{Value}
@@ -89,7 +90,7 @@ hasRow m t i = has (keyOf t i) (m .rows)
 
 -- "by table, id and column the count and atoms a column record would have, all zero where row or column is missing"
 abbrev pub columnBytes : ℕ
-columnBytes = 101
+columnBytes = valueWidth
 
 abbrev pub valueAnswer : Option Value → List ℕ
 valueAnswer none = replicate columnBytes 0

@@ -2,6 +2,7 @@
 use Prim.Native.Nat.{ℕ}
 use mathlib.Core.List.{List, [], _∷_}
 use mathlib.Core.Bool.{Bool, true, false}
+use lib.Dec.{eqb}
 use Rattle.model.specs.declared.Read.{Read}
 use Rattle.model.specs.declared.Read.the-variants.{End, Stop, Deep}
 use Rattle.model.specs.Json.{Json, null, bool, num, str, arr, obj, Items, none, item}
@@ -45,34 +46,26 @@ textIn (str t) = t
 textIn (arr xs) = []
 textIn (obj ms) = []
 
-unfoldable pub isText : Kind → Bool
-isText Null = false
-isText Truth = false
-isText Number = false
-isText Text = true
-isText Array = false
-isText Object = false
+-- the kinds by number, and whether two are the same
+abbrev pub kindNumber : Kind → ℕ
+kindNumber Null = 0
+kindNumber Truth = 1
+kindNumber Number = 2
+kindNumber Text = 3
+kindNumber Array = 4
+kindNumber Object = 5
 
-unfoldable pub isArray : Kind → Bool
-isArray Null = false
-isArray Truth = false
-isArray Number = false
-isArray Text = false
-isArray Array = true
-isArray Object = false
+abbrev pub isKind : Kind → Kind → Bool
+isKind k j = eqb (kindNumber k) (kindNumber j)
 
-unfoldable pub isObject : Kind → Bool
-isObject Null = false
-isObject Truth = false
-isObject Number = false
-isObject Text = false
-isObject Array = false
-isObject Object = true
+abbrev pub isText : Kind → Bool
+isText k = isKind k Text
 
-unfoldable pub isTruth : Kind → Bool
-isTruth Null = false
-isTruth Truth = true
-isTruth Number = false
-isTruth Text = false
-isTruth Array = false
-isTruth Object = false
+abbrev pub isArray : Kind → Bool
+isArray k = isKind k Array
+
+abbrev pub isObject : Kind → Bool
+isObject k = isKind k Object
+
+abbrev pub isTruth : Kind → Bool
+isTruth k = isKind k Truth

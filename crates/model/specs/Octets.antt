@@ -25,6 +25,11 @@ twos w (negsuc n) = 2 ^ w - suc n
 abbrev pub part : ℕ → ℕ → List ℕ → List ℕ
 part at n b = take n (drop at b)
 
+-- n parts of w bytes each, one after another
+abbrev pub chunks : ℕ → ℕ → List ℕ → List (List ℕ)
+chunks w zero b = []
+chunks w (suc n) b = take w b ∷ chunks w n (drop w b)
+
 -- two byte strings are the same
 abbrev pub eqBytes : List ℕ → List ℕ → Bool
 eqBytes [] [] = true

@@ -9,11 +9,11 @@ use Prim.Native.Char.{code}
 use lib.Dec.{ltb}
 use lib.ListN.{getD, replicate}
 use Rattle.model.specs.Octets.{big, filled}
-use Rattle.model.specs.Limits.{leastRecords}
+use Rattle.model.specs.Limits.{storeBytes, mirrorBytes, leastRecords}
 use Rattle.model.specs.Base.{ascii}
 use Rattle.model.specs.Records.{pieces}
 use Rattle.model.specs.Refusals.{numberOf}
-use Rattle.model.specs.Areas.{storeBytes, mirrorBytes, mirrorOf}
+use Rattle.model.specs.Areas.{mirrorOf}
 use Rattle.model.specs.Calls.{Started, storeStart, mirrorStart, Transacted, storeTransact, Progress, mirrorProgress}
 use Rattle.model.specs.Histories.{heardAll}
 use Rattle.model.specs.Laid.{mirrorOr}
@@ -44,9 +44,9 @@ hex (Str._∷_ a Str.[]) = []
 hex (Str._∷_ a (Str._∷_ b s)) = (digit (code a) * 16 + digit (code b)) ∷ hex s
 
 -- fresh ids: the 16 numbers from i on, so that the first call's first id ends in 1
-abbrev pub idBytes : ℕ → ℕ → List ℕ
-idBytes zero i = []
-idBytes (suc k) i = big 16 i ++ idBytes k (suc i)
+abbrev pub idsFrom : ℕ → ℕ → List ℕ
+idsFrom zero i = []
+idsFrom (suc k) i = big 16 i ++ idsFrom k (suc i)
 
 -- buffers of zeros, for records and for the answer
 abbrev pub recordsRoom : List ℕ
@@ -58,7 +58,7 @@ textRoom = replicate 1000 0
 -- some calls, each on the area that the one before left; call k has the fresh ids from 16 k + 1 on
 abbrev pub lastCall : ℕ → Transacted → List (List ℕ) → Transacted
 lastCall i c [] = c
-lastCall i c (q ∷ qs) = lastCall (i + 16) (storeTransact (c .area) q (idBytes 16 i) recordsRoom textRoom) qs
+lastCall i c (q ∷ qs) = lastCall (i + 16) (storeTransact (c .area) q (idsFrom 16 i) recordsRoom textRoom) qs
 
 -- of a store started in an area of zeros for run 1
 abbrev pub callsOf : Reading → Transacted

@@ -5,8 +5,8 @@ use mathlib.Core.List.{List, [], _∷_, _++_}
 use mathlib.Core.Option.{Option, none, some}
 use lib.Dec.{eqb, ltb}
 use lib.ListN.{length, getD, take, drop}
-use Rattle.model.specs.Octets.{big, value, part}
-use Rattle.model.specs.Limits.{mostRows, mostElements, atomBytes}
+use Rattle.model.specs.Octets.{big, value, part, chunks}
+use Rattle.model.specs.Limits.{mostRows, mostElements, atomBytes, rowRecordBytes, columnRecordBytes, endBytes}
 use Rattle.model.specs.Base.{if_then_else_, flat}
 use Rattle.model.specs.Schema.{Column, Schema, columnsOf}
 use Rattle.model.specs.Value.{Value, sameValue, canonicalFor}
@@ -127,7 +127,7 @@ markKind = 5
 -- the table "Kind", last column; 0 for a byte that is no kind
 abbrev pub recordBytes : ℕ → ℕ
 recordBytes k =
-    if eqb k bornKind then 26 else if eqb k goneKind then 26 else if eqb k columnKind then 128 else if eqb k endKind then 9 else if eqb k markKind then 9 else 0
+    if eqb k bornKind then rowRecordBytes else if eqb k goneKind then rowRecordBytes else if eqb k columnKind then columnRecordBytes else if eqb k endKind then endBytes else if eqb k markKind then endBytes else 0
 
 -- "column 1, count 1, four atoms of 25": the last two of them
 abbrev pub valueBytes : Value → List ℕ
@@ -143,8 +143,7 @@ encode (mark u n) = markKind ∷ big 4 u ++ big 4 n
 
 -- n atoms, one after another
 abbrev pub cut : ℕ → List ℕ → List (List ℕ)
-cut zero b = []
-cut (suc n) b = take atomBytes b ∷ cut n (drop atomBytes b)
+cut n b = chunks atomBytes n b
 
 abbrev pub valueFrom : List ℕ → Value
 valueFrom b = record { count = getD b 0 0; atoms = cut mostElements (drop 1 b) }

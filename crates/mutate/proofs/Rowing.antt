@@ -15,7 +15,7 @@ use Rattle.model.specs.Written.{Names}
 use Rattle.model.specs.Areas.{rowFrom}
 use Rattle.inner.specs.Working.{tableIn, valueIn, TidyRow}
 use Rattle.model.specs.Mutations.{Mutation, noMutation, suits, mutateOnce, steps}
-use Rattle.inner.specs.Packed.{columnFrom}
+use Rattle.model.specs.Catalog.{columnFrom}
 use Rattle.model.specs.declared.Fault.{Fault}
 use Rattle.model.specs.declared.Fault.the-variants.{Fine}
 use Rattle.model.specs.declared.Mutator.{Mutator}

@@ -1,16 +1,19 @@
 // Rows mutated: mutation by mutation on a row, row by row.
 use lookup::Triple;
+use model::Entry;
 use model::Fault;
 use model::Found;
+use model::Row;
 use mutations::Choice;
 ghost use mathlib.Core.Path.{_≡_};
 ghost use mathlib.Core.Bool.{true};
 ghost use mathlib.Core.List.{map};
 ghost use Prim.Native.Nat.{_≤_};
 ghost use lib.ListN.{length};
+ghost use Rattle.model.specs.Limits.{mostColumns};
 ghost use Rattle.inner.specs.Positions.{wellAt, treeAt, itemsFine};
 ghost use Rattle.model.specs.Faults.{isFine};
-ghost use Rattle.inner.specs.Packed.{columnFrom};
+ghost use Rattle.model.specs.Catalog.{columnFrom};
 ghost use Rattle.uuids.specs.Named.{namesAt, Running};
 ghost use Rattle.conditions.specs.Tests.{testsAt};
 ghost use Rattle.mutations.specs.Mutating.{mutatorIn, mutationAs, mutationAt, mutationsAt};
@@ -22,15 +25,15 @@ fn triple_step(
     ends: &[u16],
     ops: Found,
     fresh: &[u8],
-    columns: &[[u8; 48]],
+    columns: &[Entry],
     a: usize,
     b: usize,
     v: usize,
-    row: &mut [[u8; 25]; 25],
+    row: &mut Row,
 ) -> Fault
     requires { ⌜ Running (now text) (now ends) ops (now fresh) ⌝ }
     requires { ⌜ wellAt (now text) v ≡ true ⌝ }
-    requires { ⌜ length (now columns) ≤ 6 ⌝ }
+    requires { ⌜ length (now columns) ≤ mostColumns ⌝ }
     requires { ⌜ isFine (mutationAs (namesAt (now text) ops (now fresh)) (map columnFrom (now columns)) (treeAt (now text) a) (mutatorIn (treeAt (now text) b)) (treeAt (now text) v) .fault) ≡ true ⌝ }
     ensures { λ r. ⌜ RowStepped (map columnFrom (now (columns .entry))) (mutationAs (namesAt (now (text .entry)) ops (now (fresh .entry))) (map columnFrom (now (columns .entry))) (treeAt (now (text .entry)) a) (mutatorIn (treeAt (now (text .entry)) b)) (treeAt (now (text .entry)) v) .got) r (now (row .entry)) (now (row .exit)) ⌝ }
 {
@@ -51,13 +54,13 @@ fn step_at(
     ends: &[u16],
     ops: Found,
     fresh: &[u8],
-    columns: &[[u8; 48]],
+    columns: &[Entry],
     at: usize,
-    row: &mut [[u8; 25]; 25],
+    row: &mut Row,
 ) -> Fault
     requires { ⌜ Running (now text) (now ends) ops (now fresh) ⌝ }
     requires { ⌜ wellAt (now text) at ≡ true ⌝ }
-    requires { ⌜ length (now columns) ≤ 6 ⌝ }
+    requires { ⌜ length (now columns) ≤ mostColumns ⌝ }
     requires { ⌜ isFine (mutationAt (now text) ops (now fresh) (now columns) at .fault) ≡ true ⌝ }
     ensures { λ r. ⌜ RowStepped (map columnFrom (now (columns .entry))) (mutationAt (now (text .entry)) ops (now (fresh .entry)) (now (columns .entry)) at .got) r (now (row .entry)) (now (row .exit)) ⌝ }
 {
@@ -74,13 +77,13 @@ fn mutate_row(
     ends: &[u16],
     ops: Found,
     fresh: &[u8],
-    columns: &[[u8; 48]],
+    columns: &[Entry],
     f: Found,
-    row: &mut [[u8; 25]; 25],
+    row: &mut Row,
 ) -> Fault
     requires { ⌜ Running (now text) (now ends) ops (now fresh) ⌝ }
     requires { ⌜ itemsFine (now text) f ≡ true ⌝ }
-    requires { ⌜ length (now columns) ≤ 6 ⌝ }
+    requires { ⌜ length (now columns) ≤ mostColumns ⌝ }
     requires { ⌜ isFine (mutationsAt (now text) ops (now fresh) (now columns) f .fault) ≡ true ⌝ }
     ensures { λ r. ⌜ RowMutated (map columnFrom (now (columns .entry))) (mutationsAt (now (text .entry)) ops (now (fresh .entry)) (now (columns .entry)) f .got) r (now (row .entry)) (now (row .exit)) ⌝ }
 {
@@ -89,7 +92,7 @@ fn mutate_row(
         match g {
             Found::At(p) => {
                 let r = step_at(text, ends, ops, fresh, columns, p, row);
-                let ok = mutation_step::is_fine(r);
+                let ok = leaf::is_fine(r);
                 if !ok {
                     return r;
                 }
@@ -106,17 +109,17 @@ pub fn mutate_rows(
     ends: &[u16],
     ops: Found,
     fresh: &[u8],
-    columns: &[[u8; 48]],
+    columns: &[Entry],
     table: u8,
     tests: Found,
     mutations: Found,
-    rows: &mut [[[u8; 25]; 25]],
+    rows: &mut [Row],
     n: usize,
 ) -> Fault
     requires { ⌜ Running (now text) (now ends) ops (now fresh) ⌝ }
     requires { ⌜ itemsFine (now text) tests ≡ true ⌝ }
     requires { ⌜ itemsFine (now text) mutations ≡ true ⌝ }
-    requires { ⌜ length (now columns) ≤ 6 ⌝ }
+    requires { ⌜ length (now columns) ≤ mostColumns ⌝ }
     requires { ⌜ isFine (testsAt (now text) ops (now fresh) (now columns) tests .fault) ≡ true ⌝ }
     requires { ⌜ isFine (mutationsAt (now text) ops (now fresh) (now columns) mutations .fault) ≡ true ⌝ }
     requires { ⌜ n ≤ length (now rows) ⌝ }
@@ -127,7 +130,7 @@ pub fn mutate_rows(
         let fits = conditions::matches(text, ends, ops, fresh, columns, table, tests, &rows[i]);
         if fits {
             let r = mutate_row(text, ends, ops, fresh, columns, mutations, &mut rows[i]);
-            let ok = mutation_step::is_fine(r);
+            let ok = leaf::is_fine(r);
             if !ok {
                 return r;
             }

@@ -10,7 +10,7 @@ use lib.ListN.{length, getD, take, drop, set, length-map, length-append, length-
 use lib.Seq.{take-suc, drop-cons, set-at, take-at, take-all, length-take-le}
 use Rattle.model.specs.Base.{all, distinct}
 use Rattle.model.specs.Schema.{Column, integer}
-use Rattle.inner.specs.Packed.{baseNumbered}
+use Rattle.model.specs.Catalog.{baseNumbered}
 use Rattle.model.specs.Value.{intOf, intAtom, sorted, valueOf, allInLimits}
 use Rattle.model.specs.Faults.{isFine, check}
 use Rattle.model.specs.Mutations.{exact, divides, isZero, in64, isEmpty, results}

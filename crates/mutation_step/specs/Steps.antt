@@ -5,6 +5,7 @@ use mathlib.Core.Bool.{true, not, _&&_}
 use mathlib.Core.List.{List, _++_, map}
 use lib.IntN.{ℤ}
 use lib.ListN.{length, take, drop}
+use Rattle.model.specs.Limits.{mostColumns}
 use Rattle.model.specs.Base.{all}
 use Rattle.model.specs.Json.{Json}
 use Rattle.model.specs.Schema.{Column, Schema, columnsOf}
@@ -67,4 +68,4 @@ pub record Kept (l : List (List ℕ)) (n : ℕ) (atoms : List (List ℕ)) : Type
 pub record Stepped (j : Judged (List (List ℕ))) (c : ℕ) (r : Fault) (entry exit : List (List ℕ)) : Type 0 where
   pub fault : r ≡ j .fault
   pub row : isFine r ≡ true → (s : Schema) → rowFrom s exit ≡ setColumn c (valueOf (j .got)) (rowFrom s entry)
-  pub tidy : (s : Schema) → c < length (columnsOf s (tableIn entry)) → length (columnsOf s (tableIn entry)) ≤ 6 → TidyRow s entry → TidyRow s exit
+  pub tidy : (s : Schema) → c < length (columnsOf s (tableIn entry)) → length (columnsOf s (tableIn entry)) ≤ mostColumns → TidyRow s entry → TidyRow s exit

@@ -1,7 +1,12 @@
 // A step: one mutation on one column of a row.
+use model::ATOM;
+use model::Atoms;
+use model::ELEMENTS;
+use model::Entry;
 use model::Fault;
 use model::Found;
 use model::Mutator;
+use model::Row;
 use number::Exact;
 use number::Int;
 use written::Atom;
@@ -10,12 +15,13 @@ ghost use mathlib.Core.Bool.{true};
 ghost use mathlib.Core.List.{[], _∷_};
 ghost use Prim.Native.Nat.{_≤_, _<_};
 ghost use lib.ListN.{length, take};
+ghost use Rattle.model.specs.Limits.{mostColumns, mostElements};
 ghost use Rattle.inner.specs.Positions.{wellAt, treeAt};
-ghost use Rattle.inner.specs.Packed.{baseNumbered};
+ghost use Rattle.model.specs.Catalog.{baseNumbered};
 ghost use Rattle.model.specs.Value.{intOf, allInLimits, valueOf, union, without};
 ghost use Rattle.model.specs.Faults.{isFine};
 ghost use Rattle.model.specs.Mutations.{suits};
-ghost use Rattle.inner.specs.Packed.{columnFrom};
+ghost use Rattle.model.specs.Catalog.{columnFrom};
 ghost use Rattle.number.specs.Ints.{intIn};
 ghost use Rattle.elements.specs.Elements.{elementsFrom, elementsFine};
 ghost use Rattle.uuids.specs.Named.{namesAt, Running};
@@ -23,25 +29,8 @@ ghost use Rattle.written.specs.Atoms.{atomAs, atomsOf};
 ghost use Rattle.judged.specs.Weights.{atomsAs};
 ghost use Rattle.mutation_step.specs.Steps.{resultAtoms, Calculated, elementsOf, arithmeticOn, insertedOn, deletedOn, operandOf, mutatedOn, Kept, Reckoned, Stepped};
 
-// Whether there is no fault.
-pub fn is_fine(f: Fault) -> bool
-    ensures { λ r. ⌜ r ≡ isFine f ⌝ }
-{
-    match f {
-        Fault::Fine => true,
-        Fault::Syntax => false,
-        Fault::Resources => false,
-        Fault::Duplicate => false,
-        Fault::Constraint => false,
-        Fault::Domain => false,
-        Fault::Range => false,
-        Fault::Aborted => false,
-        Fault::Integrity => false,
-    }
-}
-
 // What the mutator makes of each element with the operand, in front of `out`; or that this divides by zero or is outside 64 bits.
-fn calculate_each(m: Mutator, b: Int, xs: &[[u8; 25]], out: &mut [[u8; 25]]) -> Fault
+fn calculate_each(m: Mutator, b: Int, xs: &[model::Atom], out: &mut [model::Atom]) -> Fault
     requires { ⌜ length (now xs) ≤ length (now out) ⌝ }
     ensures { λ r. ⌜ Calculated m (intIn b) (now (xs .entry)) r (now (out .entry)) (now (out .exit)) ⌝ }
 {
@@ -62,7 +51,7 @@ fn calculate_each(m: Mutator, b: Int, xs: &[[u8; 25]], out: &mut [[u8; 25]]) -> 
 }
 
 // Whether all elements are in a column's limits.
-fn all_within(column: &[u8; 48], l: &[[u8; 25]]) -> bool
+fn all_within(column: &Entry, l: &[model::Atom]) -> bool
     ensures { λ r. ⌜ r ≡ allInLimits (columnFrom (now (column .entry))) (now (l .entry)) ⌝ }
 {
     let mut ok = true;
@@ -76,13 +65,13 @@ fn all_within(column: &[u8; 48], l: &[[u8; 25]]) -> bool
 }
 
 // The results of arithmetic, in front of `out`, and how they are judged.
-fn reckon(column: &[u8; 48], m: Mutator, b: Int, xs: &[[u8; 25]], out: &mut [[u8; 25]]) -> Fault
+fn reckon(column: &Entry, m: Mutator, b: Int, xs: &[model::Atom], out: &mut [model::Atom]) -> Fault
     requires { ⌜ length (now xs) ≤ length (now out) ⌝ }
     ensures { λ r. ⌜ Reckoned (arithmeticOn (columnFrom (now (column .entry))) m (intIn b) (now (xs .entry))) (length (now (xs .entry))) (resultAtoms m (intIn b) (now (xs .entry))) r (now (out .exit)) ⌝ }
 {
     let n = xs.len();
     let f = calculate_each(m, b, xs, out);
-    let ok = is_fine(f);
+    let ok = leaf::is_fine(f);
     if !ok {
         return f;
     }
@@ -95,21 +84,15 @@ fn reckon(column: &[u8; 48], m: Mutator, b: Int, xs: &[[u8; 25]], out: &mut [[u8
 }
 
 // Arithmetic on column c of a row, which acts on each element.
-fn arithmetic(
-    column: &[u8; 48],
-    m: Mutator,
-    operand: &[u8; 25],
-    row: &mut [[u8; 25]; 25],
-    c: usize,
-) -> Fault
-    requires { ⌜ c < 6 ⌝ }
+fn arithmetic(column: &Entry, m: Mutator, operand: &model::Atom, row: &mut Row, c: usize) -> Fault
+    requires { ⌜ c < mostColumns ⌝ }
     ensures { λ r. ⌜ Stepped (arithmeticOn (columnFrom (now (column .entry))) m (intOf (now (operand .entry))) (elementsOf c (now (row .entry)))) c r (now (row .entry)) (now (row .exit)) ⌝ }
 {
     let n = references::size(rows::count_of(row, c));
     let atoms = rows::atoms_in(row, c);
-    let mut out = [[0u8; 25]; 4];
+    let mut out = [[0u8; ATOM]; ELEMENTS];
     let f = reckon(column, m, number::of_atom(operand), &atoms[..n], &mut out);
-    let ok = is_fine(f);
+    let ok = leaf::is_fine(f);
     if ok {
         let sorted = value::sort(0, out, n);
         rows::set_column(row, c, n as u8, &sorted);
@@ -118,9 +101,9 @@ fn arithmetic(
 }
 
 // The first n atoms are a set: the same with those of `more`, and zeros.
-fn unite(kind: u8, atoms: [[u8; 25]; 4], n: usize, more: &[[u8; 25]]) -> [[u8; 25]; 4]
-    requires { ⌜ n ≤ 4 ⌝ }
-    requires { ⌜ length (union (baseNumbered kind) (take n atoms) (now more)) ≤ 4 ⌝ }
+fn unite(kind: u8, atoms: Atoms, n: usize, more: &[model::Atom]) -> Atoms
+    requires { ⌜ n ≤ mostElements ⌝ }
+    requires { ⌜ length (union (baseNumbered kind) (take n atoms) (now more)) ≤ mostElements ⌝ }
     ensures { λ r. ⌜ r ≡ valueOf (union (baseNumbered kind) (take n atoms) (now (more .entry))) .atoms ⌝ }
 {
     let mut s = value::first(atoms, n);
@@ -138,17 +121,17 @@ fn unite(kind: u8, atoms: [[u8; 25]; 4], n: usize, more: &[[u8; 25]]) -> [[u8; 2
 }
 
 // Elements inserted into column c of a row.
-fn insert(column: &[u8; 48], more: &[[u8; 25]], row: &mut [[u8; 25]; 25], c: usize) -> Fault
-    requires { ⌜ c < 6 ⌝ }
-    requires { ⌜ length (now more) ≤ 4 ⌝ }
+fn insert(column: &Entry, more: &[model::Atom], row: &mut Row, c: usize) -> Fault
+    requires { ⌜ c < mostColumns ⌝ }
+    requires { ⌜ length (now more) ≤ mostElements ⌝ }
     ensures { λ r. ⌜ Stepped (insertedOn (columnFrom (now (column .entry))) (now (more .entry)) (elementsOf c (now (row .entry)))) c r (now (row .entry)) (now (row .exit)) ⌝ }
 {
-    let kind = column[25];
-    let max = atom::wide(column[29]);
+    let kind = catalog::kind(column);
+    let max = leaf::wide(catalog::maximum(column));
     let n = references::size(rows::count_of(row, c));
     let atoms = rows::atoms_of(row, c);
     let u = value::union_count(&atoms[..n], more);
-    if 4 < u {
+    if ELEMENTS < u {
         return Fault::Resources;
     }
     if max < u {
@@ -160,8 +143,8 @@ fn insert(column: &[u8; 48], more: &[[u8; 25]], row: &mut [[u8; 25]; 25], c: usi
 }
 
 // The first n atoms are a set: the same without x, and zeros; n is how many are left.
-fn delete_atom(atoms: [[u8; 25]; 4], n: &mut usize, x: [u8; 25]) -> [[u8; 25]; 4]
-    requires { ⌜ now n ≤ 4 ⌝ }
+fn delete_atom(atoms: Atoms, n: &mut usize, x: model::Atom) -> Atoms
+    requires { ⌜ now n ≤ mostElements ⌝ }
     ensures { λ r. ⌜ Kept (without (x ∷ []) (take (now (n .entry)) atoms)) (now (n .exit)) r ⌝ }
 {
     let m = *n;
@@ -178,15 +161,15 @@ fn delete_element(
     fresh: &[u8],
     kind: u8,
     at: usize,
-    atoms: [[u8; 25]; 4],
+    atoms: Atoms,
     n: &mut usize,
-) -> [[u8; 25]; 4]
+) -> Atoms
     requires { ⌜ Running (now text) (now ends) ops (now fresh) ⌝ }
     requires { ⌜ wellAt (now text) at ≡ true ⌝ }
-    requires { ⌜ now n ≤ 4 ⌝ }
+    requires { ⌜ now n ≤ mostElements ⌝ }
     ensures { λ r. ⌜ Kept (without (atomAs (namesAt (now (text .entry)) ops (now (fresh .entry))) (baseNumbered kind) (treeAt (now (text .entry)) at) ∷ []) (take (now (n .entry)) atoms)) (now (n .exit)) r ⌝ }
 {
-    let mut cell = [0u8; 25];
+    let mut cell = [0u8; ATOM];
     let a = written::atom_at(text, ends, ops, fresh, kind, at, &mut cell);
     match a {
         Atom::Wrong => delete_atom(atoms, n, cell),
@@ -204,12 +187,12 @@ fn delete_from(
     kind: u8,
     set: bool,
     f: Found,
-    atoms: [[u8; 25]; 4],
+    atoms: Atoms,
     n: &mut usize,
-) -> [[u8; 25]; 4]
+) -> Atoms
     requires { ⌜ Running (now text) (now ends) ops (now fresh) ⌝ }
     requires { ⌜ elementsFine (now text) set f ≡ true ⌝ }
-    requires { ⌜ now n ≤ 4 ⌝ }
+    requires { ⌜ now n ≤ mostElements ⌝ }
     ensures { λ r. ⌜ Kept (without (atomsOf (namesAt (now (text .entry)) ops (now (fresh .entry))) (baseNumbered kind) (elementsFrom (now (text .entry)) set f)) (take (now (n .entry)) atoms)) (now (n .exit)) r ⌝ }
 {
     let mut s = value::first(atoms, *n);
@@ -232,18 +215,18 @@ fn delete(
     ends: &[u16],
     ops: Found,
     fresh: &[u8],
-    column: &[u8; 48],
+    column: &Entry,
     at: usize,
-    row: &mut [[u8; 25]; 25],
+    row: &mut Row,
     c: usize,
 ) -> Fault
     requires { ⌜ Running (now text) (now ends) ops (now fresh) ⌝ }
     requires { ⌜ wellAt (now text) at ≡ true ⌝ }
-    requires { ⌜ c < 6 ⌝ }
+    requires { ⌜ c < mostColumns ⌝ }
     ensures { λ r. ⌜ Stepped (deletedOn (columnFrom (now (column .entry))) (atomsAs (namesAt (now (text .entry)) ops (now (fresh .entry))) (columnFrom (now (column .entry)) .base) (treeAt (now (text .entry)) at)) (elementsOf c (now (row .entry)))) c r (now (row .entry)) (now (row .exit)) ⌝ }
 {
-    let kind = column[25];
-    let min = atom::wide(column[28]);
+    let kind = catalog::kind(column);
+    let min = leaf::wide(catalog::minimum(column));
     let e = elements::elements_at(text, ends, at);
     let set = e.set;
     let f = e.first;
@@ -263,15 +246,15 @@ pub fn step(
     ends: &[u16],
     ops: Found,
     fresh: &[u8],
-    column: &[u8; 48],
+    column: &Entry,
     m: Mutator,
     at: usize,
-    row: &mut [[u8; 25]; 25],
+    row: &mut Row,
     c: usize,
 ) -> Fault
     requires { ⌜ Running (now text) (now ends) ops (now fresh) ⌝ }
     requires { ⌜ wellAt (now text) at ≡ true ⌝ }
-    requires { ⌜ c < 6 ⌝ }
+    requires { ⌜ c < mostColumns ⌝ }
     requires { ⌜ suits (columnFrom (now column)) m ≡ true ⌝ }
     requires { ⌜ isFine (operandOf (namesAt (now text) ops (now fresh)) (columnFrom (now column)) m (treeAt (now text) at) .fault) ≡ true ⌝ }
     ensures { λ r. ⌜ Stepped (mutatedOn (columnFrom (now (column .entry))) m (operandOf (namesAt (now (text .entry)) ops (now (fresh .entry))) (columnFrom (now (column .entry))) m (treeAt (now (text .entry)) at) .got) (elementsOf c (now (row .entry)))) c r (now (row .entry)) (now (row .exit)) ⌝ }

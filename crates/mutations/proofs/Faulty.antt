@@ -14,13 +14,13 @@ use Rattle.model.specs.declared.Mutator.{Mutator}
 use Rattle.model.specs.Json.{Json}
 use Rattle.inner.specs.Positions.{treeAt, wellAt, nextItem}
 use Rattle.inner.specs.Positions as Text
-use Rattle.inner.specs.Packed.{baseNumbered}
+use Rattle.model.specs.Catalog.{baseNumbered}
 use Rattle.model.specs.Schema.{Column, columnNamed}
 use Rattle.model.specs.Faults.{isFine, earlier, check}
 use Rattle.model.specs.Written.{Names}
 use Rattle.model.specs.Conditions.{isIntegerBase}
 use Rattle.model.specs.Mutations.{suits, noMutation, mutationBy, mutationOf, mutatorNamed, readMutations}
-use Rattle.inner.specs.Packed.{columnFrom}
+use Rattle.model.specs.Catalog.{columnFrom}
 use Rattle.model.proofs.Tests.{split, clash}
 use Rattle.model.proofs.FaultLaws.{earlier-fine}
 use Rattle.nav.proofs.Walk.{walk-rest, walk-end}

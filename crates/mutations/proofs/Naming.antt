@@ -14,10 +14,10 @@ use Rattle.model.specs.Base.{if_then_else_, placeOf, nth, ascii}
 use Rattle.model.specs.Json.{Json, null, bool, num, str, arr, obj}
 use Rattle.model.specs.Text.{isWord}
 use Rattle.model.specs.Schema.{Column}
-use Rattle.inner.specs.Packed.{columnFrom}
+use Rattle.model.specs.Catalog.{columnFrom}
 use Rattle.model.proofs.Tests.{split}
 use Rattle.fields.specs.Fields.{wordsFrom, wordsOf, choiceFrom, choice}
-use Rattle.names.specs.Names.{foundAt}
+use Rattle.catalog.specs.Entries.{foundAt}
 use Rattle.lookup.specs.Lookup.{columnIn}
 use Rattle.mutations.specs.Mutating.{chosen, mutatorBy, mutatorIn}
 

@@ -11,7 +11,7 @@ use Rattle.model.specs.Schema.{Column}
 use Rattle.model.specs.Faults.{earlier, check, Judged}
 use Rattle.model.specs.Written.{Names, stringIn}
 use Rattle.model.specs.Mutations.{Mutation, mutatorNamed, suits, mutationOf, readMutation, readMutations}
-use Rattle.inner.specs.Packed.{columnFrom}
+use Rattle.model.specs.Catalog.{columnFrom}
 use Rattle.model.specs.declared.Found.{Found}
 use Rattle.model.specs.declared.Fault.{Fault}
 use Rattle.model.specs.declared.Fault.the-variants.{Fine, Syntax, Constraint}

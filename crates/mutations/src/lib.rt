@@ -1,5 +1,6 @@
 // Mutations, [column, mutator, value], and how they are judged.
 use lookup::Triple;
+use model::Entry;
 use model::Fault;
 use model::Found;
 use model::Mutator;
@@ -10,7 +11,7 @@ ghost use Rattle.inner.specs.Positions.{wellAt, treeAt, itemsFine};
 ghost use Rattle.model.specs.Faults.{check};
 ghost use Rattle.model.specs.Mutations.{suits};
 ghost use Rattle.model.specs.declared.Fault.the-variants.{Fine, Constraint};
-ghost use Rattle.inner.specs.Packed.{columnFrom};
+ghost use Rattle.model.specs.Catalog.{columnFrom};
 ghost use Rattle.uuids.specs.Named.{namesAt, Running};
 ghost use Rattle.mutation_step.specs.Steps.{operandOf};
 ghost use Rattle.mutations.specs.Mutating.{chosen, mutatorBy, mutatorIn, columnFault, mutationAs, mutationAt, mutationsAt};
@@ -62,11 +63,11 @@ pub fn mutator_at(text: &[u8], at: usize) -> Choice
 }
 
 // Whether a column takes a mutator.
-fn suits(column: &[u8; 48], m: Mutator) -> bool
+fn suits(column: &Entry, m: Mutator) -> bool
     ensures { λ r. ⌜ r ≡ suits (columnFrom (now (column .entry))) m ⌝ }
 {
-    let integer = column[25] == 0;
-    let one = (column[28] == 1) & (column[29] == 1);
+    let integer = catalog::kind(column) == 0;
+    let one = catalog::is_scalar(column);
     match m {
         Mutator::Insert => !one,
         Mutator::Delete => !one,
@@ -80,7 +81,7 @@ fn value_fault(
     ends: &[u16],
     ops: Found,
     fresh: &[u8],
-    column: &[u8; 48],
+    column: &Entry,
     m: Mutator,
     at: usize,
 ) -> Fault
@@ -96,10 +97,10 @@ fn value_fault(
 }
 
 // That a column cannot be changed, or no fault.
-fn fixed_fault(column: &[u8; 48]) -> Fault
+fn fixed_fault(column: &Entry) -> Fault
     ensures { λ r. ⌜ r ≡ check (columnFrom (now (column .entry)) .mutable) Constraint Fine ⌝ }
 {
-    if column[30] == 1 {
+    if catalog::is_mutable(column) {
         return Fault::Fine;
     }
     Fault::Constraint
@@ -111,7 +112,7 @@ fn column_fault(
     ends: &[u16],
     ops: Found,
     fresh: &[u8],
-    column: &[u8; 48],
+    column: &Entry,
     m: Mutator,
     at: usize,
 ) -> Fault
@@ -123,7 +124,7 @@ fn column_fault(
     if ok {
         let v = value_fault(text, ends, ops, fresh, column, m, at);
         let w = fixed_fault(column);
-        return conditions::earlier(v, w);
+        return leaf::earlier(v, w);
     }
     Fault::Syntax
 }
@@ -134,7 +135,7 @@ fn triple_fault(
     ends: &[u16],
     ops: Found,
     fresh: &[u8],
-    columns: &[[u8; 48]],
+    columns: &[Entry],
     a: usize,
     b: usize,
     v: usize,
@@ -160,7 +161,7 @@ fn mutation_fault(
     ends: &[u16],
     ops: Found,
     fresh: &[u8],
-    columns: &[[u8; 48]],
+    columns: &[Entry],
     at: usize,
 ) -> Fault
     requires { ⌜ Running (now text) (now ends) ops (now fresh) ⌝ }
@@ -180,7 +181,7 @@ pub fn mutations_fault(
     ends: &[u16],
     ops: Found,
     fresh: &[u8],
-    columns: &[[u8; 48]],
+    columns: &[Entry],
     f: Found,
 ) -> Fault
     requires { ⌜ Running (now text) (now ends) ops (now fresh) ⌝ }
@@ -193,7 +194,7 @@ pub fn mutations_fault(
         match g {
             Found::At(p) => {
                 let t = mutation_fault(text, ends, ops, fresh, columns, p);
-                w = conditions::earlier(w, t);
+                w = leaf::earlier(w, t);
                 g = nav::next_item(text, ends, p);
             }
             Found::Nothing => return w,

@@ -58,7 +58,7 @@ drop-zeros (suc n) zero = let z : 0 - suc n ≡ 0 = omega arith in rw z
 drop-zeros (suc n) (suc k) = let z : suc k - suc n ≡ k - n = omega arith in rw z (drop-zeros n k)
 
 no-string : (j : Json) → isText (kindOf j) ≡ false → wordIn j ≡ []
-unfolding kindOf isText wordIn
+unfolding kindOf wordIn
 no-string null h = refl
 no-string (bool b) h = refl
 no-string (num t) h = refl

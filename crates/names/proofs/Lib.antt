@@ -1,4 +1,3 @@
 -- What the proofs of several functions use.
 pub mod Ids
-pub mod Named
 pub mod Cells

@@ -12,19 +12,11 @@ use Rattle.model.specs.Limits.{mostTextBytes}
 use Rattle.model.specs.Json.{Json}
 use Rattle.inner.specs.Positions.{wordIn}
 use Rattle.model.specs.Value.{textAtom, blank}
-use Rattle.inner.specs.Packed.{cellName}
+use Rattle.model.specs.Catalog.{cellName}
 
--- a string of at most 24 bytes as an atom; the empty one for any other value, which is no id either
+-- a string that fits in an atom; the empty one for any other value, which is no id either
 unfoldable pub shortCell : List ℕ → List ℕ
 shortCell t = elim (leb (length t) mostTextBytes) [ true ↦ textAtom t | false ↦ blank ]
 
 unfoldable pub nameCell : Json → List ℕ
 nameCell j = shortCell (wordIn j)
-
-unfoldable pub foundAt : Option ℕ → Found
-foundAt none = Nothing
-foundAt (some k) = At k
-
--- the place of a name among the names of cells
-unfoldable pub cellNamed : List (List ℕ) → List ℕ → Found
-cellNamed cells w = foundAt (placeOf w (map cellName cells))

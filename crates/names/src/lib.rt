@@ -1,5 +1,9 @@
 // Names: read from a text into cells, judged, looked up.
+use model::ATOM;
+use model::Atom;
 use model::Found;
+use model::Kind;
+use model::TEXT;
 use text::Written;
 ghost use mathlib.Core.Path.{_≡_};
 ghost use mathlib.Core.Bool.{Bool};
@@ -8,17 +12,17 @@ ghost use lib.ListN.{length};
 ghost use Rattle.inner.specs.Positions.{treeAt};
 ghost use Rattle.model.specs.Scan.{isDigit};
 ghost use Rattle.model.specs.Value.{textOf};
-ghost use Rattle.inner.specs.Packed.{cellName};
+ghost use Rattle.model.specs.Catalog.{cellName};
 ghost use Rattle.model.specs.SchemaText.{isLetter, isIdByte, isId, isVersion};
-ghost use Rattle.names.specs.Names.{nameCell, cellNamed};
+ghost use Rattle.names.specs.Names.{nameCell};
 
-// The string at `at` as an atom, where it has at most 24 bytes; else, and of any other value, the empty one.
-pub fn name_at(text: &[u8], at: usize) -> [u8; 25]
+// The string at `at` as an atom, where it fits in one; else, and of any other value, the empty one.
+pub fn name_at(text: &[u8], at: usize) -> Atom
     ensures { λ r. ⌜ r ≡ nameCell (treeAt (now (text .entry)) at) ⌝ }
 {
-    let mut cell = [0u8; 25];
+    let mut cell = [0u8; ATOM];
     let k = nav::kind_at(text, at);
-    let t = nav::is_text(k);
+    let t = leaf::is_kind(k, Kind::Text);
     if t {
         let i = scan::spaces(text, at);
         let w = text::decode(text, i + 1, &mut cell[1..]);
@@ -27,7 +31,7 @@ pub fn name_at(text: &[u8], at: usize) -> [u8; 25]
                 cell[0] = n as u8;
                 return cell;
             }
-            Written::Full => return [0u8; 25],
+            Written::Full => return [0u8; ATOM],
         }
     }
     cell
@@ -36,12 +40,12 @@ pub fn name_at(text: &[u8], at: usize) -> [u8; 25]
 fn is_letter(b: u8) -> bool
     ensures { λ r. ⌜ r ≡ isLetter b ⌝ }
 {
-    if 65 <= b {
-        if b <= 90 {
+    if b'A' <= b {
+        if b <= b'Z' {
             return true;
         }
-        if 97 <= b {
-            return b <= 122;
+        if b'a' <= b {
+            return b <= b'z';
         }
     }
     false
@@ -58,7 +62,7 @@ fn is_id_byte(b: u8) -> bool
     if d {
         return true;
     }
-    b == 95
+    b == b'_'
 }
 
 // Whether a name is an id.
@@ -68,7 +72,7 @@ pub fn is_id(t: &[u8]) -> bool
     if t.len() == 0 {
         return false;
     }
-    if 24 < t.len() {
+    if TEXT < t.len() {
         return false;
     }
     let l = is_letter(t[0]);
@@ -100,7 +104,7 @@ pub fn is_version(t: &[u8]) -> bool
         if d {
             seen = true;
         } else {
-            if b != 46 {
+            if b != b'.' {
                 return false;
             }
             if dots == 0 {
@@ -119,31 +123,4 @@ pub fn is_version(t: &[u8]) -> bool
         return seen;
     }
     false
-}
-
-// The name in a schema's cell.
-pub fn cell_name<'a>(cell: &'a [u8; 48]) -> &'a [u8]
-    ensures { λ r. ⌜ now r ≡ cellName (now (cell .entry)) ⌝ }
-{
-    let t = &cell[..];
-    let n = t[0] as usize;
-    if 47 < n {
-        return &t[1..48];
-    }
-    &t[1..1 + n]
-}
-
-// The place of a name among the names of cells.
-pub fn cell_named(cells: &[[u8; 48]], name: &[u8]) -> Found
-    ensures { λ r. ⌜ r ≡ cellNamed (now (cells .entry)) (now (name .entry)) ⌝ }
-{
-    let mut i = 0;
-    while i < cells.len() {
-        let same = octets::equal(name, cell_name(&cells[i]));
-        if same {
-            return Found::At(i);
-        }
-        i += 1;
-    }
-    Found::Nothing
 }

@@ -65,7 +65,6 @@ module _ (s : List ℕ) (i end : ℕ) where
 
 -- an integer is a number
 pub number-kind : (k : Kind) → isNumber k ≡ true → k ≡ Number
-unfolding isNumber
 number-kind Number h = refl
 number-kind Null h = absurd (let z : _≡_ {A = ℕ} 0 1 = cc in omega arith)
 number-kind Truth h = absurd (let z : _≡_ {A = ℕ} 0 1 = cc in omega arith)
@@ -74,7 +73,7 @@ number-kind Array h = absurd (let z : _≡_ {A = ℕ} 0 1 = cc in omega arith)
 number-kind Object h = absurd (let z : _≡_ {A = ℕ} 0 1 = cc in omega arith)
 
 pub whole-not : (j : Json) → isNumber (kindOf j) ≡ false → Other ≡ wholeOf j
-unfolding isNumber kindOf wholeOf
+unfolding kindOf wholeOf
 whole-not null h = refl
 whole-not (bool b) h = refl
 whole-not (num t) h = absurd (let z : _≡_ {A = ℕ} 0 1 = cc in omega arith)

@@ -5,13 +5,21 @@ use model::Kind;
 use model::Next;
 use model::Read;
 use model::Whole;
+use scan::BRACE;
+use scan::BRACKET;
+use scan::DASH;
+use scan::DIGIT_0;
+use scan::LETTER_F;
+use scan::LETTER_N;
+use scan::LETTER_T;
+use scan::QUOTE;
 ghost use mathlib.Core.Path.{_≡_};
 ghost use Prim.Native.Nat.{_≤_, _-_};
 ghost use lib.ListN.{length, getD};
 ghost use Rattle.model.specs.Scan.{between, endOr};
 ghost use Rattle.model.specs.Json.{keyAt, valueAt, memberAt};
-ghost use Rattle.inner.specs.Positions.{Says, foundOf, firstOf, nextItem, nextMember, treeAt, kindBy, isNumber, isTrue};
-ghost use Rattle.model.specs.Nav.{kindOf, isText, isArray, isObject, isTruth};
+ghost use Rattle.inner.specs.Positions.{Says, foundOf, firstOf, nextItem, nextMember, treeAt, kindBy, isTrue};
+ghost use Rattle.model.specs.Nav.{kindOf};
 ghost use Rattle.model.specs.Whole.{sized, plusOf, minusOf, wholeText, wholeOf};
 
 // The entry of the table, 0 past its end.
@@ -71,7 +79,7 @@ pub fn next_item(text: &[u8], ends: &[u16], at: usize) -> Found
     ensures { λ r. ⌜ r ≡ nextItem (now (text .entry)) at ⌝ }
 {
     let r = end_of(text, ends, at);
-    found(scan::after(text, r, 93))
+    found(scan::after(text, r, b']'))
 }
 
 // The end of the member at `at`.
@@ -92,29 +100,29 @@ pub fn next_member(text: &[u8], ends: &[u16], at: usize) -> Found
     ensures { λ r. ⌜ r ≡ nextMember (now (text .entry)) at ⌝ }
 {
     let r = member_end(text, ends, at);
-    found(scan::after(text, r, 125))
+    found(scan::after(text, r, b'}'))
 }
 
 // What a value is that begins with this byte.
 fn kind_by(b: u16) -> Kind
     ensures { λ r. ⌜ r ≡ kindBy b ⌝ }
 {
-    if b == 91 {
+    if b == BRACKET {
         return Kind::Array;
     }
-    if b == 123 {
+    if b == BRACE {
         return Kind::Object;
     }
-    if b == 34 {
+    if b == QUOTE {
         return Kind::Text;
     }
-    if b == 110 {
+    if b == LETTER_N {
         return Kind::Null;
     }
-    if b == 116 {
+    if b == LETTER_T {
         return Kind::Truth;
     }
-    if b == 102 {
+    if b == LETTER_F {
         return Kind::Truth;
     }
     Kind::Number
@@ -128,78 +136,13 @@ pub fn kind_at(text: &[u8], at: usize) -> Kind
     kind_by(scan::peek(text, i))
 }
 
-pub fn is_number(k: Kind) -> bool
-    ensures { λ r. ⌜ r ≡ isNumber k ⌝ }
-{
-    match k {
-        Kind::Number => true,
-        Kind::Null => false,
-        Kind::Truth => false,
-        Kind::Text => false,
-        Kind::Array => false,
-        Kind::Object => false,
-    }
-}
-
-pub fn is_text(k: Kind) -> bool
-    ensures { λ r. ⌜ r ≡ isText k ⌝ }
-{
-    match k {
-        Kind::Text => true,
-        Kind::Null => false,
-        Kind::Truth => false,
-        Kind::Number => false,
-        Kind::Array => false,
-        Kind::Object => false,
-    }
-}
-
-pub fn is_array(k: Kind) -> bool
-    ensures { λ r. ⌜ r ≡ isArray k ⌝ }
-{
-    match k {
-        Kind::Array => true,
-        Kind::Null => false,
-        Kind::Truth => false,
-        Kind::Number => false,
-        Kind::Text => false,
-        Kind::Object => false,
-    }
-}
-
-pub fn is_object(k: Kind) -> bool
-    ensures { λ r. ⌜ r ≡ isObject k ⌝ }
-{
-    match k {
-        Kind::Object => true,
-        Kind::Null => false,
-        Kind::Truth => false,
-        Kind::Number => false,
-        Kind::Text => false,
-        Kind::Array => false,
-    }
-}
-
-pub fn is_truth(k: Kind) -> bool
-    ensures { λ r. ⌜ r ≡ isTruth k ⌝ }
-{
-    match k {
-        Kind::Truth => true,
-        Kind::Null => false,
-        Kind::Number => false,
-        Kind::Text => false,
-        Kind::Array => false,
-        Kind::Object => false,
-    }
-}
-
 // Whether the value at `at` is true.
 pub fn truth_at(text: &[u8], at: usize) -> bool
     ensures { λ r. ⌜ r ≡ isTrue (treeAt (now (text .entry)) at) ⌝ }
 {
     let i = scan::spaces(text, at);
     let b = scan::peek(text, i);
-    b == 116
+    b == LETTER_T
 }
 
 // Where the value of the member at `at` begins.
@@ -214,14 +157,14 @@ pub fn member_value(text: &[u8], at: usize) -> usize
     }
 }
 
-// A digit's value: the byte less 48, or 0.
+// A digit's value: the byte less that of 0, or 0.
 fn digit_value(b: u16) -> u64
     ensures { λ r. ⌜ r ≡ b - 48 ⌝ }
 {
-    if b < 48 {
+    if b < DIGIT_0 {
         return 0;
     }
-    (b - 48) as u64
+    (b - DIGIT_0) as u64
 }
 
 // What the digits from `at` to `end` stand for.
@@ -285,7 +228,7 @@ fn whole_text(text: &[u8], at: usize, end: usize) -> Whole
         return Whole::Other;
     }
     let b = scan::peek(text, at);
-    if b == 45 {
+    if b == DASH {
         return minus(digits_of(text, at + 1, end));
     }
     plus(digits_of(text, at, end))
@@ -297,7 +240,7 @@ pub fn integer_at(text: &[u8], ends: &[u16], at: usize) -> Whole
     ensures { λ r. ⌜ r ≡ wholeOf (treeAt (now (text .entry)) at) ⌝ }
 {
     let k = kind_at(text, at);
-    let n = is_number(k);
+    let n = leaf::is_kind(k, Kind::Number);
     if n {
         let i = scan::spaces(text, at);
         let r = end_of(text, ends, at);

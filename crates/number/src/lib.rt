@@ -1,4 +1,6 @@
 // Integers as a sign and a magnitude: to and from an atom, their order, and arithmetic that is exact or told to be outside 64 bits.
+use model::ATOM;
+use model::Atom;
 use model::Mutator;
 ghost use mathlib.Core.Path.{_≡_};
 ghost use Prim.Native.Nat.{_*_};
@@ -49,7 +51,7 @@ fn of_bits(x: u64) -> Int
 }
 
 // The integer of an atom.
-pub fn of_atom(a: &[u8; 25]) -> Int
+pub fn of_atom(a: &Atom) -> Int
     ensures { λ r. ⌜ r ≡ asInt (intOf (now (a .entry))) ⌝ }
 {
     of_bits(octets::number(a, 8))
@@ -66,10 +68,10 @@ fn bits(minus: bool, size: u64) -> u64
 }
 
 // The atom of an integer.
-pub fn to_atom(i: Int) -> [u8; 25]
+pub fn to_atom(i: Int) -> Atom
     ensures { λ r. ⌜ r ≡ intAtom (intIn i) ⌝ }
 {
-    let mut a = [0u8; 25];
+    let mut a = [0u8; ATOM];
     octets::put_number(&mut a, bits(i.minus, i.size), 8);
     a
 }

@@ -25,12 +25,11 @@ use Rattle.model.specs.Faults.{check}
 use Rattle.model.specs.Written.{Names, stringIn}
 use Rattle.model.specs.Transact.{freshIds}
 use Rattle.model.specs.Operations as Model
-use Rattle.inner.specs.Packed.{columnFrom, packedTables}
+use Rattle.model.specs.Catalog.{columnFrom, packedTables}
 use Rattle.inner.specs.Working.{working}
 use Rattle.model.proofs.Tests.{split}
-use Rattle.names.specs.Names.{foundAt}
+use Rattle.catalog.specs.Entries.{foundAt, columnCells}
 use Rattle.fields.specs.Fields.{choiceFrom, choice, slotTree, Slots}
-use Rattle.area.specs.Layout.{columnCells}
 use Rattle.area.proofs.Schemas.{tables-count, columns-in}
 use Rattle.answer.specs.Put.{Put}
 use Rattle.answer.proofs.Putting.{put-is}
@@ -38,7 +37,7 @@ use Rattle.uuids.specs.Named.{namesAt}
 use Rattle.fresh.specs.Fresh.{freshAt}
 use Rattle.assign.specs.Assigned.{slotted}
 use Rattle.assign.proofs.Faults.{find-there, find-missing}
-use Rattle.schema.specs.Schema as schema
+use Rattle.lookup.specs.Lookup as lookup
 use Rattle.clauses.proofs.Slots.{slot-find}
 use Rattle.table_operations.specs.declared.Done.{Done}
 use Rattle.table_operations.specs.Ran.{Ran, inserting, selecting, updating, mutating, deleting}
@@ -55,7 +54,7 @@ and-false false = refl
 
 -- a slot stands for a string
 string-is : (j : Json) → isSome (stringIn j) ≡ isText (kindOf j)
-unfolding isText kindOf
+unfolding kindOf
 string-is null = refl
 string-is (bool b) = refl
 string-is (num t) = refl
@@ -67,7 +66,7 @@ abbrev stringOr : Option Json → Option (List ℕ)
 stringOr o = elim o [ none ↦ none | some j ↦ stringIn j ]
 
 string-slot : (s : List ℕ) (p : ℕ) → isSome (stringOr (slotted s p)) ≡ isText (kindOf (slotTree s p))
-unfolding slotted slotTree isText kindOf
+unfolding slotted slotTree kindOf
 string-slot s p = split (eqb p 0) (λ e. rw (slotted, slotTree, e) refl) (λ e. rw (slotted, slotTree, e) (string-is (treeAt s p)))
 
 module _ (text : List ℕ) (op : ℕ) {slots : List ℕ} (k : Slots text (ascii "op" ∷ ascii "comment" ∷ []) (membersIn (treeAt text op)) slots) {t : Bool} (et : t ≡ isText (kindOf (slotTree text (getD slots 1 0)))) where
@@ -114,7 +113,7 @@ abbrev tableOr : Schema → Option Json → Option ℕ
 tableOr s o = elim (stringOr o) [ none ↦ none | some w ↦ tableNamed s w ]
 
 module _ (s : Schema) (text : List ℕ) (ms : List Named) where
-  pub table-there : {f : Found} {p : ℕ} → Means text f (hasMember (ascii "table") ms) (memberValue (ascii "table") ms) → f ≡ At p → {r : Found} → r ≡ foundAt (schema.tableIn s (treeAt text p)) → r ≡ foundAt (Model.tableIn s ms)
+  pub table-there : {f : Found} {p : ℕ} → Means text f (hasMember (ascii "table") ms) (memberValue (ascii "table") ms) → f ≡ At p → {r : Found} → r ≡ foundAt (lookup.tableIn s (treeAt text p)) → r ≡ foundAt (Model.tableIn s ms)
   table-there m e h = h ∙ sym (ap (λ (o : Option Json). foundAt (tableOr s o)) (find-there text ms m refl e .0))
 
   pub table-missing : {f : Found} → Means text f (hasMember (ascii "table") ms) (memberValue (ascii "table") ms) → f ≡ Nothing → Nothing ≡ foundAt (Model.tableIn s ms)

@@ -5,6 +5,8 @@ use mathlib.Core.Bool.{true, false}
 use mathlib.Core.List.{List}
 use lib.Dec.{eqb}
 use lib.ListN.{length}
+use Rattle.selection.specs.Most.{resultMost}
+use Rattle.model.specs.Limits.{mostOperations, mostRows}
 use Rattle.model.specs.declared.Fault.the-variants.{Syntax}
 use Rattle.model.specs.declared.Found.{Found}
 use Rattle.model.specs.Json.{Named}
@@ -14,20 +16,18 @@ use Rattle.model.specs.Schema.{Schema, columnsOf}
 use Rattle.model.specs.Rows.{Row}
 use Rattle.model.specs.Written.{Names}
 use Rattle.model.specs.Operations.{Done, failed, tableIn, runInsert, runSelect, runUpdate, runMutate, runDelete, runComment, runAbort, onTable}
-use Rattle.area.specs.Layout.{Sized}
-use Rattle.references.specs.Links.{Accepted}
+use Rattle.catalog.specs.Accepted.{Accepted}
 use Rattle.uuids.specs.Named.{Running}
 
 -- what operation i begins with
 pub record Begun (text ends : List ℕ) (ops : Found) (fresh : List ℕ) (schema : List (List ℕ)) (i op n : ℕ) (rows : List (List (List ℕ))) (at : ℕ) : Type 0 where
   pub running : Running text ends ops fresh
   pub accepted : Accepted schema
-  pub sized : Sized schema
   pub well : wellAt text op ≡ true
-  pub early : i < 16
-  pub count : n ≤ 32
-  pub room : 32 ≤ length rows
-  pub space : at + 200000 < 2 ^ 64
+  pub early : i < mostOperations
+  pub count : n ≤ mostRows
+  pub room : mostRows ≤ length rows
+  pub space : at + resultMost < 2 ^ 64
 
 -- comment and abort, on the object at a position
 unfoldable pub commenting : List ℕ → ℕ → List Row → Done

@@ -1,22 +1,26 @@
 // One operation of a request, by its "op".
+use model::Catalog;
 use model::Fault;
 use model::Found;
+use model::Kind;
+use model::Row;
 use table_operations::Done;
 ghost use mathlib.Core.Path.{_≡_};
 ghost use mathlib.Core.Bool.{true};
 ghost use mathlib.Core.List.{List, []};
 ghost use Prim.Native.Nat.{ℕ, _+_, _^_, _≤_, _<_};
 ghost use lib.ListN.{length, getD};
+ghost use Rattle.selection.specs.Most.{resultMost};
+ghost use Rattle.model.specs.Limits.{mostOperations, mostTables, mostRows};
 ghost use Rattle.inner.specs.Positions.{Says, wellAt, treeAt};
 ghost use Rattle.model.specs.Members.{membersIn};
 ghost use Rattle.model.specs.Schema.{Schema};
 ghost use Rattle.model.specs.Transact.{freshIds};
 ghost use Rattle.model.specs.Operations.{tableIn, operate};
-ghost use Rattle.inner.specs.Packed.{packedTables};
+ghost use Rattle.model.specs.Catalog.{packedTables, tableCount};
 ghost use Rattle.inner.specs.Working.{working};
-ghost use Rattle.area.specs.Layout.{Sized};
-ghost use Rattle.references.specs.Links.{Accepted};
-ghost use Rattle.names.specs.Names.{foundAt};
+ghost use Rattle.catalog.specs.Accepted.{Accepted};
+ghost use Rattle.catalog.specs.Entries.{foundAt};
 ghost use Rattle.uuids.specs.Named.{namesAt, Running};
 ghost use Rattle.clauses.specs.Clauses.{Earlier};
 ghost use Rattle.table_operations.specs.Ran.{Ran};
@@ -26,13 +30,13 @@ ghost use Rattle.operation.specs.Performed.{Begun, commenting, aborting,
 fn run_comment(text: &[u8], ends: &[u16], op: usize, n: usize, out: &mut [u8], at: usize) -> Done
     requires { ⌜ Says (now text) (now ends) ⌝ }
     requires { ⌜ wellAt (now text) op ≡ true ⌝ }
-    requires { ⌜ n ≤ 32 ⌝ }
-    requires { ⌜ at + 200000 < 2 ^ 64 ⌝ }
+    requires { ⌜ n ≤ mostRows ⌝ }
+    requires { ⌜ at + resultMost < 2 ^ 64 ⌝ }
     ensures { λ r. ⌜ ((s : Schema) (rows : List (List (List ℕ))) → Ran s (commenting (now (text .entry)) op (working s n rows)) n rows rows at (now (out .entry)) (now (out .exit)) r) ⌝ }
 {
     let slots = fields::fields(text, ends, op, b"\x02op\x07comment");
     let k = fields::kind_in(text, slots[1]);
-    let t = nav::is_text(k);
+    let t = leaf::is_kind(k, Kind::Text);
     if slots[9] == 0 {
         if t {
             let e = answer::put_bytes(out, at, b"{}");
@@ -54,7 +58,7 @@ fn run_comment(text: &[u8], ends: &[u16], op: usize, n: usize, out: &mut [u8], a
 fn run_abort(text: &[u8], ends: &[u16], op: usize, n: usize, at: usize) -> Done
     requires { ⌜ Says (now text) (now ends) ⌝ }
     requires { ⌜ wellAt (now text) op ≡ true ⌝ }
-    requires { ⌜ n ≤ 32 ⌝ }
+    requires { ⌜ n ≤ mostRows ⌝ }
     ensures { λ r. ⌜ ((s : Schema) (rows : List (List (List ℕ))) (out : List ℕ) → Ran s (aborting (now (text .entry)) op (working s n rows)) n rows rows at out out r) ⌝ }
 {
     let slots = fields::fields(text, ends, op, b"\x02op");
@@ -73,15 +77,15 @@ fn run_abort(text: &[u8], ends: &[u16], op: usize, n: usize, at: usize) -> Done
 }
 
 // The table that the operation at `op` names.
-fn table_in(text: &[u8], ends: &[u16], schema: &[[u8; 48]; 29], op: usize) -> Found
+fn table_in(text: &[u8], ends: &[u16], schema: &Catalog, op: usize) -> Found
     requires { ⌜ Says (now text) (now ends) ⌝ }
     requires { ⌜ wellAt (now text) op ≡ true ⌝ }
-    requires { ⌜ getD (getD (now schema) 0 []) 25 0 ≤ 4 ⌝ }
+    requires { ⌜ tableCount (now schema) ≤ mostTables ⌝ }
     ensures { λ r. ⌜ r ≡ foundAt (tableIn (packedTables (now (schema .entry))) (membersIn (treeAt (now (text .entry)) op))) ⌝ }
 {
     let f = text::find(text, ends, op, b"table");
     match f {
-        Found::At(p) => schema::table_at(text, p, schema),
+        Found::At(p) => lookup::table_at(text, p, schema),
         Found::Nothing => Found::Nothing,
     }
 }
@@ -92,22 +96,22 @@ fn on_table(
     ends: &[u16],
     ops: Found,
     fresh: &[u8],
-    schema: &[[u8; 48]; 29],
+    schema: &Catalog,
     k: usize,
     t: usize,
     i: usize,
     op: usize,
-    rows: &mut [[[u8; 25]; 25]],
+    rows: &mut [Row],
     n: usize,
     out: &mut [u8],
     at: usize,
 ) -> Done
     requires { ⌜ Begun (now text) (now ends) ops (now fresh) (now schema) i op n (now rows) at ⌝ }
-    requires { ⌜ t < getD (getD (now schema) 0 []) 25 0 ⌝ }
+    requires { ⌜ t < tableCount (now schema) ⌝ }
     requires { ⌜ k < 5 ⌝ }
     ensures { λ r. ⌜ ((given : List (List ℕ)) → Earlier (now (text .entry)) ops i given → Ran (packedTables (now (schema .entry))) (tabled k (packedTables (now (schema .entry))) (namesAt (now (text .entry)) ops (now (fresh .entry))) given (getD (freshIds (now (fresh .entry))) i 0) (working (packedTables (now (schema .entry))) n (now (rows .entry))) (membersIn (treeAt (now (text .entry)) op)) t) n (now (rows .entry)) (now (rows .exit)) at (now (out .entry)) (now (out .exit)) r) ⌝ }
 {
-    let columns = area::columns_of(schema, t);
+    let columns = catalog::columns_of(schema, t);
     let table = t as u8;
     if k == 0 {
         return table_operations::run_insert(
@@ -180,11 +184,11 @@ fn perform(
     ends: &[u16],
     ops: Found,
     fresh: &[u8],
-    schema: &[[u8; 48]; 29],
+    schema: &Catalog,
     k: usize,
     i: usize,
     op: usize,
-    rows: &mut [[[u8; 25]; 25]],
+    rows: &mut [Row],
     n: usize,
     out: &mut [u8],
     at: usize,
@@ -236,21 +240,20 @@ pub fn operate(
     ends: &[u16],
     ops: Found,
     fresh: &[u8],
-    schema: &[[u8; 48]; 29],
+    schema: &Catalog,
     i: usize,
     op: usize,
-    rows: &mut [[[u8; 25]; 25]],
+    rows: &mut [Row],
     n: usize,
     answer: &mut [u8],
     at: usize,
 ) -> Done
     requires { ⌜ Running (now text) (now ends) ops (now fresh) ⌝ }
     requires { ⌜ Accepted (now schema) ⌝ }
-    requires { ⌜ Sized (now schema) ⌝ }
     requires { ⌜ wellAt (now text) op ≡ true ⌝ }
-    requires { ⌜ i < 16 ⌝ }
-    requires { ⌜ (n ≤ 32) × (32 ≤ length (now rows)) ⌝ }
-    requires { ⌜ at + 200000 < 2 ^ 64 ⌝ }
+    requires { ⌜ i < mostOperations ⌝ }
+    requires { ⌜ (n ≤ mostRows) × (mostRows ≤ length (now rows)) ⌝ }
+    requires { ⌜ at + resultMost < 2 ^ 64 ⌝ }
     ensures { λ r. ⌜ ((given : List (List ℕ)) → Earlier (now (text .entry)) ops i given → Ran (packedTables (now (schema .entry))) (operate (packedTables (now (schema .entry))) (namesAt (now (text .entry)) ops (now (fresh .entry))) given (getD (freshIds (now (fresh .entry))) i 0) (working (packedTables (now (schema .entry))) n (now (rows .entry))) (membersIn (treeAt (now (text .entry)) op))) n (now (rows .entry)) (now (rows .exit)) at (now (answer .entry)) (now (answer .exit)) r) ⌝ }
 {
     let f = text::find(text, ends, op, b"op");

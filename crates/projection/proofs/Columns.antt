@@ -6,19 +6,14 @@ use Prim.Native.Nat.{ℕ, suc, _+_, _*_, _-_, _<_, _≤_}
 use native.Mathlib.Nat.{add-zero}
 use native.Mathlib.Numerals.{add-one}
 use native.Mathlib.Omega.{arith}
-use lib.ListN.{length, take, drop, getD}
+use lib.ListN.{getD}
 use Rattle.model.specs.Octets.{part}
 use Rattle.model.specs.Base.{ascii}
-use Rattle.inner.specs.Packed.{cellName}
+use Rattle.model.specs.Catalog.{cellName, columnCount}
 use Rattle.inner.specs.Working.{idIn, valueIn}
 use Rattle.model.specs.Answers.{quoted}
-use Rattle.answer.specs.Put.{Counted}
 use Rattle.answer.specs.Texts.{quotedText, idText, setText, commaText, joined}
-use Rattle.answer.proofs.Joins.{taken}
-use Rattle.projection.specs.Shown.{nameText, columnText, rowIdText, shownText, shownFrom, columnsIn, rowShown}
-
-pub name-is : (cell : List ℕ) (n : ℕ) → length cell ≡ 48 → Counted 47 (getD cell 0 0) n → length (drop 1 cell) ≡ 47 → take n (drop 1 cell) ≡ cellName cell
-name-is cell n e c d = taken (drop 1 cell) 47 (getD cell 0 0) n c d
+use Rattle.projection.specs.Shown.{nameText, columnText, rowIdText, shownText, shownFrom, rowShown}
 
 pub colon-is : (name : List ℕ) → (quotedText name ++ (58 ∷ [])) ≡ nameText name
 unfolding quotedText nameText
@@ -71,9 +66,9 @@ module _ (schema : List (List ℕ)) (from : ℕ) (row : List (List ℕ)) (shown 
       ap (λ (k : ℕ). joined first (shownFrom schema from row shown c k)) e
 
 -- the whole object
-pub row-is : (schema : List (List ℕ)) (t : ℕ) (row : List (List ℕ)) (shown : List Bool) (n : ℕ) → n ≡ columnsIn schema t
+pub row-is : (schema : List (List ℕ)) (t : ℕ) (row : List (List ℕ)) (shown : List Bool) (n : ℕ) → n ≡ columnCount schema t
     → (123 ∷ (shownText (getD shown 0 false) true (rowIdText row) ++ (joined (not (getD shown 0 false)) (shownFrom schema (5 + 6 * t) row shown 0 n) ++ (125 ∷ [])))) ≡ rowShown schema t row shown
 unfolding rowShown
 row-is schema t row shown n e =
     let piece : ℕ → ℕ → List ℕ = λ f k. 123 ∷ (shownText (getD shown 0 false) true (rowIdText row) ++ (joined (not (getD shown 0 false)) (shownFrom schema f row shown 0 k) ++ (125 ∷ []))) in
-    ap (piece (5 + 6 * t)) e ∙ ap (λ (f : ℕ). piece f (columnsIn schema t)) (sym (add-zero (5 + 6 * t)))
+    ap (piece (5 + 6 * t)) e ∙ ap (λ (f : ℕ). piece f (columnCount schema t)) (sym (add-zero (5 + 6 * t)))

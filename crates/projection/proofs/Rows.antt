@@ -9,8 +9,8 @@ use lib.ListN.{length, take, drop, getD, length-drop, length-map}
 use lib.Seq.{drop-cons, drop-drop, getD-drop, length-take-le}
 use Rattle.model.specs.Base.{ascii, if_then_else_}
 use Rattle.model.specs.Schema.{Column, Schema, columnsOf}
-use Rattle.inner.specs.Packed.{baseNumbered}
-use Rattle.inner.specs.Packed.{cellName, columnFrom, columnCell, tableFrom}
+use Rattle.model.specs.Catalog.{baseNumbered, columnCount}
+use Rattle.model.specs.Catalog.{cellName, columnFrom, columnCell, tableFrom}
 use Rattle.model.specs.Value.{Value}
 use Rattle.model.specs.Areas.{columnsFrom, rowFrom}
 use Rattle.inner.specs.Working.{tableIn, idIn, valueIn}
@@ -19,7 +19,7 @@ use Rattle.model.specs.Answers.{memberText, valueText}
 use Rattle.answer.specs.Texts.{commaText, joined}
 use Rattle.answer.proofs.Joins.{joined-commas}
 use Rattle.projection.proofs.Columns.{listed}
-use Rattle.projection.specs.Shown.{columnText, rowIdText, shownText, shownFrom, columnsIn, rowShown}
+use Rattle.projection.specs.Shown.{columnText, rowIdText, shownText, shownFrom, rowShown}
 
 choose : (b : Bool) (x y : List ℕ) (r q : List (List ℕ)) → x ≡ y → r ≡ q → listed b x r ≡ (if b then y ∷ q else q)
 choose true x y r q e f = ap (λ (t : List ℕ). t ∷ r) e ∙ ap (λ (l : List (List ℕ)). y ∷ l) f
@@ -61,12 +61,12 @@ module _ (show : List ℕ → Bool) (s : Schema) (schema : List (List ℕ)) (t :
   -- what is written is a row's object of the model, of the columns whose names pass
   pub row-text : columnsOf s (tableIn row) ≡ tableFrom schema t .columns
       → getD shown 0 false ≡ show (ascii "_uuid")
-      → ((j : ℕ) → j < columnsIn schema t → getD shown (j + 1) false ≡ show (cellName (getD schema (columnCell t 0 + j) [])))
-      → columnCell t 0 + columnsIn schema t ≤ length schema
+      → ((j : ℕ) → j < columnCount schema t → getD shown (j + 1) false ≡ show (cellName (getD schema (columnCell t 0 + j) [])))
+      → columnCell t 0 + columnCount schema t ≤ length schema
       → rowShown schema t row shown ≡ rowText show (tableFrom schema t .columns) (rowFrom s row)
-  unfolding rowShown rowFrom tableFrom columnsIn tableIn rowIdText idIn
+  unfolding rowShown rowFrom tableFrom tableIn rowIdText idIn
   row-text same id flags fits =
-      let n = columnsIn schema t in
+      let n = columnCount schema t in
       let from = columnCell t 0 in
       let cs : List Column = map columnFrom (take n (drop from schema)) in
       let x = rowIdText row in

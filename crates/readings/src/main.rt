@@ -6,9 +6,11 @@
 //     put PLACE BYTES      bytes put into the area
 //     lacking CALL         a call on an area that lacks its last byte
 use model::Answer;
+use model::STORE_BYTES;
 ghost use mathlib.Core.Path.{_≡_};
 ghost use Prim.Native.Nat.{_+_, _≤_, _<_};
 ghost use lib.ListN.{length};
+ghost use Rattle.model.specs.Limits.{storeBytes};
 ghost use Rattle.io.specs.Counts.{Counts};
 
 fn put(s: &[u8]) {
@@ -271,7 +273,7 @@ fn one(area: &mut [u8], line: &[u8]) {
 
 // A line: a call on the area, bytes put into it, or a call on it without its last byte.
 fn line(area: &mut [u8], line: &[u8])
-    requires { ⌜ length (now area) ≡ 24107 ⌝ }
+    requires { ⌜ length (now area) ≡ storeBytes ⌝ }
 {
     if line.len() == 0 {
         return;
@@ -282,7 +284,7 @@ fn line(area: &mut [u8], line: &[u8])
         return;
     }
     if letter == 108 {
-        one(&mut area[..24106], rest(line));
+        one(&mut area[..STORE_BYTES - 1], rest(line));
         return;
     }
     one(area, line);
@@ -291,7 +293,7 @@ fn line(area: &mut [u8], line: &[u8])
 // The line that begins at `at`, and where the next one does.
 fn next(lines: &[u8], at: usize, area: &mut [u8]) -> usize
     requires { ⌜ at < length (now lines) ⌝ }
-    requires { ⌜ length (now area) ≡ 24107 ⌝ }
+    requires { ⌜ length (now area) ≡ storeBytes ⌝ }
     ensures { λ r. ⌜ (at < r) × (r ≤ length (now (lines .entry))) ⌝ }
 {
     let more = &lines[at..];
@@ -306,7 +308,7 @@ fn next(lines: &[u8], at: usize, area: &mut [u8]) -> usize
 
 // The lines, one after another.
 fn each(lines: &[u8], area: &mut [u8])
-    requires { ⌜ length (now area) ≡ 24107 ⌝ }
+    requires { ⌜ length (now area) ≡ storeBytes ⌝ }
 {
     let mut at = 0;
     while at < lines.len() {
@@ -317,6 +319,6 @@ fn each(lines: &[u8], area: &mut [u8])
 fn main() {
     let mut space = [0u8; 300000];
     let n = io::read_full(0, &mut space);
-    let mut area = [0u8; 24107];
+    let mut area = [0u8; STORE_BYTES];
     each(&space[..n], &mut area);
 }

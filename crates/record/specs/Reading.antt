@@ -1,12 +1,12 @@
 -- What bytes are read as, and what of it a schema has to list (document 01, refusal 8). Assumes nothing: these are definitions.
-use Prim.Native.Nat.{ℕ, _^_}
+use Prim.Native.Nat.{ℕ, _+_, _^_}
 use mathlib.Core.Path.{_≡_}
 use mathlib.Core.Bool.{Bool, true, false, not, _&&_}
 use mathlib.Core.List.{List, map}
 use mathlib.Core.Option.{Option, none, some}
 use lib.Dec.{eqb, ltb}
 use lib.ListN.{length, getD, drop}
-use Rattle.model.specs.Limits.{mostElements}
+use Rattle.model.specs.Limits.{mostElements, idBytes, endBytes, rowRecordBytes}
 use Rattle.model.specs.Octets.{part}
 use Rattle.model.specs.Schema.{Table, Schema, columnsOf}
 use Rattle.model.specs.Records.{Change, born, gone, column, end, Record, numbered, mark, recordBytes, bornKind, goneKind, columnKind, endKind, markKind, cut, decode, allows}
@@ -14,12 +14,19 @@ use Rattle.record.specs.Kinds.{bornRecord, goneRecord, columnRecord, end
 use Rattle.record.specs.declared.Arrival.{Arrival}
 use Rattle.record.specs.declared.Arrival.the-variants.{Born, Gone, Column, End, Mark, Bad}
 
+-- where a record's id lies, behind its table, and its atoms, behind its column and count
+abbrev pub idAt : ℕ
+idAt = endBytes + 1
+
+abbrev pub atomsAt : ℕ
+atomsAt = rowRecordBytes + 2
+
 -- a record's id and atoms, by their places in its bytes
 abbrev pub idIn : List ℕ → List ℕ
-idIn bytes = part 10 16 bytes
+idIn bytes = part idAt idBytes bytes
 
 abbrev pub atomsIn : List ℕ → List (List ℕ)
-atomsIn bytes = cut mostElements (drop 28 bytes)
+atomsIn bytes = cut mostElements (drop atomsAt bytes)
 
 -- the record that an answer of the reader and the bytes are; none for "an unknown kind, the wrong length"
 unfoldable pub arrivalRecord : Arrival → List ℕ → Option Record
@@ -50,7 +57,7 @@ columnCounts s = map (λ (t : Table). length (t .columns)) s
 
 -- refusal 8, "an all-zero id, a table .. the schema lacks": the opposite, for a schema of n tables
 unfoldable pub knownIn : ℕ → ℕ → ℕ → Bool
-knownIn n t i = ltb t n && not (eqb i 0) && ltb i (256 ^ 16)
+knownIn n t i = ltb t n && not (eqb i 0) && ltb i (256 ^ idBytes)
 
 -- and "a .. column the schema lacks"
 unfoldable pub listedIn : List ℕ → Change → Bool

@@ -3,16 +3,17 @@ use Prim.Native.Nat.{ℕ}
 use mathlib.Core.Path.{_≡_}
 use mathlib.Core.List.{List, _∷_, _++_}
 use lib.ListN.{length, drop}
+use Rattle.model.specs.Limits.{idBytes, numberBytes}
 use Rattle.model.specs.Octets.{big}
 use Rattle.model.specs.Records.{Record, encode}
 
 -- kind, "run 4, number 4"
 unfoldable pub startBytes : ℕ → ℕ → ℕ → List ℕ
-startBytes kind run number = kind ∷ big 4 run ++ big 4 number
+startBytes kind run number = kind ∷ big numberBytes run ++ big numberBytes number
 
 -- "the same", "table 1, id 16"
 unfoldable pub headBytes : ℕ → ℕ → ℕ → ℕ → ℕ → List ℕ
-headBytes kind run number table id = startBytes kind run number ++ table ∷ big 16 id
+headBytes kind run number table id = startBytes kind run number ++ table ∷ big idBytes id
 
 -- the record's bytes from the front, and what stood behind them as it was
 pub record Wrote (r : Record) (len : ℕ) (before after : List ℕ) : Type 0 where

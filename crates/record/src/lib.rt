@@ -1,9 +1,17 @@
 // The records of the line: one byte of kind, then a body whose length the kind fixes. A record's id and atoms stay where they are and are lent beside its struct.
+use model::ATOM;
+use model::Atom;
+use model::Atoms;
+use model::COLUMN_RECORD;
+use model::END_RECORD;
+use model::NUMBER;
+use model::ROW_RECORD;
 ghost use mathlib.Core.Path.{_≡_};
 ghost use mathlib.Core.List.{_∷_, _++_};
-ghost use Prim.Native.Nat.{_+_, _≤_};
+ghost use Prim.Native.Nat.{_+_, _*_, _≤_};
 ghost use lib.Dec.{eqb};
 ghost use lib.ListN.{length, drop};
+ghost use Rattle.model.specs.Limits.{atomBytes, idBytes, numberBytes, mostElements, endBytes, rowRecordBytes, columnRecordBytes};
 ghost use Rattle.model.specs.Octets.{value, part};
 ghost use Rattle.model.specs.Base.{flat};
 ghost use Rattle.model.specs.Records.{recordBytes};
@@ -11,53 +19,67 @@ ghost use Rattle.record.specs.Kinds.{bornOf, goneOf, columnOf, endOf, ma
 ghost use Rattle.record.specs.Writing.{startBytes, headBytes, Wrote};
 ghost use Rattle.record.specs.Reading.{atomsIn, arrivalRecord, Sized, ReadAs, knownIn, listedRecord};
 
-// The first byte is b.
-fn put_byte(out: &mut [u8], b: u8)
-    requires { ⌜ 1 ≤ length (now out) ⌝ }
-    ensures { λ _. ⌜ now (out .exit) ≡ b ∷ drop 1 (now (out .entry)) ⌝ }
-{
-    out[0] = b;
-}
+// Where the parts of a record lie, behind its kind: run, number, table, id, column, count, atoms.
+const RUN_AT: usize = 1;
+
+const NUMBER_AT: usize = RUN_AT + NUMBER;
+
+const TABLE_AT: usize = END_RECORD;
+
+pub const ID_AT: usize = TABLE_AT + 1;
+
+const COLUMN_AT: usize = ROW_RECORD;
+
+const COUNT_AT: usize = COLUMN_AT + 1;
+
+const ATOMS_AT: usize = COUNT_AT + 1;
+
+// Where the second, the third and the fourth atom lie behind the first.
+const SECOND: usize = ATOM;
+
+const THIRD: usize = SECOND + ATOM;
+
+const FOURTH: usize = THIRD + ATOM;
 
 // What every record begins with: kind, run, number.
 fn put_start(out: &mut [u8], kind: u8, run: u32, number: u32)
-    requires { ⌜ 9 ≤ length (now out) ⌝ }
-    ensures { λ _. ⌜ now (out .exit) ≡ startBytes kind run number ++ drop 9 (now (out .entry)) ⌝ }
+    requires { ⌜ endBytes ≤ length (now out) ⌝ }
+    ensures { λ _. ⌜ now (out .exit) ≡ startBytes kind run number ++ drop endBytes (now (out .entry)) ⌝ }
 {
-    put_byte(out, kind);
-    octets::put_number(&mut out[1..], run as u64, 4);
-    octets::put_number(&mut out[5..], number as u64, 4);
+    leaf::put_byte(out, kind);
+    octets::put_number(&mut out[RUN_AT..], run as u64, NUMBER);
+    octets::put_number(&mut out[NUMBER_AT..], number as u64, NUMBER);
 }
 
 // What the records on a row begin with: kind, run, number, table, id.
 fn put_head(out: &mut [u8], kind: u8, run: u32, number: u32, table: u8, id: &[u8])
-    requires { ⌜ (26 ≤ length (now out)) × (length (now id) ≡ 16) ⌝ }
-    ensures { λ _. ⌜ now (out .exit) ≡ headBytes kind run number table (value (now (id .entry))) ++ drop 26 (now (out .entry)) ⌝ }
+    requires { ⌜ (rowRecordBytes ≤ length (now out)) × (length (now id) ≡ idBytes) ⌝ }
+    ensures { λ _. ⌜ now (out .exit) ≡ headBytes kind run number table (value (now (id .entry))) ++ drop rowRecordBytes (now (out .entry)) ⌝ }
 {
     put_start(out, kind, run, number);
-    put_byte(&mut out[9..], table);
-    octets::put_bytes(&mut out[10..], id);
+    leaf::put_byte(&mut out[TABLE_AT..], table);
+    octets::put_bytes(&mut out[ID_AT..], id);
 }
 
 // The first bytes are the atom's.
-fn put_atom(out: &mut [u8], atom: &[u8; 25])
-    requires { ⌜ 25 ≤ length (now out) ⌝ }
-    ensures { λ _. ⌜ length (now (atom .entry)) ≡ 25 ⌝ }
-    ensures { λ _. ⌜ now (out .exit) ≡ now (atom .entry) ++ drop 25 (now (out .entry)) ⌝ }
+fn put_atom(out: &mut [u8], atom: &Atom)
+    requires { ⌜ atomBytes ≤ length (now out) ⌝ }
+    ensures { λ _. ⌜ length (now (atom .entry)) ≡ atomBytes ⌝ }
+    ensures { λ _. ⌜ now (out .exit) ≡ now (atom .entry) ++ drop atomBytes (now (out .entry)) ⌝ }
 {
     octets::put_bytes(out, atom);
 }
 
 // The first bytes are the atoms', one after another.
-pub fn put_atoms(out: &mut [u8], atoms: &[[u8; 25]])
-    requires { ⌜ (100 ≤ length (now out)) × (length (now atoms) ≡ 4) ⌝ }
-    ensures { λ _. ⌜ length (flat (now (atoms .entry))) ≡ 100 ⌝ }
-    ensures { λ _. ⌜ now (out .exit) ≡ flat (now (atoms .entry)) ++ drop 100 (now (out .entry)) ⌝ }
+pub fn put_atoms(out: &mut [u8], atoms: &[Atom])
+    requires { ⌜ (atomBytes * mostElements ≤ length (now out)) × (length (now atoms) ≡ mostElements) ⌝ }
+    ensures { λ _. ⌜ length (flat (now (atoms .entry))) ≡ atomBytes * mostElements ⌝ }
+    ensures { λ _. ⌜ now (out .exit) ≡ flat (now (atoms .entry)) ++ drop (atomBytes * mostElements) (now (out .entry)) ⌝ }
 {
     put_atom(out, &atoms[0]);
-    put_atom(&mut out[25..], &atoms[1]);
-    put_atom(&mut out[50..], &atoms[2]);
-    put_atom(&mut out[75..], &atoms[3]);
+    put_atom(&mut out[SECOND..], &atoms[1]);
+    put_atom(&mut out[THIRD..], &atoms[2]);
+    put_atom(&mut out[FOURTH..], &atoms[3]);
 }
 
 // A new row.
@@ -70,7 +92,7 @@ pub struct Born {
 impl Born {
     pub const KIND: u8 = 1;
 
-    pub const LEN: usize = 26;
+    pub const LEN: usize = ROW_RECORD;
 
     pub fn new(run: u32, number: u32, table: u8) -> Self
         ensures { λ r. ⌜ r ≡ bornOf run number table ⌝ }
@@ -79,8 +101,8 @@ impl Born {
     }
 
     pub fn write(self, id: &[u8], out: &mut [u8])
-        requires { ⌜ (26 ≤ length (now out)) × (length (now id) ≡ 16) ⌝ }
-        ensures { λ _. ⌜ Wrote (bornRecord self (now (id .entry))) 26 (now (out .entry)) (now (out .exit)) ⌝ }
+        requires { ⌜ (rowRecordBytes ≤ length (now out)) × (length (now id) ≡ idBytes) ⌝ }
+        ensures { λ _. ⌜ Wrote (bornRecord self (now (id .entry))) rowRecordBytes (now (out .entry)) (now (out .exit)) ⌝ }
     {
         put_head(out, Self::KIND, self.run, self.number, self.table, id);
     }
@@ -96,7 +118,7 @@ pub struct Gone {
 impl Gone {
     pub const KIND: u8 = 2;
 
-    pub const LEN: usize = 26;
+    pub const LEN: usize = ROW_RECORD;
 
     pub fn new(run: u32, number: u32, table: u8) -> Self
         ensures { λ r. ⌜ r ≡ goneOf run number table ⌝ }
@@ -105,8 +127,8 @@ impl Gone {
     }
 
     pub fn write(self, id: &[u8], out: &mut [u8])
-        requires { ⌜ (26 ≤ length (now out)) × (length (now id) ≡ 16) ⌝ }
-        ensures { λ _. ⌜ Wrote (goneRecord self (now (id .entry))) 26 (now (out .entry)) (now (out .exit)) ⌝ }
+        requires { ⌜ (rowRecordBytes ≤ length (now out)) × (length (now id) ≡ idBytes) ⌝ }
+        ensures { λ _. ⌜ Wrote (goneRecord self (now (id .entry))) rowRecordBytes (now (out .entry)) (now (out .exit)) ⌝ }
     {
         put_head(out, Self::KIND, self.run, self.number, self.table, id);
     }
@@ -124,7 +146,7 @@ pub struct Column {
 impl Column {
     pub const KIND: u8 = 3;
 
-    pub const LEN: usize = 128;
+    pub const LEN: usize = COLUMN_RECORD;
 
     pub fn new(run: u32, number: u32, table: u8, column: u8, count: u8) -> Self
         ensures { λ r. ⌜ r ≡ columnOf run number table column count ⌝ }
@@ -138,16 +160,16 @@ impl Column {
         }
     }
 
-    pub fn write(self, id: &[u8], atoms: &[[u8; 25]], out: &mut [u8])
-        requires { ⌜ (128 ≤ length (now out)) × (length (now id) ≡ 16) × (length (now atoms) ≡ 4) ⌝ }
-        ensures { λ _. ⌜ Wrote (columnRecord self (now (id .entry)) (now (atoms .entry))) 128 (now (out .entry)) (now (out .exit)) ⌝ }
+    pub fn write(self, id: &[u8], atoms: &[Atom], out: &mut [u8])
+        requires { ⌜ (columnRecordBytes ≤ length (now out)) × (length (now id) ≡ idBytes) × (length (now atoms) ≡ mostElements) ⌝ }
+        ensures { λ _. ⌜ Wrote (columnRecord self (now (id .entry)) (now (atoms .entry))) columnRecordBytes (now (out .entry)) (now (out .exit)) ⌝ }
     {
         let column = self.column;
         let count = self.count;
         put_head(out, Self::KIND, self.run, self.number, self.table, id);
-        put_byte(&mut out[26..], column);
-        put_byte(&mut out[27..], count);
-        put_atoms(&mut out[28..], atoms);
+        leaf::put_byte(&mut out[COLUMN_AT..], column);
+        leaf::put_byte(&mut out[COUNT_AT..], count);
+        put_atoms(&mut out[ATOMS_AT..], atoms);
     }
 }
 
@@ -160,7 +182,7 @@ pub struct End {
 impl End {
     pub const KIND: u8 = 4;
 
-    pub const LEN: usize = 9;
+    pub const LEN: usize = END_RECORD;
 
     pub fn new(run: u32, number: u32) -> Self
         ensures { λ r. ⌜ r ≡ endOf run number ⌝ }
@@ -169,8 +191,8 @@ impl End {
     }
 
     pub fn write(self, out: &mut [u8])
-        requires { ⌜ 9 ≤ length (now out) ⌝ }
-        ensures { λ _. ⌜ Wrote (endRecord self) 9 (now (out .entry)) (now (out .exit)) ⌝ }
+        requires { ⌜ endBytes ≤ length (now out) ⌝ }
+        ensures { λ _. ⌜ Wrote (endRecord self) endBytes (now (out .entry)) (now (out .exit)) ⌝ }
     {
         put_start(out, Self::KIND, self.run, self.number);
     }
@@ -185,7 +207,7 @@ pub struct Mark {
 impl Mark {
     pub const KIND: u8 = 5;
 
-    pub const LEN: usize = 9;
+    pub const LEN: usize = END_RECORD;
 
     pub fn new(run: u32, last: u32) -> Self
         ensures { λ r. ⌜ r ≡ markOf run last ⌝ }
@@ -194,8 +216,8 @@ impl Mark {
     }
 
     pub fn write(self, out: &mut [u8])
-        requires { ⌜ 9 ≤ length (now out) ⌝ }
-        ensures { λ _. ⌜ Wrote (markRecord self) 9 (now (out .entry)) (now (out .exit)) ⌝ }
+        requires { ⌜ endBytes ≤ length (now out) ⌝ }
+        ensures { λ _. ⌜ Wrote (markRecord self) endBytes (now (out .entry)) (now (out .exit)) ⌝ }
     {
         put_start(out, Self::KIND, self.run, self.last);
     }
@@ -233,12 +255,12 @@ pub fn len_of(kind: u8) -> usize
     0
 }
 
-// The number in four bytes.
+// The number in a number's bytes.
 fn four(bytes: &[u8], at: usize) -> u32
-    requires { ⌜ at + 4 ≤ length (now bytes) ⌝ }
-    ensures { λ r. ⌜ r ≡ value (part at 4 (now (bytes .entry))) ⌝ }
+    requires { ⌜ at + numberBytes ≤ length (now bytes) ⌝ }
+    ensures { λ r. ⌜ r ≡ value (part at numberBytes (now (bytes .entry))) ⌝ }
 {
-    octets::number(&bytes[at..], 4) as u32
+    octets::number(&bytes[at..], NUMBER) as u32
 }
 
 // The record that bytes are.
@@ -252,16 +274,22 @@ pub fn read(bytes: &[u8]) -> Arrival
     if bytes.len() != len_of(kind) {
         return Arrival::Bad;
     }
-    let run = four(bytes, 1);
-    let number = four(bytes, 5);
+    let run = four(bytes, RUN_AT);
+    let number = four(bytes, NUMBER_AT);
     if kind == Born::KIND {
-        return Arrival::Born(Born::new(run, number, bytes[9]));
+        return Arrival::Born(Born::new(run, number, bytes[TABLE_AT]));
     }
     if kind == Gone::KIND {
-        return Arrival::Gone(Gone::new(run, number, bytes[9]));
+        return Arrival::Gone(Gone::new(run, number, bytes[TABLE_AT]));
     }
     if kind == Column::KIND {
-        return Arrival::Column(Column::new(run, number, bytes[9], bytes[26], bytes[27]));
+        return Arrival::Column(Column::new(
+            run,
+            number,
+            bytes[TABLE_AT],
+            bytes[COLUMN_AT],
+            bytes[COUNT_AT],
+        ));
     }
     if kind == End::KIND {
         return Arrival::End(End::new(run, number));
@@ -270,24 +298,24 @@ pub fn read(bytes: &[u8]) -> Arrival
 }
 
 // The atom that stands at a place.
-fn atom_at(bytes: &[u8], at: usize) -> [u8; 25]
-    requires { ⌜ at + 25 ≤ length (now bytes) ⌝ }
-    ensures { λ r. ⌜ r ≡ part at 25 (now (bytes .entry)) ⌝ }
+fn atom_at(bytes: &[u8], at: usize) -> Atom
+    requires { ⌜ at + atomBytes ≤ length (now bytes) ⌝ }
+    ensures { λ r. ⌜ r ≡ part at atomBytes (now (bytes .entry)) ⌝ }
 {
-    let mut atom = [0u8; 25];
-    octets::put_bytes(&mut atom, &bytes[at..at + 25]);
+    let mut atom = [0u8; ATOM];
+    octets::put_bytes(&mut atom, &bytes[at..at + ATOM]);
     atom
 }
 
 // The atoms of a column record.
-pub fn atoms(bytes: &[u8]) -> [[u8; 25]; 4]
-    requires { ⌜ 128 ≤ length (now bytes) ⌝ }
+pub fn atoms(bytes: &[u8]) -> Atoms
+    requires { ⌜ columnRecordBytes ≤ length (now bytes) ⌝ }
     ensures { λ r. ⌜ r ≡ atomsIn (now (bytes .entry)) ⌝ }
 {
-    let a = atom_at(bytes, 28);
-    let b = atom_at(bytes, 53);
-    let c = atom_at(bytes, 78);
-    let d = atom_at(bytes, 103);
+    let a = atom_at(bytes, ATOMS_AT);
+    let b = atom_at(bytes, ATOMS_AT + SECOND);
+    let c = atom_at(bytes, ATOMS_AT + THIRD);
+    let d = atom_at(bytes, ATOMS_AT + FOURTH);
     [a, b, c, d]
 }
 
@@ -306,7 +334,7 @@ pub fn is_nil(id: &[u8]) -> bool
 
 // Whether a schema of so many tables has the table, and the id is not all zero.
 pub fn known(tables: usize, table: u8, id: &[u8]) -> bool
-    requires { ⌜ length (now id) ≡ 16 ⌝ }
+    requires { ⌜ length (now id) ≡ idBytes ⌝ }
     ensures { λ r. ⌜ r ≡ knownIn tables table (value (now (id .entry))) ⌝ }
 {
     if tables <= table as usize {
@@ -321,11 +349,11 @@ pub fn listed(arrival: Arrival, bytes: &[u8], counts: &[u8]) -> bool
     ensures { λ r. ⌜ r ≡ listedRecord (now (counts .entry)) (arrivalRecord arrival (now (bytes .entry))) ⌝ }
 {
     match arrival {
-        Arrival::Born(b) => known(counts.len(), b.table, &bytes[10..26]),
-        Arrival::Gone(g) => known(counts.len(), g.table, &bytes[10..26]),
+        Arrival::Born(b) => known(counts.len(), b.table, &bytes[ID_AT..ROW_RECORD]),
+        Arrival::Gone(g) => known(counts.len(), g.table, &bytes[ID_AT..ROW_RECORD]),
         Arrival::Column(c) => {
             let table = c.table as usize;
-            if known(counts.len(), c.table, &bytes[10..26]) {
+            if known(counts.len(), c.table, &bytes[ID_AT..ROW_RECORD]) {
                 return c.column < counts[table];
             }
             false

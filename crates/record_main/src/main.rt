@@ -1,5 +1,7 @@
 // Document 01's first reading: the 163 bytes of a row of Probe that is new in run 1, its one column and the end, written one after another and printed in hex.
 use libc::STDOUT_FILENO;
+use model::ATOM;
+use model::Atom;
 use record::Born;
 use record::Column;
 use record::End;
@@ -12,7 +14,7 @@ ghost use Rattle.model.specs.Records.{encode, numberFrom};
 ghost use Rattle.record_main.specs.Reading.{newRow};
 
 // The first commit of run 1: a new row of table 0 with one column, which has one element. Each record is lent the rest from where the last one ended.
-fn write_commit(id: &[u8], atoms: &[[u8; 25]], out: &mut [u8])
+fn write_commit(id: &[u8], atoms: &[Atom], out: &mut [u8])
     requires { ⌜ (163 ≤ length (now out)) × (length (now id) ≡ 16) × (length (now atoms) ≡ 4) ⌝ }
     ensures { λ _. ⌜ now (out .exit) ≡ flat (map encode (numberFrom 1 0 (newRow (now (id .entry)) (now (atoms .entry))))) ++ drop 163 (now (out .entry)) ⌝ }
 {
@@ -75,7 +77,7 @@ fn main() {
         0,
         0,
     ];
-    let blank = [0u8; 25];
+    let blank = [0u8; ATOM];
     let atoms = [name, blank, blank, blank];
     let mut out = [0u8; 163];
     write_commit(&id, &atoms, &mut out);

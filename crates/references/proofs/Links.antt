@@ -16,12 +16,13 @@ use Rattle.model.specs.Value.{Value, elements, valueOf}
 use Rattle.model.specs.Rows.{Row}
 use Rattle.model.specs.Commit.{strongly, weakly, keysOf, targets}
 use Rattle.model.specs.Areas.{columnsFrom, rowFrom}
-use Rattle.inner.specs.Packed.{refersFrom, columnCell, packedTables}
+use Rattle.model.specs.Catalog.{refersFrom, columnCell, packedTables}
 use Rattle.inner.specs.Working.{tableIn, valueIn}
 use Rattle.model.proofs.Tests.{split}
 use Rattle.inner.proofs.Working.{row-table}
 use Rattle.inner.proofs.Columns.{column-value}
-use Rattle.references.specs.Links.{pick, told, refersAt, Accepted}
+use Rattle.references.specs.Links.{pick, told, refersAt}
+use Rattle.catalog.specs.Accepted.{Accepted}
 use Rattle.references.specs.declared.Target.{Target}
 use Rattle.references.specs.declared.Target.the-variants.{Table, Nothing}
 use Rattle.references.proofs.Walks.{take-min}

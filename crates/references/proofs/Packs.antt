@@ -1,28 +1,21 @@
 -- A schema in cells: how many columns a table has, and which they are. Assumes nothing.
 use mathlib.Core.Path.{_≡_, refl, sym, ap, _∙_}
-use mathlib.Core.Bool.{Bool, true, false}
 use mathlib.Core.List.{List, [], _∷_, map}
-use Prim.Native.Nat.{ℕ, zero, suc, _+_, _-_, _*_, _≤_, _<_, min}
+use Prim.Native.Nat.{ℕ, zero, suc, _+_, _-_, _≤_, _<_, min}
 use native.Mathlib.Nat.{add-zero}
 use native.Mathlib.Numerals.{add-one}
 use native.Mathlib.Omega.{arith}
 use lib.ListN.{length, getD, take, drop, length-map, length-take, length-drop, List·getD-map}
 use lib.Seq.{drop-cons, getD-take, getD-drop}
-use Rattle.model.specs.Schema.{Column, Table, Schema, Database, columnsOf}
-use Rattle.inner.specs.Packed.{columnFrom, columnCell, tableCell, tableFrom, tablesFrom, packedTables, databaseFrom}
-use Rattle.model.proofs.Sane.{sane}
+use Rattle.model.specs.Limits.{mostTables, mostColumns}
+use Rattle.model.specs.Schema.{Column, Table, columnsOf}
+use Rattle.model.specs.Catalog.{columnFrom, columnCell, tableFrom, tablesFrom, packedTables, databaseFrom, tableCount, columnCount}
+use Rattle.model.specs.Sane.{sane}
 use Rattle.model.proofs.Accepted.{narrow, Kept, sane-kept}
 use Rattle.model.proofs.Lengths.{narrow-at}
-use Rattle.references.specs.Links.{Accepted}
+use Rattle.catalog.specs.Accepted.{Accepted}
 
 module _ (cells : List (List ℕ)) where
-  -- how many tables, and how many columns a table has, as the bytes say
-  abbrev pub tableCount : ℕ
-  tableCount = getD (getD cells 0 []) 25 0
-
-  abbrev pub columnCount : ℕ → ℕ
-  columnCount t = getD (getD cells (tableCell t) []) 25 0
-
   pub tables-length : (a k : ℕ) → length (tablesFrom cells a k) ≡ k
   tables-length a zero = refl
   tables-length a (suc k) = ap suc (tables-length (suc a) k)
@@ -46,34 +39,34 @@ module _ (cells : List (List ℕ)) where
   columns-past a (suc k) zero h = absurd (omega arith)
   columns-past a (suc k) (suc t) h = columns-past (suc a) k t (omega arith)
 
-  pub columns-in : (t : ℕ) → t < tableCount → columnsOf (packedTables cells) t ≡ map columnFrom (take (columnCount t) (drop (columnCell t 0) cells))
+  pub columns-in : (t : ℕ) → t < tableCount cells → columnsOf (packedTables cells) t ≡ map columnFrom (take (columnCount cells t) (drop (columnCell t 0) cells))
   unfolding tableFrom
   columns-in t h =
       let e : 0 + t ≡ t = omega arith in
-      columns-from 0 tableCount t h ∙ ap (λ (n : ℕ). tableFrom cells n .columns) e
+      columns-from 0 (tableCount cells) t h ∙ ap (λ (n : ℕ). tableFrom cells n .columns) e
 
-  pub columns-out : (t : ℕ) → tableCount ≤ t → columnsOf (packedTables cells) t ≡ []
-  columns-out t h = columns-past 0 tableCount t h
+  pub columns-out : (t : ℕ) → tableCount cells ≤ t → columnsOf (packedTables cells) t ≡ []
+  columns-out t h = columns-past 0 (tableCount cells) t h
 
   module _ (ok : Accepted cells) where
     kept : Kept (packedTables cells)
     kept = sane-kept (databaseFrom cells) (ok .sane)
 
-    pub few-tables : tableCount ≤ 4
-    few-tables = omega (arith, kept .few, tables-length 0 tableCount)
+    pub few-tables : tableCount cells ≤ mostTables
+    few-tables = omega (arith, kept .few, tables-length 0 (tableCount cells))
 
-    pub few-columns : (t : ℕ) → length (columnsOf (packedTables cells) t) ≤ 6
+    pub few-columns : (t : ℕ) → length (columnsOf (packedTables cells) t) ≤ mostColumns
     few-columns t = narrow-at (packedTables cells) t (kept .narrow)
 
-    pub width-is : (t : ℕ) → t < tableCount → length (columnsOf (packedTables cells) t) ≡ min (columnCount t) 6
+    pub width-is : (t : ℕ) → t < tableCount cells → length (columnsOf (packedTables cells) t) ≡ min (columnCount cells t) mostColumns
     width-is t h =
-        let l : length (columnsOf (packedTables cells) t) ≡ min (columnCount t) (length cells - columnCell t 0) =
-        ap length (columns-in t h) ∙ length-map (take (columnCount t) (drop (columnCell t 0) cells)) columnFrom ∙ simp (length-take, length-drop) in
+        let l : length (columnsOf (packedTables cells) t) ≡ min (columnCount cells t) (length cells - columnCell t 0) =
+        ap length (columns-in t h) ∙ length-map (take (columnCount cells t) (drop (columnCell t 0) cells)) columnFrom ∙ simp (length-take, length-drop) in
         omega (arith, l, few-columns t, few-tables, ok .size)
 
     -- a table that has a column is one of the tables
-    pub has-columns : (t c : ℕ) → c < length (columnsOf (packedTables cells) t) → t < tableCount
-    has-columns t c h = below-of t tableCount (λ g. omega (arith, ap length (columns-out t g)))
+    pub has-columns : (t c : ℕ) → c < length (columnsOf (packedTables cells) t) → t < tableCount cells
+    has-columns t c h = below-of t (tableCount cells) (λ g. omega (arith, ap length (columns-out t g)))
       where
         below-of : (a b : ℕ) → (b ≤ a → ⊥) → a < b
         below-of a b f = omega arith
@@ -81,11 +74,11 @@ module _ (cells : List (List ℕ)) where
     pub columns-on : (t c : ℕ) → c < length (columnsOf (packedTables cells) t)
         → drop c (columnsOf (packedTables cells) t) ≡ columnFrom (getD cells (columnCell t c) []) ∷ drop (c + 1) (columnsOf (packedTables cells) t)
     columns-on t c h =
-        let b : t < tableCount = has-columns t c h in
+        let b : t < tableCount cells = has-columns t c h in
         let w = width-is t b in
         let at : getD (columnsOf (packedTables cells) t) c (columnFrom []) ≡ columnFrom (getD cells (columnCell t c) []) =
-        ap (λ (l : List Column). getD l c (columnFrom [])) (columns-in t b) ∙ List·getD-map columnFrom (take (columnCount t) (drop (columnCell t 0) cells)) c []
-        ∙ ap columnFrom (getD-take (columnCount t) (drop (columnCell t 0) cells) c [] (omega (arith, w)) ∙ getD-drop (columnCell t 0) cells c []
+        ap (λ (l : List Column). getD l c (columnFrom [])) (columns-in t b) ∙ List·getD-map columnFrom (take (columnCount cells t) (drop (columnCell t 0) cells)) c []
+        ∙ ap columnFrom (getD-take (columnCount cells t) (drop (columnCell t 0) cells) c [] (omega (arith, w)) ∙ getD-drop (columnCell t 0) cells c []
         ∙ ap (λ (n : ℕ). getD cells n []) (omega arith)) in
         drop-cons (columnsOf (packedTables cells) t) c (columnFrom []) h
         ∙ rw (at, add-one c)

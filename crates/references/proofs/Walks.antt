@@ -1,7 +1,7 @@
 -- Tests over the first n elements of a list, one after another, with a way out at the first that decides. Assumes nothing.
 use mathlib.Core.Path.{_≡_, refl, sym, ap, _∙_}
-use mathlib.Core.Bool.{Bool, true, false, not, _&&_, _||_}
-use mathlib.Core.List.{List, [], _∷_, _++_, map}
+use mathlib.Core.Bool.{Bool, true, false, not}
+use mathlib.Core.List.{List, [], _∷_, map}
 use Prim.Native.Nat.{ℕ, zero, suc, _+_, _≤_, _<_, min}
 use native.Mathlib.Numerals.{add-one}
 use native.Mathlib.Omega.{arith}
@@ -10,16 +10,16 @@ use lib.ListN.{length, getD, take, drop, drop-of-length-le}
 use lib.Seq.{drop-cons, getD-take, length-take-le}
 use borrow.Author.Tests.{eq-eqb, eqb-true}
 use mathlib.Core.Option.{some}
-use Rattle.model.specs.Base.{any, all, keep}
+use Rattle.model.specs.Base.{any, all}
 use Rattle.model.specs.Value.{uuidOf}
 use Rattle.model.specs.Commit.{keysOf}
 use Rattle.model.proofs.Tests.{split, eqb-flip}
 use Rattle.model.proofs.Within.{any-map, all-map}
 use Rattle.model.specs.Schema.{Schema}
-use Rattle.model.specs.Rows.{Row, keyOf, key, has}
+use Rattle.model.specs.Rows.{Row, keyOf, key}
 use Rattle.model.specs.Areas.{rowFrom}
-use Rattle.inner.specs.Working.{working, keyIn}
-use Rattle.inner.proofs.Working.{row-key, working-on, working-end}
+use Rattle.inner.specs.Working.{working}
+use Rattle.inner.proofs.Working.{working-on, working-end}
 
 module _ {A : Type 0} (d : A) (l : List A) (n i : ℕ) (h : n ≤ length l) where
   pub first-on : i < n → drop i (take n l) ≡ getD l i d ∷ drop (i + 1) (take n l)
@@ -47,16 +47,7 @@ module _ {A : Type 0} (d : A) (l : List A) (n i : ℕ) (h : n ≤ length l) wher
     pub all-end : n ≤ i → all q (drop i (take n l)) ≡ true
     all-end g = rw (first-end g)
 
--- ── working rows, as their cells ──
-module _ (s : Schema) where
-  has-map : (k : ℕ) (l : List (List (List ℕ))) → has k (map (rowFrom s) l) ≡ any (λ (r : List (List ℕ)). eqb k (keyIn r)) l
-  has-map k [] = refl
-  has-map k (r ∷ l) = rw (row-key s r, has-map k l)
-
-  pub has-cells : (k n : ℕ) (cells : List (List (List ℕ))) → has k (working s n cells) ≡ any (λ (r : List (List ℕ)). eqb k (keyIn r)) (take n cells)
-  unfolding working
-  has-cells k n cells = has-map k (take n cells)
-
+-- ── working rows, one after another ──
 module _ (s : Schema) (cells : List (List (List ℕ))) (n : ℕ) (h : n ≤ length cells) (i : ℕ) (q : Row → Bool) where
   pub any-row-here : i < n → q (rowFrom s (getD cells i [])) ≡ true → any q (drop i (working s n cells)) ≡ true
   any-row-here g e = rw (working-on s cells n h i g, e)

@@ -1,17 +1,15 @@
 -- How columns refer, by the numbers that the code has for it. Assumes nothing: these are definitions.
 use Prim.Native.Nat.{ℕ}
-use mathlib.Core.Path.{_≡_}
 use mathlib.Core.Bool.{Bool, true, false}
 use mathlib.Core.List.{List, []}
 use mathlib.Core.Option.{Option, none, some}
 use lib.Dec.{eqb}
-use lib.ListN.{length, getD}
+use lib.ListN.{getD}
 use Rattle.model.specs.Base.{all}
 use Rattle.model.specs.Schema.{Refers, Schema, columnsOf}
 use Rattle.model.specs.Rows.{Row, has}
 use Rattle.model.specs.Commit.{strongly, weakly, targets}
-use Rattle.inner.specs.Packed.{schemaCells, columnCell, columnFrom, databaseFrom}
-use Rattle.model.proofs.Sane.{sane}
+use Rattle.model.specs.Catalog.{columnCell, columnFrom}
 use Rattle.references.specs.declared.Target.{Target}
 use Rattle.references.specs.declared.Target.the-variants.{Table, Nothing}
 
@@ -26,11 +24,6 @@ told Nothing = none
 -- how column c of table t refers, in the cells of a schema
 unfoldable pub refersAt : List (List ℕ) → ℕ → ℕ → Refers
 refersAt cells t c = columnFrom (getD cells (columnCell t c) []) .refers
-
--- the cells of an accepted schema
-pub record Accepted (cells : List (List ℕ)) : Type 0 where
-  pub size : length cells ≡ schemaCells
-  pub sane : sane (databaseFrom cells) ≡ true
 
 -- the rows that a row refers to, strongly (1) or weakly, are all there
 unfoldable pub referred : Schema → ℕ → List Row → Row → Bool

@@ -1,19 +1,27 @@
 // References: which rows the elements of a row's columns name.
+use model::Atom;
+use model::COLUMNS;
+use model::Catalog;
+use model::ELEMENTS;
+use model::ID;
+use model::Row;
 ghost use mathlib.Core.Path.{_≡_};
-ghost use mathlib.Core.List.{[], _++_};
+ghost use mathlib.Core.List.{_++_};
 ghost use mathlib.Core.Option.{some};
-ghost use Prim.Native.Nat.{ℕ, _+_, _*_, _≤_, _<_, min};
+ghost use Prim.Native.Nat.{ℕ, _+_, _≤_, _<_, min};
 ghost use lib.Dec.{eqb};
-ghost use lib.ListN.{length, take, drop, getD};
+ghost use lib.ListN.{length, take, drop};
+ghost use Rattle.model.specs.Limits.{mostColumns, mostElements};
 ghost use Rattle.model.specs.Base.{any, all, keep};
 ghost use Rattle.model.specs.Schema.{Schema, columnsOf};
 ghost use Rattle.model.specs.Value.{uuidOf, elements};
 ghost use Rattle.model.specs.Rows.{keyOf, has};
-ghost use Rattle.model.specs.Commit.{keysOf, targets, strongOf, present};
+ghost use Rattle.model.specs.Commit.{keysOf, strongOf, present};
 ghost use Rattle.model.specs.Areas.{rowFrom};
-ghost use Rattle.inner.specs.Packed.{refersFrom, packedTables};
+ghost use Rattle.model.specs.Catalog.{refersFrom, packedTables};
 ghost use Rattle.inner.specs.Working.{working, keyIn, valueIn};
-ghost use Rattle.references.specs.Links.{pick, told, refersAt, referred, Accepted};
+ghost use Rattle.references.specs.Links.{pick, told, refersAt, referred};
+ghost use Rattle.catalog.specs.Accepted.{Accepted};
 
 // The table that a column refers to, if it refers to one.
 pub enum Target {
@@ -21,23 +29,17 @@ pub enum Target {
     Nothing,
 }
 
-fn wide(b: u8) -> usize
-    ensures { λ r. ⌜ r ≡ b ⌝ }
-{
-    b as usize
-}
-
 // How many columns a table has.
-pub fn width(schema: &[[u8; 48]], table: u8) -> usize
+pub fn width(schema: &Catalog, table: u8) -> usize
     requires { ⌜ Accepted (now schema) ⌝ }
     ensures { λ r. ⌜ r ≡ length (columnsOf (packedTables (now (schema .entry))) table) ⌝ }
 {
-    if schema[0][25] <= table {
+    if catalog::table_count(&schema[0]) <= table {
         return 0;
     }
-    let w = wide(schema[1 + wide(table)][25]);
-    if 6 < w {
-        return 6;
+    let w = leaf::wide(catalog::width(&schema[1 + leaf::wide(table)]));
+    if COLUMNS < w {
+        return COLUMNS;
     }
     w
 }
@@ -62,50 +64,45 @@ fn picked(how: u8, kind: u8, table: u8) -> Target
 }
 
 // The table that column c of a table refers to, strongly (how 1) or weakly.
-pub fn refers(schema: &[[u8; 48]], table: u8, c: usize, how: u8) -> Target
+pub fn refers(schema: &Catalog, table: u8, c: usize, how: u8) -> Target
     requires { ⌜ Accepted (now schema) ⌝ }
     requires { ⌜ c < length (columnsOf (packedTables (now schema)) table) ⌝ }
     ensures { λ r. ⌜ told r ≡ pick how (refersAt (now (schema .entry)) table c) ⌝ }
 {
-    let at = 5 + 6 * wide(table) + c;
-    picked(how, schema[at][26], schema[at][27])
+    let column = catalog::column(schema, leaf::wide(table), c);
+    picked(how, catalog::refers(column), catalog::target(column))
 }
 
 // Whether a row is the one of a table that an atom names.
-pub fn is_named(table: u8, atom: &[u8; 25], row: &[[u8; 25]; 25]) -> bool
+pub fn is_named(table: u8, atom: &Atom, row: &Row) -> bool
     ensures { λ r. ⌜ r ≡ eqb (keyOf table (uuidOf (now (atom .entry)))) (keyIn (now (row .entry))) ⌝ }
 {
     let id = &atom[..];
-    rows::same_keys(table, &id[0..16], rows::key_of(row))
+    rows::same_keys(table, &id[0..ID], rows::key_of(row))
 }
 
 // Whether there is a row of a table that an atom names.
-pub fn has_named(rows: &[[[u8; 25]; 25]], n: usize, table: u8, atom: &[u8; 25]) -> bool
+pub fn has_named(rows: &[Row], n: usize, table: u8, atom: &Atom) -> bool
     requires { ⌜ n ≤ length (now rows) ⌝ }
     ensures { λ r. ⌜ ((s : Schema) → r ≡ has (keyOf table (uuidOf (now (atom .entry)))) (working s n (now (rows .entry)))) ⌝ }
 {
-    let mut i = 0;
-    while i < n {
-        if is_named(table, atom, &rows[i]) {
-            return true;
-        }
-        i += 1;
-    }
-    false
+    let id = &atom[..];
+    rows::has_key(rows, n, table, &id[0..ID])
 }
 
 // How many elements a value of this count has.
 pub fn size(count: u8) -> usize
-    ensures { λ r. ⌜ r ≡ min count 4 ⌝ }
+    ensures { λ r. ⌜ r ≡ min count mostElements ⌝ }
 {
-    if 4 < count {
-        return 4;
+    let n = leaf::wide(count);
+    if ELEMENTS < n {
+        return ELEMENTS;
     }
-    wide(count)
+    n
 }
 
 // Whether one of the first atoms names a row of a table.
-fn one_names(atoms: &[[u8; 25]], count: usize, table: u8, row: &[[u8; 25]; 25]) -> bool
+fn one_names(atoms: &[Atom], count: usize, table: u8, row: &Row) -> bool
     requires { ⌜ count ≤ length (now atoms) ⌝ }
     ensures { λ r. ⌜ r ≡ any (eqb (keyIn (now (row .entry)))) (keysOf (some table) (take count (now (atoms .entry)))) ⌝ }
 {
@@ -120,7 +117,7 @@ fn one_names(atoms: &[[u8; 25]], count: usize, table: u8, row: &[[u8; 25]; 25]) 
 }
 
 // Whether each of the first atoms names a row of a table.
-fn all_named(atoms: &[[u8; 25]], count: usize, table: u8, rows: &[[[u8; 25]; 25]], n: usize) -> bool
+fn all_named(atoms: &[Atom], count: usize, table: u8, rows: &[Row], n: usize) -> bool
     requires { ⌜ (count ≤ length (now atoms)) × (n ≤ length (now rows)) ⌝ }
     ensures { λ r. ⌜ ((s : Schema) → r ≡ all (λ (k : ℕ). has k (working s n (now (rows .entry)))) (keysOf (some table) (take count (now (atoms .entry))))) ⌝ }
 {
@@ -136,12 +133,12 @@ fn all_named(atoms: &[[u8; 25]], count: usize, table: u8, rows: &[[[u8; 25]; 25]
 
 // The first atoms that name a row of a table, in their order, put in front; and how many they are.
 pub fn keep_named(
-    atoms: &[[u8; 25]],
+    atoms: &[Atom],
     count: usize,
     table: u8,
-    rows: &[[[u8; 25]; 25]],
+    rows: &[Row],
     n: usize,
-    out: &mut [[u8; 25]],
+    out: &mut [Atom],
 ) -> usize
     requires { ⌜ (count ≤ length (now atoms)) × (count ≤ length (now out)) × (n ≤ length (now rows)) ⌝ }
     ensures { λ r. ⌜ ((s : Schema) → r ≡ length (keep (present (working s n (now (rows .entry))) table) (take count (now (atoms .entry))))) ⌝ }
@@ -161,8 +158,8 @@ pub fn keep_named(
 }
 
 // Whether column c of a row refers to another row, as one to a table.
-fn column_names(row: &[[u8; 25]; 25], c: usize, to: Target, other: &[[u8; 25]; 25]) -> bool
-    requires { ⌜ c < 6 ⌝ }
+fn column_names(row: &Row, c: usize, to: Target, other: &Row) -> bool
+    requires { ⌜ c < mostColumns ⌝ }
     ensures { λ r. ⌜ r ≡ any (eqb (keyIn (now (other .entry)))) (keysOf (told to) (elements (valueIn c (now (row .entry))))) ⌝ }
 {
     match to {
@@ -177,14 +174,8 @@ fn column_names(row: &[[u8; 25]; 25], c: usize, to: Target, other: &[[u8; 25]; 2
 }
 
 // Whether each element of column c names a row, as one of a column that refers to a table.
-fn column_found(
-    row: &[[u8; 25]; 25],
-    c: usize,
-    to: Target,
-    rows: &[[[u8; 25]; 25]],
-    n: usize,
-) -> bool
-    requires { ⌜ (c < 6) × (n ≤ length (now rows)) ⌝ }
+fn column_found(row: &Row, c: usize, to: Target, rows: &[Row], n: usize) -> bool
+    requires { ⌜ (c < mostColumns) × (n ≤ length (now rows)) ⌝ }
     ensures { λ r. ⌜ ((s : Schema) → r ≡ all (λ (k : ℕ). has k (working s n (now (rows .entry)))) (keysOf (told to) (elements (valueIn c (now (row .entry)))))) ⌝ }
 {
     match to {
@@ -200,7 +191,7 @@ fn column_found(
 }
 
 // Whether a row refers strongly to another.
-pub fn refers_to(row: &[[u8; 25]; 25], schema: &[[u8; 48]], other: &[[u8; 25]; 25]) -> bool
+pub fn refers_to(row: &Row, schema: &Catalog, other: &Row) -> bool
     requires { ⌜ Accepted (now schema) ⌝ }
     ensures { λ r. ⌜ r ≡ any (eqb (keyIn (now (other .entry)))) (strongOf (packedTables (now (schema .entry))) (rowFrom (packedTables (now (schema .entry))) (now (row .entry)))) ⌝ }
 {
@@ -218,13 +209,7 @@ pub fn refers_to(row: &[[u8; 25]; 25], schema: &[[u8; 48]], other: &[[u8; 25]; 2
 }
 
 // Whether every row that a row refers to, strongly (how 1) or weakly, is there.
-pub fn row_found(
-    row: &[[u8; 25]; 25],
-    schema: &[[u8; 48]],
-    how: u8,
-    rows: &[[[u8; 25]; 25]],
-    n: usize,
-) -> bool
+pub fn row_found(row: &Row, schema: &Catalog, how: u8, rows: &[Row], n: usize) -> bool
     requires { ⌜ Accepted (now schema) ⌝ }
     requires { ⌜ n ≤ length (now rows) ⌝ }
     ensures { λ r. ⌜ r ≡ referred (packedTables (now (schema .entry))) how (working (packedTables (now (schema .entry))) n (now (rows .entry))) (rowFrom (packedTables (now (schema .entry))) (now (row .entry))) ⌝ }

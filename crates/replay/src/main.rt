@@ -4,6 +4,18 @@
 use libc::STDERR_FILENO;
 use libc::STDOUT_FILENO;
 use model::Answer;
+use model::COLUMNS;
+use model::Catalog;
+use model::ENTRIES;
+use model::ENTRY;
+use model::Entry;
+use model::FRESH_BYTES;
+use model::ID;
+use model::LEAST_RECORDS;
+use model::MIRROR_BYTES;
+use model::STORE_BYTES;
+use model::TABLES;
+ghost use Rattle.model.specs.Limits.{freshBytes};
 ghost use mathlib.Core.Path.{_≡_};
 ghost use Prim.Native.Nat.{_*_, _+_, _^_, _≤_, _<_, min};
 ghost use lib.ListN.{length};
@@ -206,7 +218,7 @@ fn read_run() -> Run {
 
 // The fresh ids of line k, which counts from 0: 16 k + 1 to 16 k + 16.
 fn count_ids(k: usize, fresh: &mut [u8])
-    requires { ⌜ (k ≤ 65536) × (length (now fresh) ≡ 256) ⌝ }
+    requires { ⌜ (k ≤ 65536) × (length (now fresh) ≡ freshBytes) ⌝ }
 {
     let mut i = 0;
     while i < 16 {
@@ -314,9 +326,9 @@ fn replay_request(store: &mut [u8], whole: &mut [u8], display: &mut [u8], line: 
     put(b"request ");
     put(line);
     put(b"\n");
-    let mut fresh = [0u8; 256];
+    let mut fresh = [0u8; FRESH_BYTES];
     count_ids(k, &mut fresh);
-    let mut records = [0u8; 26249];
+    let mut records = [0u8; LEAST_RECORDS];
     let mut answer = io::large_buffer();
     let a = store::transact(store, line, &fresh, &mut records, &mut answer);
     put_answer(a, &answer);
@@ -385,19 +397,19 @@ fn replay_lines(store: &mut [u8], whole: &mut [u8], display: &mut [u8], requests
 // ── tables ──
 
 // A column's count and atoms, at the end of a column record's bytes.
-fn ask_column(area: &[u8], table: u8, id: &[u8; 16], column: u8, bytes: &mut [u8])
+fn ask_column(area: &[u8], table: u8, id: &[u8; ID], column: u8, bytes: &mut [u8])
     requires { ⌜ length (now bytes) ≡ 128 ⌝ }
 {
     mirror::column(area, table, id, column, &mut bytes[27..]);
 }
 
 // A column's name and value, as an answer has them.
-fn put_column(area: &[u8], cell: &[u8; 48], table: u8, id: &[u8; 16], column: u8) {
+fn put_column(area: &[u8], cell: &Entry, table: u8, id: &[u8; ID], column: u8) {
     let mut bytes = [0u8; 128];
     ask_column(area, table, id, column, &mut bytes);
     let atoms = record::atoms(&bytes);
     let mut text = [0u8; 600];
-    let n = answer::put_value(&mut text, 0, cell[25], bytes[27], &atoms);
+    let n = answer::put_value(&mut text, 0, catalog::kind(cell), bytes[27], &atoms);
     let name = projection::name_of(cell);
     put(b",\"");
     put(name);
@@ -406,7 +418,7 @@ fn put_column(area: &[u8], cell: &[u8; 48], table: u8, id: &[u8; 16], column: u8
 }
 
 // A row's id, as an answer has it.
-fn put_id(id: &[u8; 16]) {
+fn put_id(id: &[u8; ID]) {
     let bytes = &id[..];
     let mut text = [0u8; 59];
     let n = answer::put_id(&mut text, 0, bytes);
@@ -426,11 +438,11 @@ fn at_most(count: u8, most: usize) -> usize
 }
 
 // A row on a line.
-fn put_row(area: &[u8], cells: &[[u8; 48]; 29], t: usize, id: &[u8; 16])
+fn put_row(area: &[u8], cells: &Catalog, t: usize, id: &[u8; ID])
     requires { ⌜ t < 4 ⌝ }
 {
     put_id(id);
-    let n = at_most(cells[1 + t][25], 6);
+    let n = at_most(catalog::width(&cells[1 + t]), COLUMNS);
     let mut c = 0;
     while c < n {
         put_column(area, &cells[5 + 6 * t + c], t as u8, id, c as u8);
@@ -447,10 +459,10 @@ fn put_count(id: &mut [u8], i: usize)
 }
 
 // The row of a counted id, if a table has it.
-fn show_row(area: &[u8], cells: &[[u8; 48]; 29], t: usize, i: usize)
+fn show_row(area: &[u8], cells: &Catalog, t: usize, i: usize)
     requires { ⌜ t < 4 ⌝ }
 {
-    let mut id = [0u8; 16];
+    let mut id = [0u8; ID];
     put_count(&mut id, i);
     let p = mirror::has_row(area, t as u8, &id);
     if p.there {
@@ -459,7 +471,7 @@ fn show_row(area: &[u8], cells: &[[u8; 48]; 29], t: usize, i: usize)
 }
 
 // A table's rows by their ids, of which so many were counted.
-fn show_table(area: &[u8], cells: &[[u8; 48]; 29], t: usize, ids: usize)
+fn show_table(area: &[u8], cells: &Catalog, t: usize, ids: usize)
     requires { ⌜ (t < 4) × (ids < 2 ^ 63) ⌝ }
 {
     let name = projection::name_of(&cells[1 + t]);
@@ -474,7 +486,7 @@ fn show_table(area: &[u8], cells: &[[u8; 48]; 29], t: usize, ids: usize)
 }
 
 // How far a mirror has followed, whether it is level, and its tables.
-fn show(area: &[u8], cells: &[[u8; 48]; 29], ids: usize)
+fn show(area: &[u8], cells: &Catalog, ids: usize)
     requires { ⌜ ids < 2 ^ 63 ⌝ }
 {
     let p = mirror::progress(area);
@@ -485,7 +497,7 @@ fn show(area: &[u8], cells: &[[u8; 48]; 29], ids: usize)
     } else {
         put(b", not level\n");
     }
-    let n = at_most(cells[0][25], 4);
+    let n = at_most(catalog::table_count(&cells[0]), TABLES);
     let mut t = 0;
     while t < n {
         show_table(area, cells, t, ids);
@@ -508,19 +520,19 @@ fn send_mark(store: &[u8], whole: &mut [u8], display: &mut [u8]) {
 fn replay(text: &[u8], run: u32, requests: &[u8])
     requires { ⌜ length (now requests) ≤ 65536 ⌝ }
 {
-    let mut store = [0u8; 24107];
+    let mut store = [0u8; STORE_BYTES];
     let a = store::start(&mut store, text, run);
     if !is_accepted(a) {
         tell(STDERR_FILENO, a);
         return;
     }
-    let mut whole = [0u8; 24113];
-    let mut display = [0u8; 24113];
+    let mut whole = [0u8; MIRROR_BYTES];
+    let mut display = [0u8; MIRROR_BYTES];
     mirror::start(&mut whole, text, run);
     mirror::start(&mut display, text, run);
     let k = replay_lines(&mut store, &mut whole, &mut display, requests);
     send_mark(&store, &mut whole, &mut display);
-    let mut cells = [[0u8; 48]; 29];
+    let mut cells = [[0u8; ENTRY]; ENTRIES];
     schema::read(text, &mut cells);
     put(b"a mirror that heard every record: ");
     show(&whole, &cells, 16 * k);

@@ -13,7 +13,7 @@ use Rattle.model.specs.Json.{Json, null, bool, num, str, arr, obj}
 use Rattle.inner.specs.Positions.{treeAt}
 use Rattle.model.specs.Nav.{kindOf, isText, textIn}
 use Rattle.model.specs.Text.{isWord}
-use Rattle.inner.specs.Packed.{cellName, packedTables, databaseFrom}
+use Rattle.model.specs.Catalog.{cellName, packedTables, databaseFrom}
 use Rattle.model.specs.Rows.{Row}
 use Rattle.inner.specs.Working.{working}
 use Rattle.model.specs.Transact as model
@@ -32,7 +32,7 @@ is-none none h = refl
 is-none (some a) h = absurd (clash true refl h)
 
 word-is : (w : List ℕ) (j : Json) → isText (kindOf j) ≡ true → isWord w j ≡ eqBytes (textIn j) w
-unfolding isText kindOf isWord textIn
+unfolding kindOf isWord textIn
 word-is w null h = absurd (clash false h refl)
 word-is w (bool b) h = absurd (clash false h refl)
 word-is w (num t) h = absurd (clash false h refl)

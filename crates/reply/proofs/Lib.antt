@@ -3,4 +3,3 @@ pub mod Commits
 pub mod Asking
 pub mod Telling
 pub mod Replies
-pub mod Stored

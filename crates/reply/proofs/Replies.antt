@@ -10,7 +10,7 @@ use Rattle.model.specs.Octets.{filled}
 use Rattle.model.specs.Limits.{lastNumber}
 use Rattle.model.specs.Base.{flat}
 use Rattle.model.specs.Schema.{Schema}
-use Rattle.inner.specs.Packed.{packedTables}
+use Rattle.model.specs.Catalog.{packedTables}
 use Rattle.inner.specs.Working.{working}
 use Rattle.model.specs.Records.{diff, numberFrom, encode}
 use Rattle.model.specs.Transact.{Transaction}

@@ -15,7 +15,7 @@ use Rattle.model.specs.Faults.{Judged, isFine}
 use Rattle.model.specs.Schema.{Schema}
 use Rattle.model.specs.Rows.{Row}
 use Rattle.model.specs.Commit.{commit}
-use Rattle.inner.specs.Packed.{packedTables, databaseFrom}
+use Rattle.model.specs.Catalog.{packedTables, databaseFrom}
 use Rattle.inner.specs.Working.{working, Tidy}
 use Rattle.model.specs.Records.{numberFrom, encode}
 use Rattle.model.specs.Refusals.{isRefusal}

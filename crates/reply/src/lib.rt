@@ -1,17 +1,21 @@
 // A transact on a store's state: from a request's text to the answer, the rows after it and the records.
 use model::Answer;
+use model::Catalog;
 use model::Fault;
 use model::Found;
+use model::LAST_NUMBER;
+use model::REQUEST_TEXT;
+use model::Row;
 ghost use mathlib.Core.Path.{_≡_};
 ghost use Prim.Native.Nat.{_≤_, _<_, _+_, _^_};
 ghost use lib.ListN.{length, take};
+ghost use Rattle.model.specs.Limits.{mostOperations, mostRows, freshBytes, leastRecords};
 ghost use Rattle.inner.specs.Positions.{itemsFrom};
 ghost use Rattle.inner.specs.Positions.{isNothing};
 ghost use Rattle.model.specs.Faults.{isFine};
 ghost use Rattle.inner.specs.Working.{working};
-ghost use Rattle.inner.specs.Packed.{packedTables};
-ghost use Rattle.area.specs.Layout.{Sized};
-ghost use Rattle.references.specs.Links.{Accepted};
+ghost use Rattle.model.specs.Catalog.{packedTables};
+ghost use Rattle.catalog.specs.Accepted.{Accepted};
 ghost use Rattle.uuids.specs.Named.{Running};
 ghost use Rattle.reply.specs.Replying.{committed, transactOn, replyOn, Closed, Ended, Asked, Refused, Replied};
 
@@ -37,23 +41,6 @@ pub struct Effect {
     pub changes: usize,
 }
 
-// Whether there is no fault.
-fn is_fine(f: Fault) -> bool
-    ensures { λ r. ⌜ r ≡ isFine f ⌝ }
-{
-    match f {
-        Fault::Fine => true,
-        Fault::Syntax => false,
-        Fault::Resources => false,
-        Fault::Duplicate => false,
-        Fault::Constraint => false,
-        Fault::Domain => false,
-        Fault::Range => false,
-        Fault::Aborted => false,
-        Fault::Integrity => false,
-    }
-}
-
 // Whether there is no place.
 fn is_nothing(f: Found) -> bool
     ensures { λ r. ⌜ r ≡ isNothing f ⌝ }
@@ -66,8 +53,8 @@ fn is_nothing(f: Found) -> bool
 
 // Commits the first n rows and ends the answer: by a bracket, and before it an error object where the commit fails.
 fn at_commit(
-    schema: &[[u8; 48]; 29],
-    rows: &mut [[[u8; 25]; 25]],
+    schema: &Catalog,
+    rows: &mut [Row],
     n: usize,
     first: bool,
     answer: &mut [u8],
@@ -78,10 +65,10 @@ fn at_commit(
     requires { ⌜ at + 45 < 2 ^ 64 ⌝ }
     ensures { λ r. ⌜ Closed (packedTables (now (schema .entry))) (committed (packedTables (now (schema .entry))) (working (packedTables (now (schema .entry))) n (now (rows .entry)))) n (now (rows .entry)) (now (rows .exit)) first at (now (answer .entry)) (now (answer .exit)) r ⌝ }
 {
-    let c = commit::commit(&schema[..], rows, n);
+    let c = commit::commit(schema, rows, n);
     let f = c.fault;
-    if is_fine(f) {
-        let end = answer::put_byte(answer, at, 93);
+    if leaf::is_fine(f) {
+        let end = answer::put_byte(answer, at, b']');
         return Outcome {
             commits: true,
             count: c.count,
@@ -90,7 +77,7 @@ fn at_commit(
     }
     let end = answer::put_comma(answer, at, first);
     let end = answer::put_error(answer, end, f);
-    let end = answer::put_byte(answer, end, 93);
+    let end = answer::put_byte(answer, end, b']');
     Outcome {
         commits: false,
         count: n,
@@ -104,25 +91,24 @@ fn transact(
     ends: &[u16],
     ops: Found,
     fresh: &[u8],
-    schema: &[[u8; 48]; 29],
-    rows: &mut [[[u8; 25]; 25]],
+    schema: &Catalog,
+    rows: &mut [Row],
     n: usize,
     answer: &mut [u8],
 ) -> Outcome
     requires { ⌜ Running (now text) (now ends) ops (now fresh) ⌝ }
     requires { ⌜ Accepted (now schema) ⌝ }
-    requires { ⌜ Sized (now schema) ⌝ }
-    requires { ⌜ length (itemsFrom (now text) ops) ≤ 16 ⌝ }
-    requires { ⌜ (n ≤ 32) × (32 ≤ length (now rows)) ⌝ }
+    requires { ⌜ length (itemsFrom (now text) ops) ≤ mostOperations ⌝ }
+    requires { ⌜ (n ≤ mostRows) × (mostRows ≤ length (now rows)) ⌝ }
     ensures { λ r. ⌜ Ended (packedTables (now (schema .entry))) (transactOn (packedTables (now (schema .entry))) (now (text .entry)) ops (now (fresh .entry)) (working (packedTables (now (schema .entry))) n (now (rows .entry)))) n (now (rows .entry)) (now (rows .exit)) (now (answer .entry)) (now (answer .exit)) r ⌝ }
 {
     let ran = run::run(text, ends, ops, fresh, schema, rows, n, answer);
     let f = ran.fault;
-    if is_fine(f) {
+    if leaf::is_fine(f) {
         let first = is_nothing(ops);
         return at_commit(schema, rows, ran.count, first, answer, ran.at);
     }
-    let end = answer::put_byte(answer, ran.at, 93);
+    let end = answer::put_byte(answer, ran.at, b']');
     Outcome {
         commits: false,
         count: n,
@@ -132,14 +118,14 @@ fn transact(
 
 // Reads a request, and judges its database's name and the fresh ids.
 fn judge(
-    schema: &[[u8; 48]; 29],
-    before: &[[[u8; 25]; 25]],
+    schema: &Catalog,
+    before: &[Row],
     n: usize,
     request: &[u8],
     ends: &mut [u16],
     fresh: &[u8],
 ) -> Question
-    requires { ⌜ (length (now fresh) ≡ 256) × (n ≤ length (now before)) ⌝ }
+    requires { ⌜ (length (now fresh) ≡ freshBytes) × (n ≤ length (now before)) ⌝ }
     ensures { λ r. ⌜ Asked (now (schema .entry)) n (now (before .entry)) (now (request .entry)) (now (fresh .entry)) (now (ends .exit)) r ⌝ }
 {
     let q = request::read(request, ends);
@@ -150,7 +136,7 @@ fn judge(
             ops: Found::Nothing,
         };
     }
-    if !text::is_word(request, q.name, names::cell_name(&schema[0])) {
+    if !text::is_word(request, q.name, catalog::name_of(&schema[0])) {
         return Question {
             runs: false,
             answer: Answer::OtherDatabase,
@@ -188,25 +174,24 @@ fn refuse(why: Answer, records: &mut [u8], answer: &mut [u8]) -> Effect
 
 // A request on the first n rows of a store, `before`, of which `rows` is a copy to work on.
 pub fn reply(
-    schema: &[[u8; 48]; 29],
+    schema: &Catalog,
     run: u32,
     number: u32,
-    before: &[[[u8; 25]; 25]],
+    before: &[Row],
     n: usize,
-    rows: &mut [[[u8; 25]; 25]],
+    rows: &mut [Row],
     request: &[u8],
     fresh: &[u8],
     records: &mut [u8],
     answer: &mut [u8],
 ) -> Effect
     requires { ⌜ Accepted (now schema) ⌝ }
-    requires { ⌜ Sized (now schema) ⌝ }
-    requires { ⌜ (n ≤ 32) × (32 ≤ length (now before)) × (32 ≤ length (now rows)) ⌝ }
+    requires { ⌜ (n ≤ mostRows) × (mostRows ≤ length (now before)) × (mostRows ≤ length (now rows)) ⌝ }
     requires { ⌜ take n (now rows) ≡ take n (now before) ⌝ }
-    requires { ⌜ (length (now fresh) ≡ 256) × (26249 ≤ length (now records)) ⌝ }
+    requires { ⌜ (length (now fresh) ≡ freshBytes) × (leastRecords ≤ length (now records)) ⌝ }
     ensures { λ r. ⌜ Replied (packedTables (now (schema .entry))) (replyOn (now (schema .entry)) number n (now (before .entry)) (now (request .entry)) (now (fresh .entry)) (length (now (answer .entry)))) run number n (now (before .entry)) (now (rows .exit)) (now (records .entry)) (now (records .exit)) (now (answer .entry)) (now (answer .exit)) r ⌝ }
 {
-    let mut ends = [0u16; 8192];
+    let mut ends = [0u16; REQUEST_TEXT];
     let q = judge(schema, before, n, request, &mut ends[..], fresh);
     let why = q.answer;
     if !q.runs {
@@ -227,8 +212,8 @@ pub fn reply(
             changes: 0,
         };
     }
-    let k = changes::write(&schema[..], before, n, rows, o.count, run, number, records);
-    let left = (4294967295 - number) as usize;
+    let k = changes::write(schema, before, n, rows, o.count, run, number, records);
+    let left = (LAST_NUMBER - number) as usize;
     if left < k {
         return refuse(Answer::NumbersSpent, records, answer);
     }

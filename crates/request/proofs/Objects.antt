@@ -64,7 +64,7 @@ module _ (l : List Json) where
 
 -- ── the model's reading of a request, by the same tests ──
 object-in : (j : Json) → objectIn j ≡ elim (object j) [ true ↦ some (membersIn j) | false ↦ none ]
-unfolding kindOf isObject membersIn
+unfolding kindOf membersIn
 object-in null = refl
 object-in (bool b) = refl
 object-in (num t) = refl
@@ -73,7 +73,7 @@ object-in (arr xs) = refl
 object-in (obj ms) = refl
 
 string-in : (j : Json) → stringIn j ≡ elim (isText (kindOf j)) [ true ↦ some (textIn j) | false ↦ none ]
-unfolding kindOf isText textIn
+unfolding kindOf textIn
 string-in null = refl
 string-in (bool b) = refl
 string-in (num t) = refl

@@ -15,7 +15,7 @@ use Rattle.model.specs.Transact.{requestItems, readRequest}
 use Rattle.uuids.specs.Named.{operationsAt}
 use Rattle.request.specs.declared.Request.{Request}
 
--- at most 16 values, all objects
+-- at most as many values as a request may have, all objects
 unfoldable pub fewObjects : List Json → Bool
 fewObjects l = leb (length l) mostOperations && all (λ (j : Json). isObject (kindOf j)) l
 

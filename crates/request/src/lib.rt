@@ -1,5 +1,8 @@
 // A request: the params of "transact", read by positions of its text; and the fresh ids that come with it.
 use model::Found;
+use model::Kind;
+use model::OPERATIONS;
+use model::REQUEST_TEXT;
 use model::Read;
 ghost use mathlib.Core.Path.{_≡_};
 ghost use mathlib.Core.Bool.{true, false};
@@ -15,7 +18,7 @@ pub struct Request {
     pub ops: Found,
 }
 
-// Whether the items from f on are at most 16 objects.
+// Whether the items from f on are objects, as many as a request may have.
 fn few_objects(text: &[u8], ends: &[u16], f: Found) -> bool
     requires { ⌜ Says (now text) (now ends) ⌝ }
     requires { ⌜ itemsFine (now text) f ≡ true ⌝ }
@@ -26,11 +29,11 @@ fn few_objects(text: &[u8], ends: &[u16], f: Found) -> bool
     loop {
         match g {
             Found::At(p) => {
-                if 16 <= n {
+                if OPERATIONS <= n {
                     return false;
                 }
                 let k = nav::kind_at(text, p);
-                let o = nav::is_object(k);
+                let o = leaf::is_kind(k, Kind::Object);
                 if o {
                     n += 1;
                     g = nav::next_item(text, ends, p);
@@ -60,12 +63,12 @@ fn parts(text: &[u8], ends: &[u16]) -> Request
     requires { ⌜ wellAt (now text) 0 ≡ true ⌝ }
     ensures { λ r. ⌜ Parted (now (text .entry)) r ⌝ }
 {
-    let f = nav::first(text, 0, 91, 93);
+    let f = nav::first(text, 0, b'[', b']');
     let Found::At(a) = f else {
         return refused();
     };
     let k = nav::kind_at(text, a);
-    let t = nav::is_text(k);
+    let t = leaf::is_kind(k, Kind::Text);
     let g = nav::next_item(text, ends, a);
     let o = few_objects(text, ends, g);
     Request {
@@ -79,7 +82,7 @@ fn parts(text: &[u8], ends: &[u16]) -> Request
 pub fn read(text: &[u8], ends: &mut [u16]) -> Request
     ensures { λ r. ⌜ RequestRead (now (text .entry)) (now (ends .exit)) r ⌝ }
 {
-    if 8192 < text.len() {
+    if REQUEST_TEXT < text.len() {
         return refused();
     }
     let d = json::document(text, ends);

@@ -3,6 +3,7 @@ use mathlib.Core.Path.{_≡_}
 use mathlib.Core.List.{List, []}
 use Prim.Native.Nat.{ℕ, suc, _+_, _-_, _≤_, _<_}
 use lib.ListN.{length, getD, take}
+use Rattle.model.specs.Limits.{atomBytes, mostColumns, idOffset, idBytes, countsOffset}
 use Rattle.model.specs.Octets.{part}
 use Rattle.model.specs.Schema.{Schema, columnsOf}
 use Rattle.model.specs.Value.{Value}
@@ -13,13 +14,13 @@ use Rattle.model.specs.declared.Found.the-variants.{At}
 
 -- a row's table and id, and its id alone, in the first of its cells
 pub record KeyBytes (b : List ℕ) (cells : List (List ℕ)) : Type 0 where
-  pub head : length (getD cells 0 []) ≡ 25
-  pub bytes : b ≡ take 17 (getD cells 0 [])
-  pub size : length b ≡ 17
+  pub head : length (getD cells 0 []) ≡ atomBytes
+  pub bytes : b ≡ take countsOffset (getD cells 0 [])
+  pub size : length b ≡ countsOffset
 
 pub record IdBytes (b : List ℕ) (cells : List (List ℕ)) : Type 0 where
-  pub bytes : b ≡ part 1 16 (getD cells 0 [])
-  pub size : length b ≡ 16
+  pub bytes : b ≡ part idOffset idBytes (getD cells 0 [])
+  pub size : length b ≡ idBytes
 
 -- a row added in its place among the first n
 pub record Added (n : ℕ) (row : List (List ℕ)) (entry exit : List (List (List ℕ))) : Type 0 where
@@ -36,4 +37,4 @@ pub record Removed (n i : ℕ) (entry exit : List (List (List ℕ))) : Type 0 wh
 pub record ColumnSet (c : ℕ) (v : Value) (entry exit : List (List ℕ)) : Type 0 where
   pub cells : exit ≡ withValue c v entry
   pub row : (s : Schema) → rowFrom s exit ≡ setColumn c v (rowFrom s entry)
-  pub tidy : (s : Schema) → c < length (columnsOf s (tableIn entry)) → length (columnsOf s (tableIn entry)) ≤ 6 → TidyRow s entry → TidyRow s exit
+  pub tidy : (s : Schema) → c < length (columnsOf s (tableIn entry)) → length (columnsOf s (tableIn entry)) ≤ mostColumns → TidyRow s entry → TidyRow s exit

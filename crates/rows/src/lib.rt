@@ -1,11 +1,22 @@
-// Working rows: rows in 25 cells of 25 bytes, beside their count, in the order of their keys.
+// Working rows: rows in cells, beside their count, in the order of their keys.
+use model::ATOM;
+use model::Atom;
+use model::Atoms;
+use model::CELLS;
+use model::COLUMNS;
+use model::COUNTS_OFFSET;
+use model::ELEMENTS;
 use model::Found;
+use model::ID;
+use model::ID_OFFSET;
+use model::Row;
 ghost use mathlib.Core.Path.{_≡_};
 ghost use mathlib.Core.Bool.{not, _&&_};
 ghost use mathlib.Core.List.{List, map};
 ghost use Prim.Native.Nat.{_+_, _-_, _^_, _≤_, _<_};
 ghost use lib.Dec.{eqb, ltb};
 ghost use lib.ListN.{length, take, drop};
+ghost use Rattle.model.specs.Limits.{mostColumns, mostElements, rowCellCount, idBytes, countsOffset};
 ghost use Rattle.model.specs.Octets.{value, part, eqBytes};
 ghost use Rattle.model.specs.Schema.{Column, Schema};
 ghost use Rattle.model.specs.Value.{sameValue};
@@ -15,40 +26,40 @@ ghost use Rattle.inner.specs.Working.{working, tableIn, idIn, keyIn, valueIn, w
 ghost use Rattle.rows.specs.Post.{KeyBytes, IdBytes, Added, Removed, ColumnSet};
 
 // A row's table.
-pub fn table_of(row: &[[u8; 25]; 25]) -> u8
+pub fn table_of(row: &Row) -> u8
     ensures { λ r. ⌜ r ≡ tableIn (now (row .entry)) ⌝ }
 {
     row[0][0]
 }
 
 // A row's table and id, lent.
-pub fn key_of<'r>(row: &'r [[u8; 25]; 25]) -> &'r [u8]
+pub fn key_of<'r>(row: &'r Row) -> &'r [u8]
     ensures { λ r. ⌜ KeyBytes (now r) (now (row .entry)) ⌝ }
 {
     let cells = &row[..];
     let cell = &cells[0];
     let head = &cell[..];
-    &head[0..17]
+    &head[0..COUNTS_OFFSET]
 }
 
 // A row's id, lent.
-pub fn id_of<'r>(row: &'r [[u8; 25]; 25]) -> &'r [u8]
+pub fn id_of<'r>(row: &'r Row) -> &'r [u8]
     ensures { λ r. ⌜ IdBytes (now r) (now (row .entry)) ⌝ }
 {
     let cells = &row[..];
     let cell = &cells[0];
     let head = &cell[..];
-    &head[1..17]
+    &head[ID_OFFSET..COUNTS_OFFSET]
 }
 
 // Whether two ids have the same bytes.
 fn same_bytes(x: &[u8], y: &[u8]) -> bool
-    requires { ⌜ (length (now x) ≡ 16) × (length (now y) ≡ 16) ⌝ }
+    requires { ⌜ (length (now x) ≡ idBytes) × (length (now y) ≡ idBytes) ⌝ }
     ensures { λ r. ⌜ r ≡ eqBytes (now (x .entry)) (now (y .entry)) ⌝ }
 {
     let mut ok = true;
     let mut k = 0;
-    while k < 16 {
+    while k < ID {
         ok = ok & (x[k] == y[k]);
         k += 1;
     }
@@ -57,7 +68,7 @@ fn same_bytes(x: &[u8], y: &[u8]) -> bool
 
 // Whether two ids are the same number.
 fn same_ids(x: &[u8], y: &[u8]) -> bool
-    requires { ⌜ (length (now x) ≡ 16) × (length (now y) ≡ 16) ⌝ }
+    requires { ⌜ (length (now x) ≡ idBytes) × (length (now y) ≡ idBytes) ⌝ }
     ensures { λ r. ⌜ r ≡ eqb (value (now (x .entry))) (value (now (y .entry))) ⌝ }
 {
     same_bytes(x, y)
@@ -65,70 +76,71 @@ fn same_ids(x: &[u8], y: &[u8]) -> bool
 
 // Whether table and id are those of a key.
 pub fn same_keys(table: u8, id: &[u8], key: &[u8]) -> bool
-    requires { ⌜ (length (now id) ≡ 16) × (length (now key) ≡ 17) ⌝ }
+    requires { ⌜ (length (now id) ≡ idBytes) × (length (now key) ≡ countsOffset) ⌝ }
     ensures { λ r. ⌜ r ≡ eqb (keyOf table (value (now (id .entry)))) (value (now (key .entry))) ⌝ }
 {
     if table != key[0] {
         return false;
     }
-    same_bytes(id, &key[1..17])
+    same_bytes(id, &key[ID_OFFSET..COUNTS_OFFSET])
 }
 
 // The order of keys.
 fn less_keys(x: &[u8], y: &[u8]) -> bool
-    requires { ⌜ (length (now x) ≡ 17) × (length (now y) ≡ 17) ⌝ }
+    requires { ⌜ (length (now x) ≡ countsOffset) × (length (now y) ≡ countsOffset) ⌝ }
     ensures { λ r. ⌜ r ≡ ltb (value (now (x .entry))) (value (now (y .entry))) ⌝ }
 {
     octets::less(x, y)
 }
 
 // Whether a row has this id.
-pub fn has_this_id(id: &[u8; 16], row: &[[u8; 25]; 25]) -> bool
+pub fn has_this_id(id: &[u8; ID], row: &Row) -> bool
     ensures { λ r. ⌜ r ≡ eqb (value (now (id .entry))) (idIn (now (row .entry))) ⌝ }
 {
     same_ids(&id[..], id_of(row))
 }
 
-// Whether an id is not zero, and a number of 16 bytes.
+// Whether an id is not zero, and a number of an id's bytes.
 fn some_id(id: &[u8]) -> bool
-    requires { ⌜ length (now id) ≡ 16 ⌝ }
-    ensures { λ r. ⌜ r ≡ (not (eqb (value (now (id .entry))) 0) && ltb (value (now (id .entry))) (256 ^ 16)) ⌝ }
+    requires { ⌜ length (now id) ≡ idBytes ⌝ }
+    ensures { λ r. ⌜ r ≡ (not (eqb (value (now (id .entry))) 0) && ltb (value (now (id .entry))) (256 ^ idBytes)) ⌝ }
 {
-    let none = [0u8; 16];
+    let none = [0u8; ID];
     !same_bytes(id, &none[..])
 }
 
-// Whether a row's id is not zero, and a number of 16 bytes.
-pub fn has_some_id(row: &[[u8; 25]; 25]) -> bool
-    ensures { λ r. ⌜ r ≡ (not (eqb (idIn (now (row .entry))) 0) && ltb (idIn (now (row .entry))) (256 ^ 16)) ⌝ }
+// Whether a row's id is not zero, and a number of an id's bytes.
+pub fn has_some_id(row: &Row) -> bool
+    ensures { λ r. ⌜ r ≡ (not (eqb (idIn (now (row .entry))) 0) && ltb (idIn (now (row .entry))) (256 ^ idBytes)) ⌝ }
 {
     some_id(id_of(row))
 }
 
 // Whether two rows have the same id.
-pub fn same_id(x: &[[u8; 25]; 25], y: &[[u8; 25]; 25]) -> bool
+pub fn same_id(x: &Row, y: &Row) -> bool
     ensures { λ r. ⌜ r ≡ eqb (idIn (now (x .entry))) (idIn (now (y .entry))) ⌝ }
 {
     same_ids(id_of(x), id_of(y))
 }
 
 // Whether a row is the one of this table and id.
-pub fn is_row(table: u8, id: &[u8; 16], row: &[[u8; 25]; 25]) -> bool
+fn is_row(table: u8, id: &[u8], row: &Row) -> bool
+    requires { ⌜ length (now id) ≡ idBytes ⌝ }
     ensures { λ r. ⌜ r ≡ eqb (keyOf table (value (now (id .entry)))) (keyIn (now (row .entry))) ⌝ }
 {
-    same_keys(table, &id[..], key_of(row))
+    same_keys(table, id, key_of(row))
 }
 
 // Whether x lies before y.
-pub fn less(x: &[[u8; 25]; 25], y: &[[u8; 25]; 25]) -> bool
+pub fn less(x: &Row, y: &Row) -> bool
     ensures { λ r. ⌜ r ≡ ltb (keyIn (now (x .entry))) (keyIn (now (y .entry))) ⌝ }
 {
     less_keys(key_of(x), key_of(y))
 }
 
-// The place of the row of a table and an id.
-pub fn find(rows: &[[[u8; 25]; 25]], n: usize, table: u8, id: &[u8; 16]) -> Found
-    requires { ⌜ n ≤ length (now rows) ⌝ }
+// The place of the row of a table and an id, and whether there is one; the id in a slice.
+pub fn find_key(rows: &[Row], n: usize, table: u8, id: &[u8]) -> Found
+    requires { ⌜ (n ≤ length (now rows)) × (length (now id) ≡ idBytes) ⌝ }
     ensures { λ r. ⌜ ((s : Schema) → r ≡ place (keyOf table (value (now (id .entry)))) (working s n (now (rows .entry)))) ⌝ }
 {
     let mut i = 0;
@@ -141,20 +153,42 @@ pub fn find(rows: &[[[u8; 25]; 25]], n: usize, table: u8, id: &[u8; 16]) -> Foun
     Found::Nothing
 }
 
-// Whether there is a row of a table and an id.
-pub fn has_row(rows: &[[[u8; 25]; 25]], n: usize, table: u8, id: &[u8; 16]) -> bool
-    requires { ⌜ n ≤ length (now rows) ⌝ }
+pub fn has_key(rows: &[Row], n: usize, table: u8, id: &[u8]) -> bool
+    requires { ⌜ (n ≤ length (now rows)) × (length (now id) ≡ idBytes) ⌝ }
     ensures { λ r. ⌜ ((s : Schema) → r ≡ has (keyOf table (value (now (id .entry)))) (working s n (now (rows .entry)))) ⌝ }
 {
-    let found = find(rows, n, table, id);
+    let found = find_key(rows, n, table, id);
     match found {
         Found::At(_) => true,
         Found::Nothing => false,
     }
 }
 
+// The same of an id in an array.
+pub fn find(rows: &[Row], n: usize, table: u8, id: &[u8; ID]) -> Found
+    requires { ⌜ n ≤ length (now rows) ⌝ }
+    ensures { λ r. ⌜ ((s : Schema) → r ≡ place (keyOf table (value (now (id .entry)))) (working s n (now (rows .entry)))) ⌝ }
+{
+    find_key(rows, n, table, &id[..])
+}
+
+pub fn has_row(rows: &[Row], n: usize, table: u8, id: &[u8; ID]) -> bool
+    requires { ⌜ n ≤ length (now rows) ⌝ }
+    ensures { λ r. ⌜ ((s : Schema) → r ≡ has (keyOf table (value (now (id .entry)))) (working s n (now (rows .entry)))) ⌝ }
+{
+    has_key(rows, n, table, &id[..])
+}
+
+// The place of the first row that has the table and id of this one.
+pub fn find_row(rows: &[Row], n: usize, row: &Row) -> Found
+    requires { ⌜ n ≤ length (now rows) ⌝ }
+    ensures { λ r. ⌜ ((s : Schema) → r ≡ place (keyIn (now (row .entry))) (working s n (now (rows .entry)))) ⌝ }
+{
+    find_key(rows, n, table_of(row), id_of(row))
+}
+
 // Whether a row of any table has an id.
-pub fn has_id(rows: &[[[u8; 25]; 25]], n: usize, id: &[u8; 16]) -> bool
+pub fn has_id(rows: &[Row], n: usize, id: &[u8; ID]) -> bool
     requires { ⌜ n ≤ length (now rows) ⌝ }
     ensures { λ r. ⌜ ((s : Schema) → r ≡ hasId (value (now (id .entry))) (working s n (now (rows .entry)))) ⌝ }
 {
@@ -169,7 +203,7 @@ pub fn has_id(rows: &[[[u8; 25]; 25]], n: usize, id: &[u8; 16]) -> bool
 }
 
 // The place of a new row.
-fn slot_of(rows: &[[[u8; 25]; 25]], n: usize, row: &[[u8; 25]; 25]) -> usize
+fn slot_of(rows: &[Row], n: usize, row: &Row) -> usize
     requires { ⌜ n ≤ length (now rows) ⌝ }
     ensures { λ r. ⌜ ((s : Schema) → r ≡ slot (keyIn (now (row .entry))) (working s n (now (rows .entry)))) ⌝ }
     ensures { λ r. ⌜ r ≤ n ⌝ }
@@ -185,7 +219,7 @@ fn slot_of(rows: &[[[u8; 25]; 25]], n: usize, row: &[[u8; 25]; 25]) -> usize
 }
 
 // A row put in at a place.
-fn insert_at(rows: &mut [[[u8; 25]; 25]], n: usize, i: usize, row: &[[u8; 25]; 25])
+fn insert_at(rows: &mut [Row], n: usize, i: usize, row: &Row)
     requires { ⌜ (i ≤ n) × (n < length (now rows)) ⌝ }
     ensures { λ _. ⌜ take (n + 1) (now (rows .exit)) ≡ inserted i (now (row .entry)) (take n (now (rows .entry))) ⌝ }
 {
@@ -200,7 +234,7 @@ fn insert_at(rows: &mut [[[u8; 25]; 25]], n: usize, i: usize, row: &[[u8; 25]; 2
 }
 
 // The rows after a place moved down by one, over the row there.
-fn close_at(rows: &mut [[[u8; 25]; 25]], n: usize, i: usize)
+fn close_at(rows: &mut [Row], n: usize, i: usize)
     requires { ⌜ (i < n) × (n ≤ length (now rows)) ⌝ }
     ensures { λ _. ⌜ take (n - 1) (now (rows .exit)) ≡ removed i (take n (now (rows .entry))) ⌝ }
 {
@@ -213,7 +247,7 @@ fn close_at(rows: &mut [[[u8; 25]; 25]], n: usize, i: usize)
 }
 
 // A row added in its place.
-pub fn add(rows: &mut [[[u8; 25]; 25]], n: usize, row: &[[u8; 25]; 25])
+pub fn add(rows: &mut [Row], n: usize, row: &Row)
     requires { ⌜ n < length (now rows) ⌝ }
     ensures { λ _. ⌜ Added n (now (row .entry)) (now (rows .entry)) (now (rows .exit)) ⌝ }
 {
@@ -222,7 +256,7 @@ pub fn add(rows: &mut [[[u8; 25]; 25]], n: usize, row: &[[u8; 25]; 25])
 }
 
 // The row at a place taken out.
-pub fn remove_at(rows: &mut [[[u8; 25]; 25]], n: usize, i: usize)
+pub fn remove_at(rows: &mut [Row], n: usize, i: usize)
     requires { ⌜ (i < n) × (n ≤ length (now rows)) ⌝ }
     ensures { λ _. ⌜ Removed n i (now (rows .entry)) (now (rows .exit)) ⌝ }
 {
@@ -230,26 +264,26 @@ pub fn remove_at(rows: &mut [[[u8; 25]; 25]], n: usize, i: usize)
 }
 
 // A column's count.
-pub fn count_of(row: &[[u8; 25]; 25], c: usize) -> u8
-    requires { ⌜ c < 6 ⌝ }
+pub fn count_of(row: &Row, c: usize) -> u8
+    requires { ⌜ c < mostColumns ⌝ }
     ensures { λ r. ⌜ r ≡ valueIn c (now (row .entry)) .count ⌝ }
 {
-    row[0][17 + c]
+    row[0][COUNTS_OFFSET + c]
 }
 
 // A column's atoms, lent.
-pub fn atoms_in<'r>(row: &'r [[u8; 25]; 25], c: usize) -> &'r [[u8; 25]]
-    requires { ⌜ c < 6 ⌝ }
-    ensures { λ r. ⌜ (now r ≡ valueIn c (now (row .entry)) .atoms) × (length (now r) ≡ 4) ⌝ }
+pub fn atoms_in<'r>(row: &'r Row, c: usize) -> &'r [Atom]
+    requires { ⌜ c < mostColumns ⌝ }
+    ensures { λ r. ⌜ (now r ≡ valueIn c (now (row .entry)) .atoms) × (length (now r) ≡ mostElements) ⌝ }
 {
     let cells = &row[..];
-    let at = 1 + 4 * c;
-    &cells[at..at + 4]
+    let at = 1 + ELEMENTS * c;
+    &cells[at..at + ELEMENTS]
 }
 
 // A column's atoms, by value.
-pub fn atoms_of(row: &[[u8; 25]; 25], c: usize) -> [[u8; 25]; 4]
-    requires { ⌜ c < 6 ⌝ }
+pub fn atoms_of(row: &Row, c: usize) -> Atoms
+    requires { ⌜ c < mostColumns ⌝ }
     ensures { λ r. ⌜ r ≡ valueIn c (now (row .entry)) .atoms ⌝ }
 {
     let atoms = atoms_in(row, c);
@@ -257,14 +291,14 @@ pub fn atoms_of(row: &[[u8; 25]; 25], c: usize) -> [[u8; 25]; 4]
 }
 
 // A column's count and atoms set, in the cells of a row.
-fn set_cells(cells: &mut [[u8; 25]], c: usize, count: u8, atoms: &[[u8; 25]])
-    requires { ⌜ (c < 6) × (length (now cells) ≡ 25) × (length (now atoms) ≡ 4) ⌝ }
+fn set_cells(cells: &mut [Atom], c: usize, count: u8, atoms: &[Atom])
+    requires { ⌜ (c < mostColumns) × (length (now cells) ≡ rowCellCount) × (length (now atoms) ≡ mostElements) ⌝ }
     ensures { λ _. ⌜ now (cells .exit) ≡ withValue c (record { count = count; atoms = now (atoms .entry) }) (now (cells .entry)) ⌝ }
 {
-    cells[0][17 + c] = count;
-    let at = 1 + 4 * c;
+    cells[0][COUNTS_OFFSET + c] = count;
+    let at = 1 + ELEMENTS * c;
     let mut k = 0;
-    while k < 4 {
+    while k < ELEMENTS {
         let a = atoms[k];
         cells[at + k] = a;
         k += 1;
@@ -272,8 +306,8 @@ fn set_cells(cells: &mut [[u8; 25]], c: usize, count: u8, atoms: &[[u8; 25]])
 }
 
 // A column set: its count and its atoms.
-pub fn set_column(row: &mut [[u8; 25]; 25], c: usize, count: u8, atoms: &[[u8; 25]; 4])
-    requires { ⌜ c < 6 ⌝ }
+pub fn set_column(row: &mut Row, c: usize, count: u8, atoms: &Atoms)
+    requires { ⌜ c < mostColumns ⌝ }
     ensures { λ _. ⌜ ColumnSet c (record { count = count; atoms = now (atoms .entry) }) (now (row .entry)) (now (row .exit)) ⌝ }
 {
     let key = key_of(row);
@@ -281,8 +315,8 @@ pub fn set_column(row: &mut [[u8; 25]; 25], c: usize, count: u8, atoms: &[[u8; 2
 }
 
 // Whether two rows have the same value in a column.
-pub fn same_column(x: &[[u8; 25]; 25], y: &[[u8; 25]; 25], c: usize) -> bool
-    requires { ⌜ c < 6 ⌝ }
+pub fn same_column(x: &Row, y: &Row, c: usize) -> bool
+    requires { ⌜ c < mostColumns ⌝ }
     ensures { λ r. ⌜ r ≡ sameValue (valueIn c (now (x .entry))) (valueIn c (now (y .entry))) ⌝ }
 {
     if count_of(x, c) != count_of(y, c) {
@@ -313,25 +347,28 @@ fn put_counts(out: &mut [u8], mins: &[u8])
     }
 }
 
+// Where the counts end in the first cell of a row.
+const COUNTS_END: usize = COUNTS_OFFSET + COLUMNS;
+
 // The first cell of a new row.
-fn new_head(table: u8, id: &[u8], mins: &[u8]) -> [u8; 25]
-    requires { ⌜ (length (now id) ≡ 16) × (length (now mins) ≡ 6) ⌝ }
-    ensures { λ r. ⌜ ((cs : List Column) → length cs ≤ 6 → now (mins .entry) ≡ minimums cs → r ≡ headCell (newRow table (value (now (id .entry))) cs)) ⌝ }
-    ensures { λ _. ⌜ value (now (id .entry)) < 256 ^ 16 ⌝ }
+fn new_head(table: u8, id: &[u8], mins: &[u8]) -> Atom
+    requires { ⌜ (length (now id) ≡ idBytes) × (length (now mins) ≡ mostColumns) ⌝ }
+    ensures { λ r. ⌜ ((cs : List Column) → length cs ≤ mostColumns → now (mins .entry) ≡ minimums cs → r ≡ headCell (newRow table (value (now (id .entry))) cs)) ⌝ }
+    ensures { λ _. ⌜ value (now (id .entry)) < 256 ^ idBytes ⌝ }
 {
-    let mut head = [0u8; 25];
+    let mut head = [0u8; ATOM];
     head[0] = table;
-    octets::put_bytes(&mut head[1..17], id);
-    put_counts(&mut head[17..23], mins);
+    octets::put_bytes(&mut head[ID_OFFSET..COUNTS_OFFSET], id);
+    put_counts(&mut head[COUNTS_OFFSET..COUNTS_END], mins);
     head
 }
 
-// A new row of a table, by the minimums of the table's columns; its id is a number of 16 bytes.
-pub fn new_row(table: u8, id: &[u8; 16], mins: &[u8; 6]) -> [[u8; 25]; 25]
-    ensures { λ r. ⌜ ((cs : List Column) → length cs ≤ 6 → now (mins .entry) ≡ minimums cs → r ≡ rowCells (newRow table (value (now (id .entry))) cs)) ⌝ }
-    ensures { λ _. ⌜ value (now (id .entry)) < 256 ^ 16 ⌝ }
+// A new row of a table, by the minimums of the table's columns; its id is a number of an id's bytes.
+pub fn new_row(table: u8, id: &[u8; ID], mins: &[u8; COLUMNS]) -> Row
+    ensures { λ r. ⌜ ((cs : List Column) → length cs ≤ mostColumns → now (mins .entry) ≡ minimums cs → r ≡ rowCells (newRow table (value (now (id .entry))) cs)) ⌝ }
+    ensures { λ _. ⌜ value (now (id .entry)) < 256 ^ idBytes ⌝ }
 {
-    let mut row = [[0u8; 25]; 25];
+    let mut row = [[0u8; ATOM]; CELLS];
     let head = new_head(table, &id[..], &mins[..]);
     row[0] = head;
     row

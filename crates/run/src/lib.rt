@@ -1,20 +1,22 @@
 // The operations of a request, run in order on working rows; their results, written as they are produced.
+use model::Catalog;
 use model::Fault;
 use model::Found;
+use model::Row;
 ghost use mathlib.Core.Path.{_≡_};
 ghost use mathlib.Core.Bool.{true, false};
 ghost use Prim.Native.Nat.{_≤_, _<_, _+_, _^_};
 ghost use lib.ListN.{length};
+ghost use Rattle.model.specs.Limits.{mostOperations, mostRows};
 ghost use Rattle.inner.specs.Positions.{Says, itemsFrom, itemsFine};
 ghost use Rattle.model.specs.Faults.{isFine};
 ghost use Rattle.inner.specs.Working.{working};
-ghost use Rattle.inner.specs.Packed.{packedTables};
-ghost use Rattle.area.specs.Layout.{Sized};
-ghost use Rattle.references.specs.Links.{Accepted};
+ghost use Rattle.model.specs.Catalog.{packedTables};
+ghost use Rattle.catalog.specs.Accepted.{Accepted};
 ghost use Rattle.answer.specs.Put.{Put};
 ghost use Rattle.answer.specs.Texts.{joined};
 ghost use Rattle.uuids.specs.Named.{Running};
-ghost use Rattle.run.specs.Running.{runWhole, nullsFrom, RunAll};
+ghost use Rattle.run.specs.Running.{nullsMost, runWhole, nullsFrom, RunAll};
 
 // What the operations leave: the first fault, how many rows there are, and where the answer ends.
 pub struct Ran {
@@ -23,30 +25,13 @@ pub struct Ran {
     pub at: usize,
 }
 
-// Whether there is no fault.
-fn is_fine(f: Fault) -> bool
-    ensures { λ r. ⌜ r ≡ isFine f ⌝ }
-{
-    match f {
-        Fault::Fine => true,
-        Fault::Syntax => false,
-        Fault::Resources => false,
-        Fault::Duplicate => false,
-        Fault::Constraint => false,
-        Fault::Domain => false,
-        Fault::Range => false,
-        Fault::Aborted => false,
-        Fault::Integrity => false,
-    }
-}
-
 // Nulls for the operations from g on, at most 16 of them, each after a comma.
 fn put_nulls(text: &[u8], ends: &[u16], g: Found, answer: &mut [u8], at: usize) -> usize
     requires { ⌜ Says (now text) (now ends) ⌝ }
     requires { ⌜ itemsFine (now text) g ≡ true ⌝ }
-    requires { ⌜ length (itemsFrom (now text) g) ≤ 16 ⌝ }
-    requires { ⌜ at + 80 < 2 ^ 64 ⌝ }
-    ensures { λ r. ⌜ Put 80 (now (answer .entry)) at (joined false (nullsFrom (now (text .entry)) g)) r (now (answer .exit)) ⌝ }
+    requires { ⌜ length (itemsFrom (now text) g) ≤ mostOperations ⌝ }
+    requires { ⌜ at + nullsMost < 2 ^ 64 ⌝ }
+    ensures { λ r. ⌜ Put nullsMost (now (answer .entry)) at (joined false (nullsFrom (now (text .entry)) g)) r (now (answer .exit)) ⌝ }
 {
     let mut h = g;
     let mut e = at;
@@ -68,19 +53,18 @@ pub fn run(
     ends: &[u16],
     ops: Found,
     fresh: &[u8],
-    schema: &[[u8; 48]; 29],
-    rows: &mut [[[u8; 25]; 25]],
+    schema: &Catalog,
+    rows: &mut [Row],
     n: usize,
     answer: &mut [u8],
 ) -> Ran
     requires { ⌜ Running (now text) (now ends) ops (now fresh) ⌝ }
     requires { ⌜ Accepted (now schema) ⌝ }
-    requires { ⌜ Sized (now schema) ⌝ }
-    requires { ⌜ length (itemsFrom (now text) ops) ≤ 16 ⌝ }
-    requires { ⌜ (n ≤ 32) × (32 ≤ length (now rows)) ⌝ }
+    requires { ⌜ length (itemsFrom (now text) ops) ≤ mostOperations ⌝ }
+    requires { ⌜ (n ≤ mostRows) × (mostRows ≤ length (now rows)) ⌝ }
     ensures { λ r. ⌜ RunAll (packedTables (now (schema .entry))) (runWhole (packedTables (now (schema .entry))) (now (text .entry)) ops (now (fresh .entry)) (working (packedTables (now (schema .entry))) n (now (rows .entry)))) n (now (rows .entry)) (now (rows .exit)) (now (answer .entry)) (now (answer .exit)) r ⌝ }
 {
-    let mut at = answer::put_byte(answer, 0, 91);
+    let mut at = answer::put_byte(answer, 0, b'[');
     let mut g = ops;
     let mut i = 0;
     let mut m = n;
@@ -103,7 +87,7 @@ pub fn run(
                 );
                 let f = d.fault;
                 g = nav::next_item(text, ends, p);
-                let fine = is_fine(f);
+                let fine = leaf::is_fine(f);
                 if fine {
                     at = d.at;
                     m = d.count;

@@ -17,7 +17,8 @@ use Rattle.scan.specs.declared.Half.{Half}
 use Rattle.scan.specs.declared.Half.the-variants.{Whole, High, Refused}
 use Rattle.model.specs.Scan.{byte, withinAt}
 use Rattle.model.specs.Strings.{shortOf, hexOf, plainBy, escapedAt, going, escapeBy, charBy}
-use Rattle.scan.specs.Units.{hexAdd, hexStep, outside, inside as within, hexAt, lowHexAt, halfOf, lowFrom, lowAt, pairBy, unitBy, secondLow, secondHigh, wideBy}
+use Rattle.scan.specs.Units.{hexAdd, hexStep, outside, inside as within, hexAt, lowHexAt, halfOf, lowFrom, lowAt, pairBy, unitBy, wideBy}
+use Rattle.leaf.specs.Bytes.{secondLow, secondHigh}
 use Rattle.model.proofs.Tests.{split}
 use Rattle.scan.proofs.Bytes.{inside, inside-byte}
 use Rattle.scan.proofs.Same.{escape-same, wide-same, ascii-same}

@@ -17,7 +17,8 @@ use Rattle.scan.specs.declared.Half.{Half}
 use Rattle.scan.specs.declared.Half.the-variants.{Whole, High, Refused}
 use Rattle.model.specs.Scan.{byte, Parsed, withinAt}
 use Rattle.model.specs.Strings.{Range, _to_, inRange, isFirstHalf, tail, forms, restOf, rangesAt, formAt, plainBy, hexOf, stoppedAt, digitBy, digitFrom, digitAt, testedFrom, tested, noDigits, unitAt, secondAt, secondFrom, paired, escapedFrom, escapedAt, going}
-use Rattle.scan.specs.Units.{hexAdd, hexStep, outside, inside, hexAt, lowHexAt, halfOf, lowFrom, lowAt, pairBy, unitBy, secondLow, secondHigh, wideBy}
+use Rattle.scan.specs.Units.{hexAdd, hexStep, outside, inside, hexAt, lowHexAt, halfOf, lowFrom, lowAt, pairBy, unitBy, wideBy}
+use Rattle.leaf.specs.Bytes.{secondLow, secondHigh}
 use Rattle.model.proofs.Tests.{split}
 use Rattle.model.proofs.Utf8.{in-range, over-range, under-range, of-range, Lead, one, two, three-low, three, three-cut, three-high, four-low, four, four-high, lead-at, no-lead, rest-of}
 use Rattle.model.proofs.Escapes.{test-holds, test-fails}

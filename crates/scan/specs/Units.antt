@@ -13,6 +13,7 @@ use Rattle.scan.specs.declared.Hex.{Hex}
 use Rattle.scan.specs.declared.Hex.the-variants.{Unit16, Bad}
 use Rattle.scan.specs.declared.Half.{Half}
 use Rattle.scan.specs.declared.Half.the-variants.{Whole, High, Refused}
+use Rattle.leaf.specs.Bytes.{secondLow, secondHigh}
 
 -- one digit d more, read at e
 unfoldable pub hexAdd : ℕ → ℕ → ℕ → Hex
@@ -69,13 +70,6 @@ pairBy (Bad e) = Done (Stop e)
 unfoldable pub unitBy : List ℕ → Hex → Next
 unitBy s (Unit16 e v) = elim (halfOf v) [ Whole ↦ More e | High ↦ pairBy (lowAt s e) | Refused ↦ Done (Stop e) ]
 unitBy s (Bad e) = Done (Stop e)
-
--- the bounds of the byte after a lead byte (RFC 3629 §4)
-unfoldable pub secondLow : ℕ → ℕ
-secondLow b = elim (eqb b 224) [ true ↦ 160 | false ↦ elim (eqb b 240) [ true ↦ 144 | false ↦ 128 ] ]
-
-unfoldable pub secondHigh : ℕ → ℕ
-secondHigh b = elim (eqb b 237) [ true ↦ 159 | false ↦ elim (eqb b 244) [ true ↦ 143 | false ↦ 191 ] ]
 
 -- a character of two to four bytes, whose lead byte b stands at `at`
 unfoldable pub wideBy : List ℕ → ℕ → ℕ → Read

@@ -9,9 +9,72 @@ ghost use Prim.Native.Nat.{ℕ, _-_};
 ghost use Rattle.model.specs.Scan.{wordAt};
 ghost use Rattle.model.specs.declared.Read.the-variants.{End};
 ghost use Rattle.model.specs.Strings.{shortOf, hexOf, escapeBy, going, charBy, bodyAt, stringAt};
-ghost use Rattle.scan.specs.Units.{hexStep, outside, inside, hexAt, lowHexAt, halfOf, lowAt, pairBy, unitBy, secondLow, secondHigh, wideBy};
+ghost use Rattle.scan.specs.Units.{hexStep, outside, inside, hexAt, lowHexAt, halfOf, lowAt, pairBy, unitBy, wideBy};
+ghost use Rattle.leaf.specs.Bytes.{secondLow, secondHigh};
 ghost use Rattle.model.specs.Numbers.{minusAt, signAt, someAt, wholeAt, fracAt, isExp, expAt, numberAt};
 ghost use Rattle.model.specs.Json.{opens, scalarBy, afterItem, keyAt};
+
+// Characters as `peek` gives them.
+pub const QUOTE: u16 = b'"' as u16;
+
+pub const BACKSLASH: u16 = b'\\' as u16;
+
+pub const BRACKET: u16 = b'[' as u16;
+
+pub const BRACKET_END: u16 = b']' as u16;
+
+pub const BRACE: u16 = b'{' as u16;
+
+pub const BRACE_END: u16 = b'}' as u16;
+
+pub const DASH: u16 = b'-' as u16;
+
+pub const DIGIT_0: u16 = b'0' as u16;
+
+pub const LETTER_F: u16 = b'f' as u16;
+
+pub const LETTER_N: u16 = b'n' as u16;
+
+pub const LETTER_T: u16 = b't' as u16;
+
+pub const LETTER_U: u16 = b'u' as u16;
+
+const SPACE: u16 = b' ' as u16;
+
+const TAB: u16 = b'\t' as u16;
+
+const LINE_FEED: u16 = b'\n' as u16;
+
+const RETURN: u16 = b'\r' as u16;
+
+const SLASH: u16 = b'/' as u16;
+
+const COMMA: u16 = b',' as u16;
+
+const PLUS: u16 = b'+' as u16;
+
+const DOT: u16 = b'.' as u16;
+
+const DIGIT_9: u16 = b'9' as u16;
+
+const LETTER_A: u16 = b'a' as u16;
+
+const LETTER_B: u16 = b'b' as u16;
+
+const LETTER_E: u16 = b'e' as u16;
+
+const LETTER_R: u16 = b'r' as u16;
+
+const CAPITAL_A: u16 = b'A' as u16;
+
+const CAPITAL_E: u16 = b'E' as u16;
+
+const CAPITAL_F: u16 = b'F' as u16;
+
+// How much more than its value a letter is as a hexadecimal digit.
+const LETTER_MORE: u16 = LETTER_A - 10;
+
+const CAPITAL_MORE: u16 = CAPITAL_A - 10;
 
 // Hexadecimal digits read so far: the next position and their number; or the position of a byte that is none.
 pub enum Hex {
@@ -40,25 +103,25 @@ pub fn peek(text: &[u8], at: usize) -> u16
 pub fn is_space(b: u16) -> bool
     ensures { λ r. ⌜ r ≡ isSpace b ⌝ }
 {
-    if b == 32 {
+    if b == SPACE {
         return true;
     }
-    if b == 9 {
+    if b == TAB {
         return true;
     }
-    if b == 10 {
+    if b == LINE_FEED {
         return true;
     }
-    b == 13
+    b == RETURN
 }
 
 pub fn is_digit(b: u16) -> bool
     ensures { λ r. ⌜ r ≡ isDigit b ⌝ }
 {
-    if b < 48 {
+    if b < DIGIT_0 {
         return false;
     }
-    b <= 57
+    b <= DIGIT_9
 }
 
 // The first position from `at` on that has no white space.
@@ -117,10 +180,10 @@ pub fn within(text: &[u8], prior: Read, low: u8, high: u8) -> Read
 pub fn opening(b: u16) -> Open
     ensures { λ r. ⌜ r ≡ opens b ⌝ }
 {
-    if b == 91 {
+    if b == BRACKET {
         return Open::Array;
     }
-    if b == 123 {
+    if b == BRACE {
         return Open::Object;
     }
     Open::Scalar
@@ -136,58 +199,58 @@ pub fn opening_at(text: &[u8], at: usize) -> Open
 pub fn null(text: &[u8], at: usize) -> Read
     ensures { λ r. ⌜ r ≡ wordAt (now (text .entry)) (110 ∷ 117 ∷ 108 ∷ 108 ∷ []) (End at) ⌝ }
 {
-    let n = within(text, Read::End(at), 110, 110);
-    let u = within(text, n, 117, 117);
-    let l = within(text, u, 108, 108);
-    within(text, l, 108, 108)
+    let n = within(text, Read::End(at), b'n', b'n');
+    let u = within(text, n, b'u', b'u');
+    let l = within(text, u, b'l', b'l');
+    within(text, l, b'l', b'l')
 }
 
 pub fn true_word(text: &[u8], at: usize) -> Read
     ensures { λ r. ⌜ r ≡ wordAt (now (text .entry)) (116 ∷ 114 ∷ 117 ∷ 101 ∷ []) (End at) ⌝ }
 {
-    let t = within(text, Read::End(at), 116, 116);
-    let r = within(text, t, 114, 114);
-    let u = within(text, r, 117, 117);
-    within(text, u, 101, 101)
+    let t = within(text, Read::End(at), b't', b't');
+    let r = within(text, t, b'r', b'r');
+    let u = within(text, r, b'u', b'u');
+    within(text, u, b'e', b'e')
 }
 
 pub fn false_word(text: &[u8], at: usize) -> Read
     ensures { λ r. ⌜ r ≡ wordAt (now (text .entry)) (102 ∷ 97 ∷ 108 ∷ 115 ∷ 101 ∷ []) (End at) ⌝ }
 {
-    let f = within(text, Read::End(at), 102, 102);
-    let a = within(text, f, 97, 97);
-    let l = within(text, a, 108, 108);
-    let s = within(text, l, 115, 115);
-    within(text, s, 101, 101)
+    let f = within(text, Read::End(at), b'f', b'f');
+    let a = within(text, f, b'a', b'a');
+    let l = within(text, a, b'l', b'l');
+    let s = within(text, l, b's', b's');
+    within(text, s, b'e', b'e')
 }
 
 // The byte that a short escape stands for, or 0.
 pub fn short_escape(c: u16) -> u8
     ensures { λ r. ⌜ r ≡ shortOf c ⌝ }
 {
-    if c == 34 {
-        return 34;
+    if c == QUOTE {
+        return b'"';
     }
-    if c == 92 {
-        return 92;
+    if c == BACKSLASH {
+        return b'\\';
     }
-    if c == 47 {
-        return 47;
+    if c == SLASH {
+        return b'/';
     }
-    if c == 98 {
-        return 8;
+    if c == LETTER_B {
+        return b'\x08';
     }
-    if c == 102 {
-        return 12;
+    if c == LETTER_F {
+        return b'\x0c';
     }
-    if c == 110 {
-        return 10;
+    if c == LETTER_N {
+        return b'\n';
     }
-    if c == 114 {
-        return 13;
+    if c == LETTER_R {
+        return b'\r';
     }
-    if c == 116 {
-        return 9;
+    if c == LETTER_T {
+        return b'\t';
     }
     0
 }
@@ -196,23 +259,23 @@ pub fn short_escape(c: u16) -> u8
 pub fn hex_digit(b: u16) -> u16
     ensures { λ r. ⌜ r ≡ hexOf b ⌝ }
 {
-    if b < 48 {
+    if b < DIGIT_0 {
         return 16;
     }
-    if b <= 57 {
-        return b - 48;
+    if b <= DIGIT_9 {
+        return b - DIGIT_0;
     }
-    if b < 65 {
+    if b < CAPITAL_A {
         return 16;
     }
-    if b <= 70 {
-        return b - 55;
+    if b <= CAPITAL_F {
+        return b - CAPITAL_MORE;
     }
-    if b < 97 {
+    if b < LETTER_A {
         return 16;
     }
-    if b <= 102 {
-        return b - 87;
+    if b <= LETTER_F {
+        return b - LETTER_MORE;
     }
     16
 }
@@ -320,8 +383,8 @@ pub fn half_of(v: u32) -> Half
 pub fn low_half(text: &[u8], at: usize) -> Hex
     ensures { λ r. ⌜ r ≡ lowAt (now (text .entry)) at ⌝ }
 {
-    let b = within(text, Read::End(at), 92, 92);
-    let u = within(text, b, 117, 117);
+    let b = within(text, Read::End(at), b'\\', b'\\');
+    let u = within(text, b, b'u', b'u');
     match u {
         Read::End(e) => low_hex4(text, e),
         Read::Stop(e) => Hex::Bad(e),
@@ -362,36 +425,12 @@ pub fn escape(text: &[u8], at: usize) -> Next
     let c = peek(text, at);
     let x = short_escape(c);
     if x == 0 {
-        if c == 117 {
+        if c == LETTER_U {
             return unit(text, hex4(text, at + 1));
         }
         return Next::Done(Read::Stop(at));
     }
     Next::More(at + 1)
-}
-
-pub fn second_low(b: u16) -> u8
-    ensures { λ r. ⌜ r ≡ secondLow b ⌝ }
-{
-    if b == 224 {
-        return 160;
-    }
-    if b == 240 {
-        return 144;
-    }
-    128
-}
-
-pub fn second_high(b: u16) -> u8
-    ensures { λ r. ⌜ r ≡ secondHigh b ⌝ }
-{
-    if b == 237 {
-        return 159;
-    }
-    if b == 244 {
-        return 143;
-    }
-    191
 }
 
 // A character of two to four bytes.
@@ -405,8 +444,8 @@ pub fn wide(text: &[u8], at: usize) -> Read
     if 244 < b {
         return Read::Stop(at);
     }
-    let low = second_low(b);
-    let high = second_high(b);
+    let low = leaf::second_low(b);
+    let high = leaf::second_high(b);
     let r = within(text, Read::End(at + 1), low, high);
     if b < 224 {
         return r;
@@ -433,13 +472,13 @@ pub fn character(text: &[u8], at: usize) -> Next
     ensures { λ r. ⌜ r ≡ charBy (now (text .entry)) at (byte (now (text .entry)) at) ⌝ }
 {
     let b = peek(text, at);
-    if b == 34 {
+    if b == QUOTE {
         return Next::Done(Read::End(at + 1));
     }
-    if b == 92 {
+    if b == BACKSLASH {
         return escape(text, at + 1);
     }
-    if b < 32 {
+    if b < SPACE {
         return Next::Done(Read::Stop(at));
     }
     if b < 128 {
@@ -469,7 +508,7 @@ pub fn body(text: &[u8], at: usize) -> Read
 pub fn string(text: &[u8], at: usize) -> Read
     ensures { λ r. ⌜ r ≡ stringAt (now (text .entry)) at .read ⌝ }
 {
-    let q = within(text, Read::End(at), 34, 34);
+    let q = within(text, Read::End(at), b'"', b'"');
     let Read::End(e) = q else {
         return q;
     };
@@ -481,7 +520,7 @@ pub fn minus(text: &[u8], at: usize) -> usize
     ensures { λ r. ⌜ r ≡ minusAt (now (text .entry)) at ⌝ }
 {
     let b = peek(text, at);
-    if b == 45 {
+    if b == DASH {
         return at + 1;
     }
     at
@@ -492,7 +531,7 @@ pub fn sign(text: &[u8], at: usize) -> usize
     ensures { λ r. ⌜ r ≡ signAt (now (text .entry)) at ⌝ }
 {
     let b = peek(text, at);
-    if b == 43 {
+    if b == PLUS {
         return at + 1;
     }
     minus(text, at)
@@ -513,7 +552,7 @@ pub fn whole_part(text: &[u8], at: usize) -> Read
     ensures { λ r. ⌜ r ≡ wholeAt (now (text .entry)) at ⌝ }
 {
     let b = peek(text, at);
-    if b == 48 {
+    if b == DIGIT_0 {
         return Read::End(at + 1);
     }
     some_digits(text, at)
@@ -523,7 +562,7 @@ pub fn fraction(text: &[u8], at: usize) -> Read
     ensures { λ r. ⌜ r ≡ fracAt (now (text .entry)) at ⌝ }
 {
     let b = peek(text, at);
-    if b == 46 {
+    if b == DOT {
         return some_digits(text, at + 1);
     }
     Read::End(at)
@@ -532,10 +571,10 @@ pub fn fraction(text: &[u8], at: usize) -> Read
 pub fn is_exp(b: u16) -> bool
     ensures { λ r. ⌜ r ≡ isExp b ⌝ }
 {
-    if b == 101 {
+    if b == LETTER_E {
         return true;
     }
-    b == 69
+    b == CAPITAL_E
 }
 
 pub fn exponent(text: &[u8], at: usize) -> Read
@@ -570,16 +609,16 @@ pub fn scalar(text: &[u8], at: usize) -> Read
     ensures { λ r. ⌜ r ≡ scalarBy (now (text .entry)) at (byte (now (text .entry)) at) .read ⌝ }
 {
     let b = peek(text, at);
-    if b == 34 {
+    if b == QUOTE {
         return string(text, at);
     }
-    if b == 110 {
+    if b == LETTER_N {
         return null(text, at);
     }
-    if b == 116 {
+    if b == LETTER_T {
         return true_word(text, at);
     }
-    if b == 102 {
+    if b == LETTER_F {
         return false_word(text, at);
     }
     number(text, at)
@@ -594,7 +633,7 @@ pub fn after(text: &[u8], item: Read, close: u8) -> Next
     };
     let i = spaces(text, e);
     let b = peek(text, i);
-    if b == 44 {
+    if b == COMMA {
         return Next::More(i + 1);
     }
     Next::Done(within(text, Read::End(i), close, close))
@@ -610,5 +649,5 @@ pub fn key(text: &[u8], at: usize) -> Read
         return q;
     };
     let j = spaces(text, e);
-    within(text, Read::End(j), 58, 58)
+    within(text, Read::End(j), b':', b':')
 }

@@ -1,4 +1,4 @@
 -- What the proofs of several functions use.
 pub mod Members
 pub mod Reading
-pub mod Named
+pub mod Tidying

@@ -16,7 +16,7 @@ use Rattle.model.specs.Members.{membersIn, memberValue, counting}
 use Rattle.inner.specs.Positions.{wordIn}
 use Rattle.model.specs.Value.{textOf}
 use Rattle.model.specs.Schema.{Database, Table}
-use Rattle.inner.specs.Packed.{cellName, tableFrom, tablesFrom, databaseFrom}
+use Rattle.model.specs.Catalog.{cellName, tableFrom, tablesFrom, databaseFrom}
 use Rattle.model.specs.SchemaText.{must, may, isString, isStringOf, isId, versionFrom, isVersion, names, tableOf, tablesFit, schemaFits, schemaTables, databaseOf}
 use Rattle.model.proofs.Tests.{split, clash, and-l, and-r}
 use Rattle.names.specs.Names.{shortCell, nameCell}
@@ -37,7 +37,7 @@ no-tree s h = rw h (slot-none s)
 
 -- ── strings that are versions and ids ──
 version-string : (j : Json) → isVersion (wordIn j) ≡ isStringOf isVersion j
-unfolding wordIn kindOf isText textIn isVersion versionFrom
+unfolding wordIn kindOf textIn isVersion versionFrom
 version-string null = refl
 version-string (bool b) = refl
 version-string (num t) = refl
@@ -46,7 +46,7 @@ version-string (arr xs) = refl
 version-string (obj ms) = refl
 
 id-string : (j : Json) → isId (wordIn j) ≡ isStringOf isId j
-unfolding wordIn kindOf isText textIn isId
+unfolding wordIn kindOf textIn isId
 id-string null = refl
 id-string (bool b) = refl
 id-string (num t) = refl
@@ -56,7 +56,7 @@ id-string (obj ms) = refl
 
 -- the text of a name that is an id
 name-text : (j : Json) → isStringOf isId j ≡ true → textOf (nameCell j) ≡ textIn j
-unfolding nameCell wordIn kindOf isText textIn
+unfolding nameCell wordIn kindOf textIn
 name-text null h = absurd (clash false h refl)
 name-text (bool b) h = absurd (clash false h refl)
 name-text (num t) h = absurd (clash false h refl)
@@ -69,11 +69,11 @@ unfolding nameCell
 id-told j = cell-id (wordIn j) ∙ id-string j
 
 no-text : (p : List ℕ → Bool) → isStringOf p null ≡ false
-unfolding kindOf isText
+unfolding kindOf
 no-text p = refl
 
 tables-null : tablesFit null ≡ false
-unfolding tablesFit isObject kindOf
+unfolding tablesFit kindOf
 tables-null = refl
 
 -- ── slots ──
@@ -85,7 +85,7 @@ module _ (s : List ℕ) {p : ℕ} where
   some-version h q e = q ∙ ap isVersion e ∙ version-string (treeAt s p) ∙ ap (isStringOf isVersion) (sym (at-some s h))
 
   pub no-name : p ≡ 0 → replicate 25 0 ≡ nameCell (slotTree s p)
-  unfolding kindOf isText
+  unfolding kindOf
   no-name h = name-none (slotTree s p) (ap (λ (x : Json). isText (kindOf x)) (no-tree s h))
 
   pub some-name : (p ≡ 0 → ⊥) → {r : List ℕ} → r ≡ nameCell (treeAt s p) → r ≡ nameCell (slotTree s p)

@@ -10,12 +10,12 @@ use Rattle.model.specs.Base.{isSome}
 use Rattle.model.specs.Json.{Json, textAt}
 use Rattle.model.specs.Nav.{isRead}
 use Rattle.inner.specs.Positions.{treeAt, wellAt}
-use Rattle.inner.specs.Packed.{databaseFrom}
+use Rattle.model.specs.Catalog.{databaseFrom}
 use Rattle.model.specs.SchemaText.{schemaFits, databaseOf, schemaOf, readSchema}
 use Rattle.model.proofs.Tests.{split, clash}
 use Rattle.json.proofs.Whole.{text-well}
 use Rattle.tables.specs.Tables.{FewColumns}
-use Rattle.schema.specs.Schema.{Filled, SchemaRead}
+use Rattle.schema.specs.Schema.{Filled, EntriesRead}
 use Rattle.schema.proofs.Members.{blanks, blank-tables, blank-columns}
 
 some-schema : (j : Json) → isSome (schemaOf j) ≡ schemaFits j
@@ -27,7 +27,7 @@ unfolding schemaOf
 taken j h = rw (schemaOf, h)
 
 module _ (s : List ℕ) where
-  refused : readSchema s ≡ none → SchemaRead s false blanks
+  refused : readSchema s ≡ none → EntriesRead s false blanks
   unfolding FewColumns
   refused h =
       record {
@@ -38,12 +38,12 @@ module _ (s : List ℕ) where
         columns = blank-columns;
       }
 
-  pub read-long : 4096 < length s → SchemaRead s false blanks
+  pub read-long : 4096 < length s → EntriesRead s false blanks
   unfolding readSchema
   read-long h = refused (rw (readSchema, lt-leb (length s) 4096 h))
 
   module _ (short : length s ≤ 4096) where
-    pub read-bad : isRead (textAt s .read) ≡ false → SchemaRead s false blanks
+    pub read-bad : isRead (textAt s .read) ≡ false → EntriesRead s false blanks
     unfolding readSchema
     read-bad e = refused (rw (readSchema, le-leb (length s) 4096 short, e))
 
@@ -55,7 +55,7 @@ module _ (s : List ℕ) where
       unfolding readSchema
       whole = rw (readSchema, le-leb (length s) 4096 short, e) (ap schemaOf (text-well s e .1))
 
-      pub read-good : {r : Bool} {cells : List (List ℕ)} → length cells ≡ 29 → Filled (treeAt s 0) r cells → SchemaRead s r cells
+      pub read-good : {r : Bool} {cells : List (List ℕ)} → length cells ≡ 29 → Filled (treeAt s 0) r cells → EntriesRead s r cells
       unfolding FewColumns
       read-good {r} {cells} l k =
           record {

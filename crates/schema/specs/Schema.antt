@@ -8,10 +8,9 @@ use lib.Dec.{eqb}
 use lib.ListN.{length, getD}
 use Rattle.model.specs.Base.{every, isSome}
 use Rattle.model.specs.Json.{Json}
-use Rattle.model.specs.Schema.{Schema, tableNamed}
-use Rattle.model.specs.Written.{stringIn}
-use Rattle.inner.specs.Packed.{databaseFrom}
+use Rattle.model.specs.Catalog.{databaseFrom}
 use Rattle.model.specs.SchemaText.{isString, isStringOf, isVersion, schemaFits, databaseOf, readSchema}
+use Rattle.catalog.specs.Accepted.{Accepted}
 use Rattle.fields.specs.Fields.{slotTree}
 use Rattle.tables.specs.Tables.{FewColumns}
 
@@ -32,14 +31,16 @@ pub record Filled (j : Json) (r : Bool) (cells : List (List ℕ)) : Type 0 where
   pub tables : getD (getD cells 0 []) 25 0 ≤ 4
   pub columns : FewColumns cells
 
--- what was read of a schema's text: whether it is accepted, and the cells, which have room for what they say even where it is not
-pub record SchemaRead (s : List ℕ) (r : Bool) (cells : List (List ℕ)) : Type 0 where
+-- what was read of a schema's text: whether it is accepted, and its entries, which have room for what they say even where it is not
+pub record EntriesRead (s : List ℕ) (r : Bool) (cells : List (List ℕ)) : Type 0 where
   pub accepted : r ≡ isSome (readSchema s)
   pub database : r ≡ true → readSchema s ≡ some (databaseFrom cells)
   pub size : length cells ≡ 29
   pub tables : getD (getD cells 0 []) 25 0 ≤ 4
   pub columns : (t : ℕ) → t < 4 → getD (getD cells (1 + t) []) 25 0 ≤ 6
 
--- the number of the table that a value names, none where it is no string or names none
-abbrev pub tableIn : Schema → Json → Option ℕ
-tableIn s j = elim (stringIn j) [ none ↦ none | some w ↦ tableNamed s w ]
+-- and its catalog
+pub record SchemaRead (s : List ℕ) (r : Bool) (catalog : List (List ℕ)) : Type 0 where
+  pub refused : r ≡ false → readSchema s ≡ none
+  pub database : r ≡ true → readSchema s ≡ some (databaseFrom catalog)
+  pub accepted : r ≡ true → Accepted catalog

@@ -1,4 +1,12 @@
 // Reads schemas from standard input, each after its length in two bytes, and writes what was read: refused, or a line for the database, each table and each column, with its number, its name and the bytes after the name.
+use model::ATOM;
+use model::COLUMNS;
+use model::Catalog;
+use model::ENTRIES;
+use model::ENTRY;
+use model::Entry;
+use model::TABLES;
+ghost use Rattle.model.specs.Limits.{mostTables};
 ghost use Prim.Native.Nat.{_≤_, _<_};
 ghost use lib.ListN.{length};
 
@@ -15,39 +23,39 @@ fn put_hex(s: &[u8]) {
     }
 }
 
-// A cell's line: a word, a number, the name, and the bytes from 25 on.
-fn put_cell(word: &[u8], number: usize, cell: &[u8; 48]) {
+// A cell's line: a word, a number, the name, and the bytes behind it.
+fn put_cell(word: &[u8], number: usize, cell: &Entry) {
     put(word);
     io::print_decimal(1, number as u64);
     put(b" ");
-    put(names::cell_name(cell));
+    put(catalog::name_of(cell));
     put(b" ");
     let bytes = &cell[..];
-    put_hex(&bytes[25..]);
+    put_hex(&bytes[ATOM..]);
     put(b"\n");
 }
 
 // The columns of table t.
-fn put_columns(cells: &[[u8; 48]; 29], t: usize)
-    requires { ⌜ t < 4 ⌝ }
+fn put_columns(cells: &Catalog, t: usize)
+    requires { ⌜ t < mostTables ⌝ }
 {
-    let n = atom::wide(cells[1 + t][25]);
+    let n = leaf::wide(catalog::width(&cells[1 + t]));
     let mut i = 0;
     while i < n {
-        if 6 <= i {
+        if COLUMNS <= i {
             return;
         }
-        put_cell(b"  column ", i, &cells[5 + 6 * t + i]);
+        put_cell(b"  column ", i, catalog::column(cells, t, i));
         i += 1;
     }
 }
 
 // The tables of a schema.
-fn put_tables(cells: &[[u8; 48]; 29]) {
-    let n = atom::wide(cells[0][25]);
+fn put_tables(cells: &Catalog) {
+    let n = leaf::wide(catalog::table_count(&cells[0]));
     let mut t = 0;
     while t < n {
-        if 4 <= t {
+        if TABLES <= t {
             return;
         }
         put_cell(b" table ", t, &cells[1 + t]);
@@ -58,7 +66,7 @@ fn put_tables(cells: &[[u8; 48]; 29]) {
 
 // What is read of a schema.
 fn report(text: &[u8]) {
-    let mut cells = [[0u8; 48]; 29];
+    let mut cells = [[0u8; ENTRY]; ENTRIES];
     let ok = schema::read(text, &mut cells);
     if ok {
         put_cell(b"database ", 0, &cells[0]);

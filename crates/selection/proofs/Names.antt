@@ -23,11 +23,11 @@ use Rattle.model.specs.Schema.{Column, columnNamed}
 use Rattle.model.specs.Faults.{isFine, check}
 use Rattle.model.specs.Written.{stringIn, arrayIn}
 use Rattle.model.specs.Operations.{namesIn, shownFault, columnsFault, namesOr, shows}
-use Rattle.inner.specs.Packed.{cellName, columnFrom}
+use Rattle.model.specs.Catalog.{cellName, columnFrom}
 use Rattle.model.proofs.Tests.{split, clash, bytes-same}
 use Rattle.nav.proofs.FirstByte.{items-in}
 use Rattle.nav.proofs.Walk.{walk-rest, walk-end}
-use Rattle.names.specs.Names.{foundAt}
+use Rattle.catalog.specs.Entries.{foundAt}
 use Rattle.lookup.specs.Lookup.{columnIn}
 use Rattle.assign.specs.Assigned.{slotted}
 use Rattle.selection.specs.Shown.{slotWell, fairName, allFair, allNames}
@@ -237,7 +237,7 @@ module _ (s : List ℕ) (cs : List Column) where
 
 -- ── the slot ──
 array-some : (j : Json) → isArray (kindOf j) ≡ true → arrayIn j ≡ some (itemsIn j)
-unfolding kindOf isArray itemsIn
+unfolding kindOf itemsIn
 array-some null e = cc
 array-some (bool b) e = cc
 array-some (num t) e = cc
@@ -246,7 +246,7 @@ array-some (arr xs) e = refl
 array-some (obj ms) e = cc
 
 array-none : (j : Json) → isArray (kindOf j) ≡ false → arrayIn j ≡ none
-unfolding kindOf isArray itemsIn
+unfolding kindOf itemsIn
 array-none null e = refl
 array-none (bool b) e = refl
 array-none (num t) e = refl
@@ -255,7 +255,7 @@ array-none (arr xs) e = cc
 array-none (obj ms) e = refl
 
 no-items : (j : Json) → isArray (kindOf j) ≡ false → itemsIn j ≡ []
-unfolding kindOf isArray itemsIn
+unfolding kindOf itemsIn
 no-items null e = refl
 no-items (bool b) e = refl
 no-items (num t) e = refl

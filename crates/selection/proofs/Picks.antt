@@ -17,7 +17,7 @@ use Rattle.model.specs.Rows.{Row}
 use Rattle.model.specs.Conditions.{Test, holds, matches}
 use Rattle.model.specs.Operations.{rowText, sameColumns, sameShown, firsts}
 use Rattle.model.specs.Areas.{rowFrom}
-use Rattle.inner.specs.Packed.{cellName, columnFrom, columnCell, tableFrom, packedTables}
+use Rattle.model.specs.Catalog.{cellName, columnFrom, columnCell, tableFrom, packedTables}
 use Rattle.model.specs.Answers.{rowsText}
 use Rattle.inner.specs.Working.{working, tableIn, idIn, valueIn}
 use Rattle.model.proofs.Tests.{split, and-l}
@@ -25,9 +25,9 @@ use Rattle.inner.proofs.Working.{row-table, row-id, working-on, working-end}
 use Rattle.references.proofs.Links.{values-on}
 use Rattle.answer.specs.Texts.{commaText, joined}
 use Rattle.answer.proofs.Joins.{rows-is}
-use Rattle.area.specs.Layout.{columnCells}
+use Rattle.catalog.specs.Entries.{columnCells}
 use Rattle.area.proofs.Schemas.{columns-in}
-use Rattle.projection.specs.Shown.{shownText, columnsIn, rowShown}
+use Rattle.projection.specs.Shown.{shownText, rowShown}
 use Rattle.projection.proofs.Rows.{row-text}
 use Rattle.selection.specs.Shown.{Flagged}
 use Rattle.selection.specs.Picks.{sameFrom, sameBy, repeated, picked, pickedFrom, Marked, selected}
@@ -208,7 +208,6 @@ module _ (schema : List (List ℕ)) (t : ℕ) (size : length schema ≡ 29) (few
 
   module _ (show : List ℕ → Bool) (flags : List Bool) (fl : Flagged show (columnCells schema t) flags) (s : Schema) where
     object-is : (row : List (List ℕ)) → columnsOf s (tableIn row) ≡ map columnFrom (columnCells schema t) → rowShown schema t row flags ≡ rowText show (map columnFrom (columnCells schema t)) (rowFrom s row)
-    unfolding columnsIn
     object-is row e =
         row-text show s schema t row flags (e ∙ sym table-columns) (fl .id)
         (λ j h. fl .column j (omega (arith, cells-count)) ∙ ap (λ (x : List ℕ). show (cellName x)) (cell-at j h))

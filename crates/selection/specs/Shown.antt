@@ -15,7 +15,7 @@ use Rattle.model.specs.Text.{isWord}
 use Rattle.model.specs.Schema.{Column, columnNamed}
 use Rattle.model.specs.Written.{stringIn}
 use Rattle.model.specs.Operations.{namesIn}
-use Rattle.inner.specs.Packed.{cellName}
+use Rattle.model.specs.Catalog.{cellName}
 
 -- a slot stands for nothing, or for a value that can be read
 unfoldable pub slotWell : List ℕ → ℕ → Bool

@@ -1,29 +1,37 @@
 // The columns that a select names, and the rows that it answers.
+use model::Catalog;
+use model::Entry;
 use model::Fault;
 use model::Found;
+use model::Kind;
+use model::ROWS;
+use model::Row;
+use projection::SHOWN;
 ghost use mathlib.Core.Path.{_≡_};
 ghost use mathlib.Core.Bool.{true, not, _&&_, _||_};
 ghost use mathlib.Core.List.{[], map};
 ghost use Prim.Native.Nat.{_+_, _^_, _≤_, _<_};
 ghost use lib.ListN.{length, getD};
+ghost use Rattle.model.specs.Limits.{mostTables, mostColumns, mostRows};
 ghost use Rattle.model.specs.Base.{any};
 ghost use Rattle.inner.specs.Positions.{Says, treeAt, itemsFrom, itemsFine};
 ghost use Rattle.model.specs.Text.{isWord};
 ghost use Rattle.model.specs.Operations.{namesIn, shownFault, columnsFault, shows};
-ghost use Rattle.inner.specs.Packed.{columnFrom};
+ghost use Rattle.model.specs.Catalog.{columnFrom, tableCount, columnCount};
 ghost use Rattle.model.specs.Schema.{columnsOf};
 ghost use Rattle.model.specs.Value.{sameValue};
 ghost use Rattle.model.specs.Faults.{isFine};
-ghost use Rattle.inner.specs.Packed.{packedTables};
+ghost use Rattle.model.specs.Catalog.{packedTables};
 ghost use Rattle.inner.specs.Working.{working, valueIn};
 ghost use Rattle.uuids.specs.Named.{Running};
 ghost use Rattle.answer.specs.Put.{Put};
 ghost use Rattle.answer.specs.Texts.{joined};
-ghost use Rattle.references.specs.Links.{Accepted};
-ghost use Rattle.area.specs.Layout.{columnCells, Sized};
-ghost use Rattle.projection.specs.Shown.{shownText, columnsIn, rowShown};
+ghost use Rattle.catalog.specs.Accepted.{Accepted};
+ghost use Rattle.catalog.specs.Entries.{columnCells};
+ghost use Rattle.projection.specs.Shown.{shownText, rowShown};
 ghost use Rattle.assign.specs.Assigned.{slotted};
 ghost use Rattle.conditions.specs.Tests.{testsAt};
+ghost use Rattle.selection.specs.Most.{pickedMost, rowsMost, resultMost};
 ghost use Rattle.selection.specs.Picks.{sameFrom, sameBy, repeated, pickedFrom, Marked, selected};
 ghost use Rattle.selection.specs.Shown.{slotWell, fairName, allNames, Flagged};
 
@@ -48,7 +56,7 @@ fn includes(text: &[u8], ends: &[u16], f: Found, name: &[u8]) -> bool
 }
 
 // Whether the value at p names what can be shown, and no string from `next` on is the same.
-fn fair(text: &[u8], ends: &[u16], columns: &[[u8; 48]], p: usize, next: Found) -> bool
+fn fair(text: &[u8], ends: &[u16], columns: &[Entry], p: usize, next: Found) -> bool
     requires { ⌜ Says (now text) (now ends) ⌝ }
     ensures { λ r. ⌜ r ≡ fairName (map columnFrom (now (columns .entry))) (treeAt (now (text .entry)) p) (itemsFrom (now (text .entry)) next) ⌝ }
 {
@@ -60,7 +68,7 @@ fn fair(text: &[u8], ends: &[u16], columns: &[[u8; 48]], p: usize, next: Found) 
     let f = lookup::column_at(text, p, columns);
     match f {
         Found::At(c) => {
-            let more = includes(text, ends, next, names::cell_name(&columns[c]));
+            let more = includes(text, ends, next, catalog::name_of(&columns[c]));
             !more
         }
         Found::Nothing => false,
@@ -68,7 +76,7 @@ fn fair(text: &[u8], ends: &[u16], columns: &[[u8; 48]], p: usize, next: Found) 
 }
 
 // How the names from f on are judged.
-fn names_fault(text: &[u8], ends: &[u16], columns: &[[u8; 48]], f: Found) -> Fault
+fn names_fault(text: &[u8], ends: &[u16], columns: &[Entry], f: Found) -> Fault
     requires { ⌜ Says (now text) (now ends) ⌝ }
     ensures { λ r. ⌜ r ≡ shownFault (map columnFrom (now (columns .entry))) (namesIn (itemsFrom (now (text .entry)) f)) ⌝ }
 {
@@ -90,7 +98,7 @@ fn names_fault(text: &[u8], ends: &[u16], columns: &[[u8; 48]], f: Found) -> Fau
 }
 
 // How the columns of a select are judged, at p; 0 where they are not given.
-pub fn columns_fault(text: &[u8], ends: &[u16], columns: &[[u8; 48]], p: usize) -> Fault
+pub fn columns_fault(text: &[u8], ends: &[u16], columns: &[Entry], p: usize) -> Fault
     requires { ⌜ Says (now text) (now ends) ⌝ }
     requires { ⌜ slotWell (now text) p ≡ true ⌝ }
     ensures { λ r. ⌜ r ≡ columnsFault (map columnFrom (now (columns .entry))) (slotted (now (text .entry)) p) ⌝ }
@@ -99,9 +107,9 @@ pub fn columns_fault(text: &[u8], ends: &[u16], columns: &[[u8; 48]], p: usize) 
         return Fault::Fine;
     }
     let k = nav::kind_at(text, p);
-    let a = nav::is_array(k);
+    let a = leaf::is_kind(k, Kind::Array);
     if a {
-        let f = nav::first(text, p, 91, 93);
+        let f = nav::first(text, p, b'[', b']');
         return names_fault(text, ends, columns, f);
     }
     Fault::Syntax
@@ -117,24 +125,24 @@ fn is_shown(text: &[u8], ends: &[u16], p: usize, name: &[u8]) -> bool
     if p == 0 {
         return true;
     }
-    let f = nav::first(text, p, 91, 93);
+    let f = nav::first(text, p, b'[', b']');
     includes(text, ends, f, name)
 }
 
 // What the columns at p show, by flags: "_uuid", and each column.
-fn flags_of(text: &[u8], ends: &[u16], p: usize, columns: &[[u8; 48]]) -> [bool; 7]
+fn flags_of(text: &[u8], ends: &[u16], p: usize, columns: &[Entry]) -> [bool; SHOWN]
     requires { ⌜ Says (now text) (now ends) ⌝ }
     requires { ⌜ slotWell (now text) p ≡ true ⌝ }
     requires { ⌜ allNames (slotted (now text) p) ≡ true ⌝ }
-    requires { ⌜ length (now columns) ≤ 6 ⌝ }
+    requires { ⌜ length (now columns) ≤ mostColumns ⌝ }
     ensures { λ r. ⌜ Flagged (shows (slotted (now (text .entry)) p)) (now (columns .entry)) r ⌝ }
 {
-    let mut flags = [false; 7];
+    let mut flags = [false; SHOWN];
     let id = is_shown(text, ends, p, b"_uuid");
     flags[0] = id;
     let mut c = 0;
     while c < columns.len() {
-        let show = is_shown(text, ends, p, names::cell_name(&columns[c]));
+        let show = is_shown(text, ends, p, catalog::name_of(&columns[c]));
         flags[c + 1] = show;
         c += 1;
     }
@@ -142,8 +150,8 @@ fn flags_of(text: &[u8], ends: &[u16], p: usize, columns: &[[u8; 48]]) -> [bool;
 }
 
 // Whether two rows differ in column c, where it is shown.
-fn differ(show: bool, x: &[[u8; 25]; 25], y: &[[u8; 25]; 25], c: usize) -> bool
-    requires { ⌜ c < 6 ⌝ }
+fn differ(show: bool, x: &Row, y: &Row, c: usize) -> bool
+    requires { ⌜ c < mostColumns ⌝ }
     ensures { λ r. ⌜ r ≡ not (not show || sameValue (valueIn c (now (x .entry))) (valueIn c (now (y .entry)))) ⌝ }
 {
     if show {
@@ -154,8 +162,8 @@ fn differ(show: bool, x: &[[u8; 25]; 25], y: &[[u8; 25]; 25], c: usize) -> bool
 }
 
 // Whether two rows have the same values for the first k columns, of those that are shown.
-fn same_columns(x: &[[u8; 25]; 25], y: &[[u8; 25]; 25], flags: &[bool; 7], k: usize) -> bool
-    requires { ⌜ k ≤ 6 ⌝ }
+fn same_columns(x: &Row, y: &Row, flags: &[bool; SHOWN], k: usize) -> bool
+    requires { ⌜ k ≤ mostColumns ⌝ }
     ensures { λ r. ⌜ r ≡ sameFrom (now (flags .entry)) (now (x .entry)) (now (y .entry)) 0 k ⌝ }
 {
     let mut c = 0;
@@ -170,8 +178,8 @@ fn same_columns(x: &[[u8; 25]; 25], y: &[[u8; 25]; 25], flags: &[bool; 7], k: us
 }
 
 // Whether two rows show the same.
-fn same_shown(x: &[[u8; 25]; 25], y: &[[u8; 25]; 25], flags: &[bool; 7], k: usize) -> bool
-    requires { ⌜ k ≤ 6 ⌝ }
+fn same_shown(x: &Row, y: &Row, flags: &[bool; SHOWN], k: usize) -> bool
+    requires { ⌜ k ≤ mostColumns ⌝ }
     ensures { λ r. ⌜ r ≡ sameBy (now (flags .entry)) k (now (x .entry)) (now (y .entry)) ⌝ }
 {
     if flags[0] {
@@ -185,14 +193,8 @@ fn same_shown(x: &[[u8; 25]; 25], y: &[[u8; 25]; 25], flags: &[bool; 7], k: usiz
 }
 
 // The same, of a row y that is marked.
-fn same_marked(
-    mark: bool,
-    x: &[[u8; 25]; 25],
-    y: &[[u8; 25]; 25],
-    flags: &[bool; 7],
-    k: usize,
-) -> bool
-    requires { ⌜ k ≤ 6 ⌝ }
+fn same_marked(mark: bool, x: &Row, y: &Row, flags: &[bool; SHOWN], k: usize) -> bool
+    requires { ⌜ k ≤ mostColumns ⌝ }
     ensures { λ r. ⌜ r ≡ (mark && sameBy (now (flags .entry)) k (now (x .entry)) (now (y .entry))) ⌝ }
 {
     if mark {
@@ -202,14 +204,8 @@ fn same_marked(
 }
 
 // Whether a marked row before the one at i shows the same.
-fn repeats(
-    rows: &[[[u8; 25]; 25]],
-    marks: &[bool; 32],
-    i: usize,
-    flags: &[bool; 7],
-    k: usize,
-) -> bool
-    requires { ⌜ (i < length (now rows)) × (i < 32) × (k ≤ 6) ⌝ }
+fn repeats(rows: &[Row], marks: &[bool; ROWS], i: usize, flags: &[bool; SHOWN], k: usize) -> bool
+    requires { ⌜ (i < length (now rows)) × (i < mostRows) × (k ≤ mostColumns) ⌝ }
     ensures { λ r. ⌜ r ≡ repeated (now (flags .entry)) k (now (marks .entry)) (now (rows .entry)) (getD (now (rows .entry)) i []) i ⌝ }
 {
     let mut j = i;
@@ -229,20 +225,20 @@ fn marks_of(
     ends: &[u16],
     ops: Found,
     fresh: &[u8],
-    columns: &[[u8; 48]],
+    columns: &[Entry],
     table: u8,
     tests: Found,
-    rows: &[[[u8; 25]; 25]],
+    rows: &[Row],
     n: usize,
-) -> [bool; 32]
+) -> [bool; ROWS]
     requires { ⌜ Running (now text) (now ends) ops (now fresh) ⌝ }
     requires { ⌜ itemsFine (now text) tests ≡ true ⌝ }
-    requires { ⌜ length (now columns) ≤ 6 ⌝ }
+    requires { ⌜ length (now columns) ≤ mostColumns ⌝ }
     requires { ⌜ isFine (testsAt (now text) ops (now fresh) (now columns) tests .fault) ≡ true ⌝ }
-    requires { ⌜ (n ≤ 32) × (n ≤ length (now rows)) ⌝ }
+    requires { ⌜ (n ≤ mostRows) × (n ≤ length (now rows)) ⌝ }
     ensures { λ r. ⌜ Marked (map columnFrom (now (columns .entry))) (testsAt (now (text .entry)) ops (now (fresh .entry)) (now (columns .entry)) tests .got) table n (now (rows .entry)) r ⌝ }
 {
-    let mut marks = [false; 32];
+    let mut marks = [false; ROWS];
     let mut i = 0;
     while i < n {
         let m = conditions::matches(text, ends, ops, fresh, columns, table, tests, &rows[i]);
@@ -258,13 +254,13 @@ fn put_picked(
     at: usize,
     pick: bool,
     first: bool,
-    schema: &[[u8; 48]; 29],
+    schema: &Catalog,
     table: usize,
-    row: &[[u8; 25]; 25],
-    flags: &[bool; 7],
+    row: &Row,
+    flags: &[bool; SHOWN],
 ) -> usize
-    requires { ⌜ (at + 5386 < 2 ^ 64) × (table < 4) × (columnsIn (now schema) table ≤ 6) ⌝ }
-    ensures { λ r. ⌜ Put 5386 (now (out .entry)) at (shownText pick first (rowShown (now (schema .entry)) table (now (row .entry)) (now (flags .entry)))) r (now (out .exit)) ⌝ }
+    requires { ⌜ (at + pickedMost < 2 ^ 64) × (table < mostTables) × (columnCount (now schema) table ≤ mostColumns) ⌝ }
+    ensures { λ r. ⌜ Put pickedMost (now (out .entry)) at (shownText pick first (rowShown (now (schema .entry)) table (now (row .entry)) (now (flags .entry)))) r (now (out .exit)) ⌝ }
 {
     if pick {
         let r = answer::put_comma(out, at, first);
@@ -277,17 +273,17 @@ fn put_picked(
 fn put_rows(
     out: &mut [u8],
     at: usize,
-    schema: &[[u8; 48]; 29],
+    schema: &Catalog,
     table: usize,
     k: usize,
-    rows: &[[[u8; 25]; 25]],
+    rows: &[Row],
     n: usize,
-    marks: &[bool; 32],
-    flags: &[bool; 7],
+    marks: &[bool; ROWS],
+    flags: &[bool; SHOWN],
 ) -> usize
-    requires { ⌜ (at + 172352 < 2 ^ 64) × (table < 4) × (columnsIn (now schema) table ≤ 6) ⌝ }
-    requires { ⌜ (k ≤ 6) × (n ≤ 32) × (n ≤ length (now rows)) ⌝ }
-    ensures { λ r. ⌜ Put 172352 (now (out .entry)) at (joined true (pickedFrom (now (schema .entry)) table (now (flags .entry)) k (now (marks .entry)) (now (rows .entry)) 0 n)) r (now (out .exit)) ⌝ }
+    requires { ⌜ (at + rowsMost < 2 ^ 64) × (table < mostTables) × (columnCount (now schema) table ≤ mostColumns) ⌝ }
+    requires { ⌜ (k ≤ mostColumns) × (n ≤ mostRows) × (n ≤ length (now rows)) ⌝ }
+    ensures { λ r. ⌜ Put rowsMost (now (out .entry)) at (joined true (pickedFrom (now (schema .entry)) table (now (flags .entry)) k (now (marks .entry)) (now (rows .entry)) 0 n)) r (now (out .exit)) ⌝ }
 {
     let mut first = true;
     let mut r = at;
@@ -308,11 +304,11 @@ pub fn select_rows(
     ends: &[u16],
     ops: Found,
     fresh: &[u8],
-    schema: &[[u8; 48]; 29],
+    schema: &Catalog,
     table: u8,
     tests: Found,
     p: usize,
-    rows: &[[[u8; 25]; 25]],
+    rows: &[Row],
     n: usize,
     out: &mut [u8],
     at: usize,
@@ -321,15 +317,14 @@ pub fn select_rows(
     requires { ⌜ itemsFine (now text) tests ≡ true ⌝ }
     requires { ⌜ slotWell (now text) p ≡ true ⌝ }
     requires { ⌜ Accepted (now schema) ⌝ }
-    requires { ⌜ Sized (now schema) ⌝ }
-    requires { ⌜ table < getD (getD (now schema) 0 []) 25 0 ⌝ }
+    requires { ⌜ table < tableCount (now schema) ⌝ }
     requires { ⌜ isFine (testsAt (now text) ops (now fresh) (columnCells (now schema) table) tests .fault) ≡ true ⌝ }
     requires { ⌜ isFine (columnsFault (columnsOf (packedTables (now schema)) table) (slotted (now text) p)) ≡ true ⌝ }
-    requires { ⌜ (n ≤ 32) × (n ≤ length (now rows)) × (at + 200000 < 2 ^ 64) ⌝ }
-    ensures { λ r. ⌜ Put 200000 (now (out .entry)) at (selected (shows (slotted (now (text .entry)) p)) (columnsOf (packedTables (now (schema .entry))) table) table (testsAt (now (text .entry)) ops (now (fresh .entry)) (columnCells (now (schema .entry)) table) tests .got) (working (packedTables (now (schema .entry))) n (now (rows .entry)))) r (now (out .exit)) ⌝ }
+    requires { ⌜ (n ≤ mostRows) × (n ≤ length (now rows)) × (at + resultMost < 2 ^ 64) ⌝ }
+    ensures { λ r. ⌜ Put resultMost (now (out .entry)) at (selected (shows (slotted (now (text .entry)) p)) (columnsOf (packedTables (now (schema .entry))) table) table (testsAt (now (text .entry)) ops (now (fresh .entry)) (columnCells (now (schema .entry)) table) tests .got) (working (packedTables (now (schema .entry))) n (now (rows .entry)))) r (now (out .exit)) ⌝ }
 {
-    let t = atom::wide(table);
-    let columns = area::columns_of(schema, t);
+    let t = leaf::wide(table);
+    let columns = catalog::columns_of(schema, t);
     let flags = flags_of(text, ends, p, columns);
     let marks = marks_of(text, ends, ops, fresh, columns, table, tests, rows, n);
     let a = answer::put_bytes(out, at, b"{\"rows\":[");

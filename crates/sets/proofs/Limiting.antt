@@ -10,11 +10,11 @@ use lib.Signed.{leZ}
 use borrow.Author.Tests.{ltb-true, ltb-false, le-leb, lt-leb, eqb-true, eqb-false}
 use Rattle.model.specs.Base.{if_then_else_}
 use Rattle.model.specs.Schema.{Base, Column}
-use Rattle.inner.specs.Packed.{baseNumbered}
+use Rattle.model.specs.Catalog.{baseNumbered}
 use Rattle.model.specs.Value.{fromTwos, atomInLimits}
 use Rattle.model.proofs.Tests.{split}
 use Rattle.model.proofs.Signed.{leZ-is}
-use Rattle.atom.specs.Bytes.{halves}
+use Rattle.leaf.specs.Bytes.{halves}
 use Rattle.atom.proofs.Types.{base-boolean, base-uuid, halves-less}
 
 pub at-most-is : (x y : ℕ) → x < 18446744073709551616 → y < 18446744073709551616 → not (ltb (halves y) (halves x)) ≡ leZ (fromTwos x) (fromTwos y)

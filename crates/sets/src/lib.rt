@@ -1,4 +1,8 @@
 // The elements of a value as written, all together: of their type, in their limits, different, and gathered.
+use model::ATOM;
+use model::Atoms;
+use model::ELEMENTS;
+use model::Entry;
 use model::Found;
 use written::Atom;
 ghost use mathlib.Core.Path.{_≡_};
@@ -7,14 +11,14 @@ ghost use Prim.Native.Nat.{_≤_};
 ghost use lib.IntN.{pos};
 ghost use lib.Signed.{leZ};
 ghost use lib.ListN.{length};
-ghost use Rattle.model.specs.Octets.{value, part};
+ghost use Rattle.model.specs.Limits.{mostElements};
 ghost use Rattle.model.specs.Base.{any, member, distinct};
 ghost use Rattle.inner.specs.Positions.{wellAt, treeAt};
-ghost use Rattle.inner.specs.Packed.{baseNumbered};
+ghost use Rattle.model.specs.Catalog.{baseNumbered};
 ghost use Rattle.model.specs.Value.{fromTwos, inLimits, atomInLimits, valueOf};
 ghost use Rattle.model.specs.Written.{longAtom};
-ghost use Rattle.inner.specs.Packed.{columnFrom};
-ghost use Rattle.atom.specs.Bytes.{halves};
+ghost use Rattle.model.specs.Catalog.{columnFrom};
+ghost use Rattle.leaf.specs.Bytes.{halves};
 ghost use Rattle.elements.specs.Elements.{elementsFrom, elementsFine};
 ghost use Rattle.uuids.specs.Named.{namesAt, Running};
 ghost use Rattle.written.specs.Atoms.{atomAs, atomsOf};
@@ -35,62 +39,43 @@ pub struct Tally {
     pub within: bool,
 }
 
-// 64 bits whose order is that of the integers that x and others are in two's complement.
-fn turn(x: u64) -> u64
-    ensures { λ r. ⌜ r ≡ halves x ⌝ }
-{
-    if x < 9223372036854775808 {
-        return x + 9223372036854775808;
-    }
-    x - 9223372036854775808
-}
-
 // The order of integers in two's complement.
 fn at_most(x: u64, y: u64) -> bool
     ensures { λ r. ⌜ r ≡ leZ (fromTwos x) (fromTwos y) ⌝ }
 {
-    let a = turn(x);
-    let b = turn(y);
+    let a = leaf::turn(x);
+    let b = leaf::turn(y);
     let less = b < a;
     !less
 }
 
-// A limit of a column.
-fn limit(column: &[u8; 48], at: usize) -> u64
-    requires { ⌜ at ≤ 40 ⌝ }
-    ensures { λ r. ⌜ r ≡ value (part at 8 (now (column .entry))) ⌝ }
-{
-    let c = &column[..];
-    octets::number(&c[at..], 8)
-}
-
 // Whether an integer in two's complement is in a column's limits.
-pub fn in_limits(column: &[u8; 48], x: u64) -> bool
+pub fn in_limits(column: &Entry, x: u64) -> bool
     ensures { λ r. ⌜ r ≡ inLimits (columnFrom (now (column .entry))) (fromTwos x) ⌝ }
 {
-    let low = limit(column, 31);
-    let high = limit(column, 39);
+    let low = catalog::low(column);
+    let high = catalog::high(column);
     let l = at_most(low, x);
     let h = at_most(x, high);
     l & h
 }
 
 // Whether a length is in a column's limits.
-pub fn count_in_limits(column: &[u8; 48], n: u64) -> bool
+pub fn count_in_limits(column: &Entry, n: u64) -> bool
     ensures { λ r. ⌜ r ≡ inLimits (columnFrom (now (column .entry))) (pos n) ⌝ }
 {
-    let low = limit(column, 31);
-    let high = limit(column, 39);
+    let low = catalog::low(column);
+    let high = catalog::high(column);
     let above = (9223372036854775808 <= low) | (low <= n);
     let below = (high < 9223372036854775808) & (n <= high);
     above & below
 }
 
 // Whether an atom is in its column's limits.
-pub fn within(column: &[u8; 48], cell: &[u8; 25]) -> bool
+pub fn within(column: &Entry, cell: &model::Atom) -> bool
     ensures { λ r. ⌜ r ≡ atomInLimits (columnFrom (now (column .entry))) (columnFrom (now (column .entry)) .base) (now (cell .entry)) ⌝ }
 {
-    let kind = column[25];
+    let kind = catalog::kind(column);
     if kind == 0 {
         return in_limits(column, octets::number(cell, 8));
     }
@@ -102,13 +87,13 @@ pub fn within(column: &[u8; 48], cell: &[u8; 25]) -> bool
 }
 
 // What is seen of the element at `at`.
-fn see(text: &[u8], ends: &[u16], ops: Found, fresh: &[u8], column: &[u8; 48], at: usize) -> Seen
+fn see(text: &[u8], ends: &[u16], ops: Found, fresh: &[u8], column: &Entry, at: usize) -> Seen
     requires { ⌜ Running (now text) (now ends) ops (now fresh) ⌝ }
     requires { ⌜ wellAt (now text) at ≡ true ⌝ }
     ensures { λ r. ⌜ Sees (namesAt (now (text .entry)) ops (now (fresh .entry))) (columnFrom (now (column .entry))) (treeAt (now (text .entry)) at) (r .typed) (r .short) (r .within) ⌝ }
 {
-    let mut cell = [0u8; 25];
-    let kind = column[25];
+    let mut cell = [0u8; ATOM];
+    let kind = catalog::kind(column);
     let a = written::atom_at(text, ends, ops, fresh, kind, at, &mut cell);
     match a {
         Atom::Wrong => {
@@ -145,7 +130,7 @@ pub fn tally_from(
     ends: &[u16],
     ops: Found,
     fresh: &[u8],
-    column: &[u8; 48],
+    column: &Entry,
     set: bool,
     f: Found,
 ) -> Tally
@@ -196,7 +181,7 @@ fn again(
     requires { ⌜ elementsFine (now text) set f ≡ true ⌝ }
     ensures { λ r. ⌜ r ≡ member (atomAs (namesAt (now (text .entry)) ops (now (fresh .entry))) (baseNumbered kind) (treeAt (now (text .entry)) at)) (atomsOf (namesAt (now (text .entry)) ops (now (fresh .entry))) (baseNumbered kind) (elementsFrom (now (text .entry)) set f)) ⌝ }
 {
-    let mut cell = [0u8; 25];
+    let mut cell = [0u8; ATOM];
     let a = written::atom_at(text, ends, ops, fresh, kind, at, &mut cell);
     match a {
         Atom::Wrong => written::cell_among(text, ends, ops, fresh, kind, set, f, &cell),
@@ -236,13 +221,13 @@ pub fn distinct_from(
 }
 
 // The atom of the element at `at`, which is not a long string.
-fn cell_at(text: &[u8], ends: &[u16], ops: Found, fresh: &[u8], kind: u8, at: usize) -> [u8; 25]
+fn cell_at(text: &[u8], ends: &[u16], ops: Found, fresh: &[u8], kind: u8, at: usize) -> model::Atom
     requires { ⌜ Running (now text) (now ends) ops (now fresh) ⌝ }
     requires { ⌜ wellAt (now text) at ≡ true ⌝ }
     requires { ⌜ longAtom (baseNumbered kind) (atomAs (namesAt (now text) ops (now fresh)) (baseNumbered kind) (treeAt (now text) at)) ≡ false ⌝ }
     ensures { λ r. ⌜ r ≡ atomAs (namesAt (now (text .entry)) ops (now (fresh .entry))) (baseNumbered kind) (treeAt (now (text .entry)) at) ⌝ }
 {
-    let mut cell = [0u8; 25];
+    let mut cell = [0u8; ATOM];
     written::atom_at(text, ends, ops, fresh, kind, at, &mut cell);
     cell
 }
@@ -256,17 +241,17 @@ pub fn gather(
     kind: u8,
     set: bool,
     f: Found,
-) -> [[u8; 25]; 4]
+) -> Atoms
     requires { ⌜ Running (now text) (now ends) ops (now fresh) ⌝ }
     requires { ⌜ elementsFine (now text) set f ≡ true ⌝ }
     requires { ⌜ allShort (namesAt (now text) ops (now fresh)) (baseNumbered kind) (elementsFrom (now text) set f) ≡ true ⌝ }
-    requires { ⌜ length (elementsFrom (now text) set f) ≤ 4 ⌝ }
+    requires { ⌜ length (elementsFrom (now text) set f) ≤ mostElements ⌝ }
     ensures { λ r. ⌜ r ≡ valueOf (atomsOf (namesAt (now (text .entry)) ops (now (fresh .entry))) (baseNumbered kind) (elementsFrom (now (text .entry)) set f)) .atoms ⌝ }
 {
-    let mut atoms = [[0u8; 25]; 4];
+    let mut atoms = [[0u8; ATOM]; ELEMENTS];
     let mut g = f;
     let mut n = 0;
-    while n < 4 {
+    while n < ELEMENTS {
         match g {
             Found::At(p) => {
                 let x = cell_at(text, ends, ops, fresh, kind, p);

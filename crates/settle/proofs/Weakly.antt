@@ -14,11 +14,12 @@ use Rattle.model.specs.Value.{Value, elements, valueOf, blank}
 use Rattle.model.specs.Rows.{Row, columnValue, setColumn}
 use Rattle.model.specs.Commit.{weakly, present, weakenValue, weakenColumns, weakenRow}
 use Rattle.model.specs.Areas.{rowFrom}
-use Rattle.inner.specs.Packed.{packedTables, columnFrom, columnCell}
+use Rattle.model.specs.Catalog.{packedTables, columnFrom, columnCell}
 use Rattle.inner.specs.Working.{working, tableIn, valueIn, TidyRow}
 use Rattle.inner.proofs.Working.{row-table}
 use Rattle.inner.proofs.Columns.{column-value}
-use Rattle.references.specs.Links.{Accepted, pick, refersAt}
+use Rattle.references.specs.Links.{pick, refersAt}
+use Rattle.catalog.specs.Accepted.{Accepted}
 use Rattle.references.proofs.Packs.{columns-on, few-columns}
 use Rattle.references.proofs.Links.{values-on, values-length}
 use Rattle.settle.specs.Weak.{keptValue, ColumnWeak, RowWeak}

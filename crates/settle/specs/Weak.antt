@@ -4,6 +4,7 @@ use mathlib.Core.Path.{_≡_}
 use mathlib.Core.List.{List}
 use mathlib.Core.Option.{Option, none, some}
 use lib.ListN.{length, take}
+use Rattle.model.specs.Limits.{mostColumns}
 use Rattle.model.specs.Base.{keep}
 use Rattle.model.specs.Schema.{Schema, columnsOf}
 use Rattle.model.specs.Value.{Value, elements, valueOf}
@@ -19,7 +20,7 @@ keptValue rows (some t) v = valueOf (keep (present rows t) (elements v))
 
 pub record ColumnWeak (to : Option ℕ) (c n : ℕ) (rows : List (List (List ℕ))) (entry exit : List (List ℕ)) : Type 0 where
   pub row : (s : Schema) → c < length (columnsOf s (tableIn entry)) → rowFrom s exit ≡ setColumn c (keptValue (working s n rows) to (valueIn c entry)) (rowFrom s entry)
-  pub tidy : (s : Schema) → c < length (columnsOf s (tableIn entry)) → length (columnsOf s (tableIn entry)) ≤ 6 → TidyRow s entry → TidyRow s exit
+  pub tidy : (s : Schema) → c < length (columnsOf s (tableIn entry)) → length (columnsOf s (tableIn entry)) ≤ mostColumns → TidyRow s entry → TidyRow s exit
 
 pub record RowWeak (s : Schema) (n : ℕ) (rows : List (List (List ℕ))) (entry exit : List (List ℕ)) : Type 0 where
   pub row : rowFrom s exit ≡ weakenRow s (working s n rows) (rowFrom s entry)

@@ -1,38 +1,37 @@
 // What a commit leaves of the working rows: rows that nothing holds go, and weak references to absent rows.
+use model::ATOM;
+use model::Catalog;
+use model::ELEMENTS;
 use model::Found;
+use model::Row;
 use references::Target;
 ghost use mathlib.Core.Path.{_≡_};
 ghost use mathlib.Core.Bool.{not};
-ghost use mathlib.Core.List.{[], _∷_, _++_};
-ghost use Prim.Native.Nat.{ℕ, _+_, _*_, _-_, _≤_, _<_, min};
+ghost use Prim.Native.Nat.{_+_, _-_, _≤_, _<_};
 ghost use lib.Dec.{eqb};
-ghost use lib.ListN.{length, take, drop, getD};
+ghost use lib.ListN.{length};
+ghost use Rattle.model.specs.Limits.{mostColumns};
 ghost use Rattle.model.specs.Base.{any, all, keep};
-ghost use Rattle.model.specs.Schema.{Schema, Table, isRoot, columnsOf};
-ghost use Rattle.model.specs.Rows.{Row, keyOf, has};
-ghost use Rattle.model.specs.Commit.{strongOf, loose, firstLoose, collect};
+ghost use Rattle.model.specs.Schema.{Table, isRoot};
+ghost use Rattle.model.specs.Rows.{Row};
+ghost use Rattle.model.specs.Commit.{loose, collect};
 ghost use Rattle.model.specs.Areas.{rowFrom};
-ghost use Rattle.inner.specs.Packed.{packedTables};
-ghost use Rattle.inner.specs.Working.{working, tableIn, keyIn, valueIn, place, Tidy};
-ghost use Rattle.references.specs.Links.{Accepted, told};
+ghost use Rattle.model.specs.Catalog.{packedTables};
+ghost use Rattle.inner.specs.Working.{working, keyIn, place};
+ghost use Rattle.references.specs.Links.{told};
+ghost use Rattle.catalog.specs.Accepted.{Accepted};
 ghost use Rattle.settle.specs.Loose.{holds, LooseAt, Collected};
 ghost use Rattle.settle.specs.Weak.{ColumnWeak, RowWeak, Weakened};
 
-fn wide(b: u8) -> usize
-    ensures { λ r. ⌜ r ≡ b ⌝ }
-{
-    b as usize
-}
-
 // Whether a table says that it is root.
-fn some_root(schema: &[[u8; 48]]) -> bool
+fn some_root(schema: &Catalog) -> bool
     requires { ⌜ Accepted (now schema) ⌝ }
     ensures { λ r. ⌜ r ≡ any (λ (x : Table). x .root) (packedTables (now (schema .entry))) ⌝ }
 {
-    let n = wide(schema[0][25]);
+    let n = leaf::wide(catalog::table_count(&schema[0]));
     let mut t = 0;
     while t < n {
-        if schema[1 + t][26] == 1 {
+        if catalog::says_root(&schema[1 + t]) {
             return true;
         }
         t += 1;
@@ -41,28 +40,28 @@ fn some_root(schema: &[[u8; 48]]) -> bool
 }
 
 // Whether a table is root: all are, if none says so.
-fn is_root(schema: &[[u8; 48]], table: u8) -> bool
+fn is_root(schema: &Catalog, table: u8) -> bool
     requires { ⌜ Accepted (now schema) ⌝ }
     ensures { λ r. ⌜ r ≡ isRoot (packedTables (now (schema .entry))) table ⌝ }
 {
-    if schema[0][25] <= table {
+    if catalog::table_count(&schema[0]) <= table {
         return true;
     }
-    if schema[1 + wide(table)][26] == 1 {
+    if catalog::says_root(&schema[1 + leaf::wide(table)]) {
         return true;
     }
     !some_root(schema)
 }
 
 // Whether two rows are the same, by table and id.
-fn same_row(a: &[[u8; 25]; 25], b: &[[u8; 25]; 25]) -> bool
+fn same_row(a: &Row, b: &Row) -> bool
     ensures { λ r. ⌜ r ≡ eqb (keyIn (now (a .entry))) (keyIn (now (b .entry))) ⌝ }
 {
     rows::same_keys(rows::table_of(a), rows::id_of(a), rows::key_of(b))
 }
 
 // Whether a row is a different one that refers strongly to another.
-fn holds_row(schema: &[[u8; 48]], row: &[[u8; 25]; 25], other: &[[u8; 25]; 25]) -> bool
+fn holds_row(schema: &Catalog, row: &Row, other: &Row) -> bool
     requires { ⌜ Accepted (now schema) ⌝ }
     ensures { λ r. ⌜ r ≡ holds (packedTables (now (schema .entry))) (keyIn (now (other .entry))) (rowFrom (packedTables (now (schema .entry))) (now (row .entry))) ⌝ }
 {
@@ -73,7 +72,7 @@ fn holds_row(schema: &[[u8; 48]], row: &[[u8; 25]; 25], other: &[[u8; 25]; 25]) 
 }
 
 // Whether a different row refers strongly to this one.
-fn is_held(schema: &[[u8; 48]], rows: &[[[u8; 25]; 25]], n: usize, row: &[[u8; 25]; 25]) -> bool
+fn is_held(schema: &Catalog, rows: &[Row], n: usize, row: &Row) -> bool
     requires { ⌜ Accepted (now schema) ⌝ }
     requires { ⌜ n ≤ length (now rows) ⌝ }
     ensures { λ r. ⌜ r ≡ any (holds (packedTables (now (schema .entry))) (keyIn (now (row .entry)))) (working (packedTables (now (schema .entry))) n (now (rows .entry))) ⌝ }
@@ -89,12 +88,7 @@ fn is_held(schema: &[[u8; 48]], rows: &[[[u8; 25]; 25]], n: usize, row: &[[u8; 2
 }
 
 // Whether a row of a table that is not root is held by no other.
-pub fn is_loose(
-    schema: &[[u8; 48]],
-    rows: &[[[u8; 25]; 25]],
-    n: usize,
-    row: &[[u8; 25]; 25],
-) -> bool
+pub fn is_loose(schema: &Catalog, rows: &[Row], n: usize, row: &Row) -> bool
     requires { ⌜ Accepted (now schema) ⌝ }
     requires { ⌜ n ≤ length (now rows) ⌝ }
     ensures { λ r. ⌜ r ≡ loose (packedTables (now (schema .entry))) (working (packedTables (now (schema .entry))) n (now (rows .entry))) (rowFrom (packedTables (now (schema .entry))) (now (row .entry))) ⌝ }
@@ -105,23 +99,8 @@ pub fn is_loose(
     !is_held(schema, rows, n, row)
 }
 
-// The place of the first row that has the table and id of this one.
-fn place_of(rows: &[[[u8; 25]; 25]], n: usize, row: &[[u8; 25]; 25]) -> Found
-    requires { ⌜ n ≤ length (now rows) ⌝ }
-    ensures { λ r. ⌜ ((s : Schema) → r ≡ place (keyIn (now (row .entry))) (working s n (now (rows .entry)))) ⌝ }
-{
-    let mut j = 0;
-    while j < n {
-        if same_row(row, &rows[j]) {
-            return Found::At(j);
-        }
-        j += 1;
-    }
-    Found::Nothing
-}
-
 // The place of the first loose row.
-pub fn first_loose(schema: &[[u8; 48]], rows: &[[[u8; 25]; 25]], n: usize) -> Found
+pub fn first_loose(schema: &Catalog, rows: &[Row], n: usize) -> Found
     requires { ⌜ Accepted (now schema) ⌝ }
     requires { ⌜ n ≤ length (now rows) ⌝ }
     ensures { λ r. ⌜ LooseAt (packedTables (now (schema .entry))) (working (packedTables (now (schema .entry))) n (now (rows .entry))) r ⌝ }
@@ -129,7 +108,7 @@ pub fn first_loose(schema: &[[u8; 48]], rows: &[[[u8; 25]; 25]], n: usize) -> Fo
     let mut i = 0;
     while i < n {
         if is_loose(schema, rows, n, &rows[i]) {
-            return place_of(rows, n, &rows[i]);
+            return rows::find_row(rows, n, &rows[i]);
         }
         i += 1;
     }
@@ -137,7 +116,7 @@ pub fn first_loose(schema: &[[u8; 48]], rows: &[[[u8; 25]; 25]], n: usize) -> Fo
 }
 
 // Removes the first loose row and calls itself, until there is none. The rows fall by one at each call; those that are left are counted.
-pub fn collect(schema: &[[u8; 48]], rows: &mut [[[u8; 25]; 25]], n: usize) -> usize
+pub fn collect(schema: &Catalog, rows: &mut [Row], n: usize) -> usize
     requires { ⌜ Accepted (now schema) ⌝ }
     requires { ⌜ n ≤ length (now rows) ⌝ }
     ensures { λ r. ⌜ Collected (packedTables (now (schema .entry))) n r (now (rows .entry)) (now (rows .exit)) ⌝ }
@@ -151,13 +130,13 @@ pub fn collect(schema: &[[u8; 48]], rows: &mut [[[u8; 25]; 25]], n: usize) -> us
 }
 
 // The elements of column c that name a row of a table, in their order; another column stays.
-fn weaken_column(row: &mut [[u8; 25]; 25], c: usize, to: Target, rows: &[[[u8; 25]; 25]], n: usize)
-    requires { ⌜ (c < 6) × (n ≤ length (now rows)) ⌝ }
+fn weaken_column(row: &mut Row, c: usize, to: Target, rows: &[Row], n: usize)
+    requires { ⌜ (c < mostColumns) × (n ≤ length (now rows)) ⌝ }
     ensures { λ _. ⌜ ColumnWeak (told to) c n (now (rows .entry)) (now (row .entry)) (now (row .exit)) ⌝ }
 {
     match to {
         Target::Table(t) => {
-            let mut kept = [[0u8; 25]; 4];
+            let mut kept = [[0u8; ATOM]; ELEMENTS];
             let count = references::size(rows::count_of(row, c));
             let k = references::keep_named(rows::atoms_in(row, c), count, t, rows, n, &mut kept);
             rows::set_column(row, c, k as u8, &kept);
@@ -167,7 +146,7 @@ fn weaken_column(row: &mut [[u8; 25]; 25], c: usize, to: Target, rows: &[[[u8; 2
 }
 
 // A row without its weak references to absent rows.
-fn weaken_row(row: &mut [[u8; 25]; 25], schema: &[[u8; 48]], rows: &[[[u8; 25]; 25]], n: usize)
+fn weaken_row(row: &mut Row, schema: &Catalog, rows: &[Row], n: usize)
     requires { ⌜ Accepted (now schema) ⌝ }
     requires { ⌜ n ≤ length (now rows) ⌝ }
     ensures { λ _. ⌜ RowWeak (packedTables (now (schema .entry))) n (now (rows .entry)) (now (row .entry)) (now (row .exit)) ⌝ }
@@ -183,7 +162,7 @@ fn weaken_row(row: &mut [[u8; 25]; 25], schema: &[[u8; 48]], rows: &[[[u8; 25]; 
 }
 
 // The rows without their weak references to absent rows.
-pub fn weaken(schema: &[[u8; 48]], rows: &mut [[[u8; 25]; 25]], n: usize)
+pub fn weaken(schema: &Catalog, rows: &mut [Row], n: usize)
     requires { ⌜ Accepted (now schema) ⌝ }
     requires { ⌜ n ≤ length (now rows) ⌝ }
     ensures { λ _. ⌜ Weakened (packedTables (now (schema .entry))) n (now (rows .entry)) (now (rows .exit)) ⌝ }

@@ -8,16 +8,16 @@ use native.Mathlib.Omega.{arith}
 use borrow.Author.Tests.{eq-eqb, ne-eqb, le-leb, lt-leb}
 use lib.Dec.{eqb, leb}
 use lib.ListN.{length, drop, replicate, drop-of-length-le, length-replicate}
+use Rattle.model.specs.Limits.{storeBytes}
 use Rattle.model.specs.Octets.{filled}
-use Rattle.model.specs.Base.{isSome}
-use Rattle.model.specs.Schema.{Schema}
+use Rattle.model.specs.Schema.{Database}
 use Rattle.model.specs.SchemaText.{readSchema}
 use Rattle.model.specs.Refusals.{numberOf}
 use Rattle.model.specs.Records.{mark, encode}
-use Rattle.model.specs.Areas.{Store, textFrom, encodeStore, storeOf}
-use Rattle.inner.specs.Packed.{packedTables}
+use Rattle.model.specs.Areas.{Store, encodeStore, storeOf}
+use Rattle.model.specs.Catalog.{databaseFrom}
 use Rattle.area.specs.Layout.{rowCount}
-use Rattle.model.specs.Calls.{zeroed, Started, storeStart, Marked, markOn, storeMark}
+use Rattle.model.specs.Calls.{zeroed, Started, startAs, newStore, storeStart, Marked, markOn, storeMark}
 use Rattle.inner.specs.Working.{working}
 use Rattle.model.specs.declared.Answer.{Answer}
 use Rattle.model.specs.declared.Answer.the-variants.{Accepted, Disordered, WrongLength, BadSchema}
@@ -36,34 +36,24 @@ module _ (area schema : List ℕ) (run : ℕ) where
   abbrev Starts : Answer → List ℕ → Type 0
   Starts r after = (r ≡ storeStart area schema run .answer) × (after ≡ storeStart area schema run .area)
 
-  abbrev made : List ℕ
-  made = encodeStore (record { run = run; number = 0; schema = schema; rows = [] })
-
-  -- by the two tests
-  chosen : Bool → Bool → Started
-  chosen p q = elim p [ true ↦ elim q [ true ↦ record { answer = Accepted; area = made } | false ↦ record { answer = BadSchema; area = area } ] | false ↦ record { answer = WrongLength; area = area } ]
-
-  is : (p q : Bool) → eqb (length area) 24107 ≡ p → isSome (readSchema schema) ≡ q → storeStart area schema run ≡ chosen p q
-  unfolding storeStart chosen
-  is p q e f = λ i. chosen (e i) (f i)
-
   starts : (z : Started) → storeStart area schema run ≡ z → Starts (z .answer) (z .area)
   starts z e = (ap (λ (x : Started). x .answer) (sym e), ap (λ (x : Started). x .area) (sym e))
 
-  pub start-length : (length area ≡ 24107 → ⊥) → Starts WrongLength area
-  unfolding chosen
-  start-length h = starts (chosen false (isSome (readSchema schema))) (is false (isSome (readSchema schema)) (ne-eqb (length area) 24107 h) refl)
+  pub start-length : (length area ≡ storeBytes → ⊥) → Starts WrongLength area
+  unfolding storeStart
+  start-length h = starts (record { answer = WrongLength; area = area }) (rw (ne-eqb (length area) storeBytes h, startAs))
 
-  module _ (size : length area ≡ 24107) where
-    pub start-schema : isSome (readSchema schema) ≡ false → Starts BadSchema area
-    unfolding chosen
-    start-schema h = starts (chosen true false) (is true false (eq-eqb (length area) 24107 size) h)
+  module _ (size : length area ≡ storeBytes) where
+    pub start-schema : readSchema schema ≡ none → Starts BadSchema area
+    unfolding storeStart
+    start-schema h = starts (record { answer = BadSchema; area = area }) (rw (eq-eqb (length area) storeBytes size, startAs, h))
 
-    pub start-made : (s : Schema) (cells : List (List (List ℕ))) (after : List ℕ) → isSome (readSchema schema) ≡ true → after ≡ encodeStore (storeIn s run 0 schema 0 cells) ++ drop 24107 area → Starts Accepted after
-    unfolding chosen storeIn working
-    start-made s cells after h w =
-        let z = starts (chosen true true) (is true true (eq-eqb (length area) 24107 size) h) in
-        (z .0, w ∙ ap (λ (l : List ℕ). made ++ l) (drop-of-length-le area {i = 24107} (omega arith)) ∙ append-nil made ∙ z .1)
+    pub start-made : (d : Database) (cells : List (List (List ℕ))) (after : List ℕ) → readSchema schema ≡ some d → after ≡ encodeStore (storeIn d run 0 0 cells) ++ drop storeBytes area → Starts Accepted after
+    unfolding storeStart storeIn working
+    start-made d cells after h w =
+        let made = encodeStore (newStore run d) in
+        let z = starts (record { answer = Accepted; area = made }) (rw (eq-eqb (length area) storeBytes size, startAs, h)) in
+        (z .0, w ∙ ap (λ (l : List ℕ). made ++ l) (drop-of-length-le area {i = storeBytes} (omega arith)) ∙ append-nil made ∙ z .1)
 
 -- ── the mark ──
 drop-zeros : (n k : ℕ) → _≡_ {A = List ℕ} (drop n (replicate k 0)) (replicate (k - n) 0)
@@ -79,26 +69,26 @@ module _ (area out : List ℕ) where
   picked : Bool → Bool → Marked
   picked p q = elim (p && (q && true)) [ true ↦ markOn out (storeOf area) | false ↦ record { answer = WrongLength; mark = zeroed out } ]
 
-  marked : (p q : Bool) → eqb (length area) 24107 ≡ p → leb 9 (length out) ≡ q → storeMark area out ≡ picked p q
+  marked : (p q : Bool) → eqb (length area) storeBytes ≡ p → leb 9 (length out) ≡ q → storeMark area out ≡ picked p q
   unfolding storeMark picked
   marked p q e f = λ i. picked (e i) (f i)
 
   marks : (z : Marked) → storeMark area out ≡ z → Marks (z .answer) (z .mark)
   marks z e = (ap (λ (x : Marked). x .answer) (sym e), ap (λ (x : Marked). x .mark) (sym e))
 
-  pub mark-length : (length area ≡ 24107 → ⊥) → Marks WrongLength (replicate (length out) 0)
+  pub mark-length : (length area ≡ storeBytes → ⊥) → Marks WrongLength (replicate (length out) 0)
   unfolding picked
-  mark-length h = marks (picked false true) (marked false (leb 9 (length out)) (ne-eqb (length area) 24107 h) refl)
+  mark-length h = marks (picked false true) (marked false (leb 9 (length out)) (ne-eqb (length area) storeBytes h) refl)
 
-  module _ (size : length area ≡ 24107) where
+  module _ (size : length area ≡ storeBytes) where
     pub mark-short : length out < 9 → Marks WrongLength (replicate (length out) 0)
     unfolding picked
-    mark-short h = marks (picked true false) (marked true false (eq-eqb (length area) 24107 size) (lt-leb 9 (length out) h))
+    mark-short h = marks (picked true false) (marked true false (eq-eqb (length area) storeBytes size) (lt-leb 9 (length out) h))
 
     module _ (long : 9 ≤ length out) where
       on : (o : Option Store) → storeOf area ≡ o → storeMark area out ≡ markOn out o
       unfolding picked
-      on o e = marked true true (eq-eqb (length area) 24107 size) (le-leb 9 (length out) long) ∙ ap (markOn out) e
+      on o e = marked true true (eq-eqb (length area) storeBytes size) (le-leb 9 (length out) long) ∙ ap (markOn out) e
 
       pub mark-disordered : storeOf area ≡ none → Marks Disordered (replicate (length out) 0)
       mark-disordered h = marks (markOn out none) (on none h)
@@ -107,7 +97,7 @@ module _ (area out : List ℕ) where
           → (before after : List ℕ) → before ≡ replicate (length out) 0 → Wrote (markRecord m) 9 before after → Marks Accepted after
       unfolding storeIn
       mark-made cells rows k m run number p q r before after z w =
-          let st = storeIn (packedTables cells) (runIn area) (numberIn area) (textFrom area) (rowCount area) rows in
+          let st = storeIn (databaseFrom cells) (runIn area) (numberIn area) (rowCount area) rows in
           let y = marks (markOn out (some st)) (on (some st) (k .store)) in
           let b = encode (mark (runIn area) (numberIn area)) in
           let same : encode (markRecord m) ≡ b = ap (λ (x : Mark). encode (markRecord x)) p ∙ (λ i. encode (mark (q i) (r i))) in

@@ -1,5 +1,12 @@
 // The calls of a store. Each promises its answer's number, as the first refusal of document 01 that applies (specs FirstRefusal of model), and the equation of the model's definition for that call.
+use model::ATOM;
 use model::Answer;
+use model::CELLS;
+use model::ENTRIES;
+use model::ENTRY;
+use model::LEAST_MARK;
+use model::ROWS;
+use model::STORE_BYTES;
 use record::Mark;
 ghost use mathlib.Core.Path.{_≡_};
 ghost use Rattle.model.specs.Refusals.{numberOf};
@@ -12,15 +19,15 @@ pub fn start(area: &mut [u8], schema: &[u8], run: u32) -> Answer
     ensures { λ r. ⌜ r ≡ storeStart (now (area .entry)) (now (schema .entry)) run .answer ⌝ }
     ensures { λ r. ⌜ now (area .exit) ≡ storeStart (now (area .entry)) (now (schema .entry)) run .area ⌝ }
 {
-    if area.len() != 24107 {
+    if area.len() != STORE_BYTES {
         return Answer::WrongLength;
     }
-    let mut cells = [[0u8; 48]; 29];
-    if !schema::read(schema, &mut cells) {
+    let mut catalog = [[0u8; ENTRY]; ENTRIES];
+    if !schema::read(schema, &mut catalog) {
         return Answer::BadSchema;
     }
-    let rows = [[[0u8; 25]; 25]; 1];
-    area::write_store(area, run, 0, schema, &rows, 0);
+    let rows = [[[0u8; ATOM]; CELLS]; 1];
+    area::write_store(area, run, 0, &catalog, &rows, 0);
     Answer::Accepted
 }
 
@@ -48,15 +55,15 @@ pub fn mark(area: &[u8], mark: &mut [u8]) -> Answer
     ensures { λ r. ⌜ now (mark .exit) ≡ storeMark (now (area .entry)) (now (mark .entry)) .mark ⌝ }
 {
     octets::clear(mark);
-    if area.len() != 24107 {
+    if area.len() != STORE_BYTES {
         return Answer::WrongLength;
     }
-    if mark.len() < 9 {
+    if mark.len() < LEAST_MARK {
         return Answer::WrongLength;
     }
-    let mut cells = [[0u8; 48]; 29];
-    let mut rows = [[[0u8; 25]; 25]; 32];
-    if !holding::held(area, &mut cells, &mut rows) {
+    let mut catalog = [[0u8; ENTRY]; ENTRIES];
+    let mut rows = [[[0u8; ATOM]; CELLS]; ROWS];
+    if !holding::held(area, &mut catalog, &mut rows) {
         return Answer::Disordered;
     }
     let m = Mark::new(area::run_of(area), area::number_of(area));

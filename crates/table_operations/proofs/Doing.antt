@@ -26,7 +26,7 @@ use Rattle.model.specs.Mutations.{Mutation}
 use Rattle.model.specs.Answers.{countText, insertText}
 use Rattle.model.specs.SchemaText.{only}
 use Rattle.model.specs.Operations as Model
-use Rattle.inner.specs.Packed.{columnFrom}
+use Rattle.model.specs.Catalog.{columnFrom}
 use Rattle.model.specs.Areas.{rowFrom}
 use Rattle.inner.specs.Working.{working, Tidy}
 use Rattle.model.proofs.Tests.{clash}

@@ -18,12 +18,12 @@ use Rattle.model.specs.Rows.{Row}
 use Rattle.model.specs.Faults.{isFine, earlier, worst, check}
 use Rattle.model.specs.Written.{Names, memberNamed}
 use Rattle.model.specs.Operations as Model
-use Rattle.inner.specs.Packed.{columnFrom, packedTables}
+use Rattle.model.specs.Catalog.{columnFrom, packedTables}
 use Rattle.inner.specs.Working.{working}
 use Rattle.model.proofs.Tests.{split}
 use Rattle.model.proofs.FaultLaws.{earlier-fine}
 use Rattle.fields.specs.Fields.{Slots}
-use Rattle.area.specs.Layout.{columnCells}
+use Rattle.catalog.specs.Entries.{columnCells}
 use Rattle.area.proofs.Schemas.{columns-in}
 use Rattle.answer.specs.Put.{Put}
 use Rattle.answer.proofs.Putting.{put-is}

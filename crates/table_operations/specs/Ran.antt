@@ -5,10 +5,12 @@ use mathlib.Core.Bool.{true, false}
 use mathlib.Core.List.{List, []}
 use lib.Dec.{eqb, ltb}
 use lib.ListN.{length, getD, take}
+use Rattle.selection.specs.Most.{resultMost}
+use Rattle.model.specs.Catalog.{tableCount}
 use Rattle.model.specs.declared.Fault.{Fault}
 use Rattle.model.specs.declared.Fault.the-variants.{Fine, Syntax, Resources}
 use Rattle.model.specs.declared.Found.{Found}
-use Rattle.model.specs.Limits.{mostRows}
+use Rattle.model.specs.Limits.{mostRows, mostColumns}
 use Rattle.inner.specs.Positions.{wellAt, treeAt}
 use Rattle.model.specs.Members.{membersIn}
 use Rattle.model.specs.Schema.{Column, Schema}
@@ -16,8 +18,8 @@ use Rattle.model.specs.Rows.{Row}
 use Rattle.model.specs.Faults.{isFine, check}
 use Rattle.model.specs.Operations as Model
 use Rattle.inner.specs.Working.{working, Tidy}
-use Rattle.area.specs.Layout.{columnCells, Sized}
-use Rattle.references.specs.Links.{Accepted}
+use Rattle.catalog.specs.Entries.{columnCells}
+use Rattle.catalog.specs.Accepted.{Accepted}
 use Rattle.answer.specs.Put.{Put}
 use Rattle.uuids.specs.Named.{namesAt, Running}
 use Rattle.table_operations.specs.declared.Done.{Done}
@@ -26,25 +28,24 @@ use Rattle.table_operations.specs.declared.Done.{Done}
 pub record Ready (text ends : List ℕ) (ops : Found) (fresh : List ℕ) (columns : List (List ℕ)) (op n : ℕ) (rows : List (List (List ℕ))) (at : ℕ) : Type 0 where
   pub running : Running text ends ops fresh
   pub well : wellAt text op ≡ true
-  pub few : length columns ≤ 6
-  pub count : n ≤ 32
-  pub room : 32 ≤ length rows
-  pub space : at + 200000 < 2 ^ 64
+  pub few : length columns ≤ mostColumns
+  pub count : n ≤ mostRows
+  pub room : mostRows ≤ length rows
+  pub space : at + resultMost < 2 ^ 64
 
 -- a table of an accepted schema, and the cells of its columns
 pub record Chosen (schema columns : List (List ℕ)) (table : ℕ) : Type 0 where
   pub accepted : Accepted schema
-  pub sized : Sized schema
-  pub here : table < getD (getD schema 0 []) 25 0
+  pub here : table < tableCount schema
   pub cells : columns ≡ columnCells schema table
 
 -- what it does where d is what the model says of it: its fault, and where that is Fine the rows and the answer's text; the answer is left alone where it is not
 pub record Ran (s : Schema) (d : Model.Done) (n : ℕ) (entry exit : List (List (List ℕ))) (at : ℕ) (before after : List ℕ) (r : Done) : Type 0 where
   pub fault : r .fault ≡ d .fault
-  pub few : r .count ≤ 32
+  pub few : r .count ≤ mostRows
   pub rows : isFine (r .fault) ≡ true → working s (r .count) exit ≡ d .rows
   pub tidy : isFine (r .fault) ≡ true → Tidy s (take n entry) → Tidy s (take (r .count) exit)
-  pub answer : isFine (r .fault) ≡ true → Put 200000 before at (d .answer) (r .at) after
+  pub answer : isFine (r .fault) ≡ true → Put resultMost before at (d .answer) (r .at) after
   pub still : isFine (r .fault) ≡ false → (r .at ≡ at) × (after ≡ before)
 
 -- a member that the operation does not have is a syntax error: slot 9 is 0 where there is none

@@ -1,12 +1,18 @@
 // Operations on a table: insert, select, update, mutate and delete, each judged whole and then done on the working rows.
+use model::Catalog;
+use model::Entry;
 use model::Fault;
 use model::Found;
+use model::ID;
+use model::ROWS;
+use model::Row;
 ghost use mathlib.Core.Path.{_≡_};
 ghost use mathlib.Core.List.{List, map};
 ghost use Prim.Native.Nat.{ℕ, _<_};
 ghost use lib.ListN.{length};
+ghost use Rattle.model.specs.Limits.{freshBytes, mostOperations};
 ghost use Rattle.model.specs.Schema.{Schema, columnsOf};
-ghost use Rattle.inner.specs.Packed.{columnFrom, packedTables};
+ghost use Rattle.model.specs.Catalog.{columnFrom, packedTables};
 ghost use Rattle.inner.specs.Working.{working};
 ghost use Rattle.fresh.specs.Fresh.{freshAt, FreshId};
 ghost use Rattle.clauses.specs.Clauses.{Earlier};
@@ -35,10 +41,10 @@ pub fn run_delete(
     ends: &[u16],
     ops: Found,
     fresh: &[u8],
-    columns: &[[u8; 48]],
+    columns: &[Entry],
     table: u8,
     op: usize,
-    rows: &mut [[[u8; 25]; 25]],
+    rows: &mut [Row],
     n: usize,
     out: &mut [u8],
     at: usize,
@@ -50,10 +56,10 @@ pub fn run_delete(
     let p = slots[2];
     let l = listed(slots[9]);
     let w = clauses::where_fault(text, ends, ops, fresh, columns, p);
-    let f = conditions::earlier(l, w);
-    let ok = mutation_step::is_fine(f);
+    let f = leaf::earlier(l, w);
+    let ok = leaf::is_fine(f);
     if ok {
-        let g = nav::first(text, p, 91, 93);
+        let g = nav::first(text, p, b'[', b']');
         let k = conditions::count_rows(text, ends, ops, fresh, columns, table, g, rows, n);
         let m = conditions::delete_rows(text, ends, ops, fresh, columns, table, g, rows, n);
         let e = answer::put_count(out, at, k as u64);
@@ -76,10 +82,10 @@ pub fn run_update(
     ends: &[u16],
     ops: Found,
     fresh: &[u8],
-    columns: &[[u8; 48]],
+    columns: &[Entry],
     table: u8,
     op: usize,
-    rows: &mut [[[u8; 25]; 25]],
+    rows: &mut [Row],
     n: usize,
     out: &mut [u8],
     at: usize,
@@ -93,11 +99,11 @@ pub fn run_update(
     let l = listed(slots[9]);
     let w = clauses::where_fault(text, ends, ops, fresh, columns, p);
     let v = clauses::row_fault(text, ends, ops, fresh, false, columns, q);
-    let u = conditions::earlier(w, v);
-    let f = conditions::earlier(l, u);
-    let ok = mutation_step::is_fine(f);
+    let u = leaf::earlier(w, v);
+    let f = leaf::earlier(l, u);
+    let ok = leaf::is_fine(f);
     if ok {
-        let g = nav::first(text, p, 91, 93);
+        let g = nav::first(text, p, b'[', b']');
         let k = conditions::count_rows(text, ends, ops, fresh, columns, table, g, rows, n);
         assign::update_rows(text, ends, ops, fresh, columns, table, g, q, rows, n);
         let e = answer::put_count(out, at, k as u64);
@@ -120,10 +126,10 @@ pub fn run_mutate(
     ends: &[u16],
     ops: Found,
     fresh: &[u8],
-    columns: &[[u8; 48]],
+    columns: &[Entry],
     table: u8,
     op: usize,
-    rows: &mut [[[u8; 25]; 25]],
+    rows: &mut [Row],
     n: usize,
     out: &mut [u8],
     at: usize,
@@ -137,15 +143,15 @@ pub fn run_mutate(
     let l = listed(slots[9]);
     let w = clauses::where_fault(text, ends, ops, fresh, columns, p);
     let v = clauses::mutations_fault(text, ends, ops, fresh, columns, q);
-    let u = conditions::earlier(w, v);
-    let f = conditions::earlier(l, u);
-    let ok = mutation_step::is_fine(f);
+    let u = leaf::earlier(w, v);
+    let f = leaf::earlier(l, u);
+    let ok = leaf::is_fine(f);
     if ok {
-        let g = nav::first(text, p, 91, 93);
-        let h = nav::first(text, q, 91, 93);
+        let g = nav::first(text, p, b'[', b']');
+        let h = nav::first(text, q, b'[', b']');
         let k = conditions::count_rows(text, ends, ops, fresh, columns, table, g, rows, n);
         let m = mutate::mutate_rows(text, ends, ops, fresh, columns, table, g, h, rows, n);
-        let done = mutation_step::is_fine(m);
+        let done = leaf::is_fine(m);
         if done {
             let e = answer::put_count(out, at, k as u64);
             return Done {
@@ -171,19 +177,19 @@ pub fn run_mutate(
 fn room(n: usize) -> Fault
     ensures { λ r. ⌜ r ≡ roomFault n ⌝ }
 {
-    if n < 32 {
+    if n < ROWS {
         return Fault::Fine;
     }
     Fault::Resources
 }
 
 // Fresh id i.
-fn new_id(fresh: &[u8], i: usize) -> [u8; 16]
-    requires { ⌜ length (now fresh) ≡ 256 ⌝ }
-    requires { ⌜ i < 16 ⌝ }
+fn new_id(fresh: &[u8], i: usize) -> [u8; ID]
+    requires { ⌜ length (now fresh) ≡ freshBytes ⌝ }
+    requires { ⌜ i < mostOperations ⌝ }
     ensures { λ r. ⌜ FreshId (now (fresh .entry)) i r ⌝ }
 {
-    let mut id = [0u8; 16];
+    let mut id = [0u8; ID];
     octets::put_bytes(&mut id, fresh::id_at(fresh, i));
     id
 }
@@ -194,17 +200,17 @@ pub fn run_insert(
     ends: &[u16],
     ops: Found,
     fresh: &[u8],
-    columns: &[[u8; 48]],
+    columns: &[Entry],
     table: u8,
     i: usize,
     op: usize,
-    rows: &mut [[[u8; 25]; 25]],
+    rows: &mut [Row],
     n: usize,
     out: &mut [u8],
     at: usize,
 ) -> Done
     requires { ⌜ Ready (now text) (now ends) ops (now fresh) (now columns) op n (now rows) at ⌝ }
-    requires { ⌜ i < 16 ⌝ }
+    requires { ⌜ i < mostOperations ⌝ }
     ensures { λ r. ⌜ ((given : List (List ℕ)) → Earlier (now (text .entry)) ops i given → (s : Schema) → columnsOf s table ≡ map columnFrom (now (columns .entry)) → Ran s (inserting given (freshAt (now (fresh .entry)) i) (now (text .entry)) ops (now (fresh .entry)) op (working s n (now (rows .entry))) table (map columnFrom (now (columns .entry)))) n (now (rows .entry)) (now (rows .exit)) at (now (out .entry)) (now (out .exit)) r) ⌝ }
 {
     let slots = fields::fields(text, ends, op, b"\x02op\x05table\x03row\x09uuid-name");
@@ -213,10 +219,10 @@ pub fn run_insert(
     let v = clauses::row_fault(text, ends, ops, fresh, true, columns, q);
     let r = room(n);
     let m = clauses::name_fault(text, ends, ops, i, slots[3]);
-    let a = conditions::earlier(r, m);
-    let b = conditions::earlier(v, a);
-    let f = conditions::earlier(l, b);
-    let ok = mutation_step::is_fine(f);
+    let a = leaf::earlier(r, m);
+    let b = leaf::earlier(v, a);
+    let f = leaf::earlier(l, b);
+    let ok = leaf::is_fine(f);
     if ok {
         let id = new_id(fresh, i);
         assign::insert_row(text, ends, ops, fresh, columns, q, table, &id, rows, n);
@@ -240,11 +246,11 @@ pub fn run_select(
     ends: &[u16],
     ops: Found,
     fresh: &[u8],
-    schema: &[[u8; 48]; 29],
-    columns: &[[u8; 48]],
+    schema: &Catalog,
+    columns: &[Entry],
     table: u8,
     op: usize,
-    rows: &[[[u8; 25]; 25]],
+    rows: &[Row],
     n: usize,
     out: &mut [u8],
     at: usize,
@@ -259,11 +265,11 @@ pub fn run_select(
     let l = listed(slots[9]);
     let w = clauses::where_fault(text, ends, ops, fresh, columns, p);
     let v = selection::columns_fault(text, ends, columns, q);
-    let u = conditions::earlier(w, v);
-    let f = conditions::earlier(l, u);
-    let ok = mutation_step::is_fine(f);
+    let u = leaf::earlier(w, v);
+    let f = leaf::earlier(l, u);
+    let ok = leaf::is_fine(f);
     if ok {
-        let g = nav::first(text, p, 91, 93);
+        let g = nav::first(text, p, b'[', b']');
         let e = selection::select_rows(
             text,
             ends,

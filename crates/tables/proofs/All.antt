@@ -17,7 +17,7 @@ use Rattle.model.specs.Members.{membersIn, counting}
 use Rattle.inner.specs.Positions.{wordIn}
 use Rattle.model.specs.Value.{textOf}
 use Rattle.model.specs.Schema.{Table}
-use Rattle.inner.specs.Packed.{cellName, tablesFrom}
+use Rattle.model.specs.Catalog.{cellName, tablesFrom}
 use Rattle.model.specs.SchemaText.{names, isId, tableFits, tableOf, tablesFit}
 use Rattle.model.proofs.Tests.{split, clash, and-l, and-r}
 use Rattle.model.proofs.SchemaLaws.{counting-all}

@@ -9,11 +9,11 @@ use lib.Dec.{eqb}
 use lib.ListN.{length, getD, take, drop, replicate, length-append, take-append-drop}
 use lib.Seq.{length-take-le, take-append-le, getD-append-add, drop-append-add, getD-take, getD-drop, take-at}
 use Rattle.model.specs.Octets.{big, value, part}
-use Rattle.inner.specs.Packed.{cellName, isSet, maxRowsFrom}
+use Rattle.model.specs.Catalog.{cellName, isSet, maxRowsFrom, bit}
 use Rattle.model.proofs.Octets.{length-big, value-big-fits}
 use Rattle.model.proofs.Tests.{split}
-use Rattle.columns.specs.Columns.{bit}
-use Rattle.tables.specs.Tables.{headBytes, NameOnly}
+use Rattle.catalog.specs.Writing.{headBytes}
+use Rattle.tables.specs.Tables.{NameOnly}
 
 -- a name is in the first 25 bytes
 pub name-front : (a b c : List ℕ) → length a ≡ 25 → getD a 0 0 ≤ 24 → cellName (a ++ b) ≡ cellName (a ++ c)
@@ -21,7 +21,6 @@ name-front [] b c l h = absurd (omega arith)
 name-front (x ∷ a) b c l h = take-append-le x a b (omega arith) ∙ sym (take-append-le x a c (omega arith))
 
 bit-is : (b : Bool) → eqb (bit b) 1 ≡ b
-unfolding bit
 bit-is true = refl
 bit-is false = refl
 

@@ -14,7 +14,7 @@ use Rattle.model.specs.Json.{Json, Named, keyAt, memberAt, valueAt}
 use Rattle.inner.specs.Positions.{treeAt, wellAt}
 use Rattle.model.specs.Nav.{isRead}
 use Rattle.model.specs.Schema.{Table}
-use Rattle.inner.specs.Packed.{cellName, tableFrom, tablesFrom}
+use Rattle.model.specs.Catalog.{cellName, tableFrom, tablesFrom}
 use Rattle.model.specs.SchemaText.{tableFits, tableOf}
 use Rattle.model.proofs.Tests.{split, clash}
 use Rattle.nav.proofs.Rest.{member-is, member-well}

@@ -8,6 +8,7 @@ use native.Mathlib.Omega.{arith}
 use borrow.Author.Tests.{eq-eqb, ne-eqb, le-leb, lt-leb}
 use lib.Dec.{eqb, leb}
 use lib.ListN.{length, getD, take, drop}
+use Rattle.catalog.proofs.Lookups.{cells-names}
 use Rattle.model.specs.declared.Whole.{Whole}
 use Rattle.model.specs.Base.{all, ascii}
 use Rattle.model.specs.Json.{Json, null, Named}
@@ -16,7 +17,7 @@ use Rattle.model.specs.Nav.{kindOf, isObject, isTruth, itemsIn}
 use Rattle.model.specs.Members.{membersIn, hasMember, memberValue, counting}
 use Rattle.model.specs.Whole.{wholeOf}
 use Rattle.model.specs.Schema.{Column}
-use Rattle.inner.specs.Packed.{cellName, columnFrom, indexFrom, indexesFrom, maxRowsFrom}
+use Rattle.model.specs.Catalog.{cellName, columnFrom, indexFrom, indexesFrom, maxRowsFrom}
 use Rattle.model.specs.SchemaText.{only, must, may, isBool, isWithin, sizeOr, truthOr, names, isId, columnsFit, columnOf, indexOf, indexesFit, tableFits, tableOf, tableColumns, maxRowsOf}
 use Rattle.model.proofs.Tests.{split, clash, and-l, and-r, or-l}
 use Rattle.model.proofs.SchemaLaws.{within-size}
@@ -28,7 +29,8 @@ use Rattle.columns.specs.Columns.{ColumnsRead}
 use Rattle.indexes.specs.Indexes.{Stored}
 use Rattle.indexes.proofs.Shorts.{columns-ids}
 use Rattle.tables.specs.declared.Read.{Read}
-use Rattle.tables.specs.Tables.{headBytes, restTold, IndexesIn, NameOnly, tableWith, TableRead}
+use Rattle.catalog.specs.Writing.{headBytes}
+use Rattle.tables.specs.Tables.{restTold, IndexesIn, NameOnly, tableWith, TableRead}
 use Rattle.tables.proofs.Cells.{after-count, after-root, after-rows, after-name, before-index}
 
 abbrev pub tableWords : List (List ℕ)
@@ -38,7 +40,7 @@ no-tree : (s : List ℕ) {p : ℕ} → p ≡ 0 → slotTree s p ≡ null
 no-tree s h = rw h (slot-none s)
 
 columns-null : (tables : List (List ℕ)) → columnsFit tables null ≡ false
-unfolding columnsFit isObject kindOf
+unfolding columnsFit kindOf
 columns-null tables = refl
 
 and-none : (b : Bool) → (b && false) ≡ false
@@ -107,11 +109,6 @@ shuffle true false c d = refl
 shuffle true true false d = refl
 shuffle true true true false = refl
 shuffle true true true true = refl
-
--- the names of columns
-pub cells-names : (l : List (List ℕ)) → map cellName l ≡ map (λ (c : Column). c .name) (map columnFrom l)
-cells-names [] = refl
-cells-names (x ∷ l) = ap (λ (r : List (List ℕ)). cellName x ∷ r) (cells-names l)
 
 columns-names : (tables : List (List ℕ)) (ms : List Named) → map (λ (c : Column). c .name) (map (columnOf tables) ms) ≡ names ms
 unfolding columnOf

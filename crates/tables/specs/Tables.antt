@@ -1,54 +1,49 @@
 -- Tables as cells. Assumes nothing: these are definitions.
-use Prim.Native.Nat.{ℕ, _+_, _≤_, _<_}
+use Prim.Native.Nat.{ℕ, _-_, _≤_, _<_}
 use mathlib.Core.Path.{_≡_}
 use mathlib.Core.Bool.{Bool, true, false, _&&_, _||_}
 use mathlib.Core.List.{List, [], _∷_, _++_, map}
 use lib.Dec.{eqb, leb}
 use lib.ListN.{length, getD, take, drop, replicate}
+use Rattle.model.specs.Limits.{mostTables, mostColumns, mostTextBytes, atomBytes, entryBytes}
 use Rattle.model.specs.declared.Whole.{Whole}
-use Rattle.model.specs.Octets.{big}
 use Rattle.model.specs.Base.{all, every}
 use Rattle.model.specs.Json.{Json, Named, memberAt, valueAt}
 use Rattle.inner.specs.Positions.{treeAt}
 use Rattle.model.specs.Nav.{kindOf, isTruth, isRead, itemsIn}
 use Rattle.model.specs.Members.{membersIn, counting}
 use Rattle.model.specs.Schema.{Table}
-use Rattle.inner.specs.Packed.{cellName, columnFrom, isSet, maxRowsFrom, indexesFrom, tablesFrom}
+use Rattle.model.specs.Catalog.{columnsOffset, rootOffset, indexesOffset, cellName, columnFrom, isSet, maxRowsFrom, indexesFrom, columnCount, tablesFrom}
 use Rattle.model.specs.SchemaText.{names, isId, isWithin, indexOf, indexesFit, tableFits, tableOf, tablesFit}
 use Rattle.names.specs.Names.{nameCell}
-use Rattle.fields.specs.Fields.{slotTree}
+use Rattle.fields.specs.Fields.{mostWords, slotTree}
 use Rattle.columns.specs.Parts.{memberOf}
-use Rattle.columns.specs.Columns.{bit}
 use Rattle.tables.specs.declared.Read.{Read}
-
--- what stands between a table's name and its indexes: how many columns, whether it is root, whether it has maxRows, and that
-unfoldable pub headBytes : ℕ → Bool → Bool → ℕ → List ℕ
-headBytes n root limited most = (n ∷ bit root ∷ bit limited ∷ []) ++ big 8 most
 
 -- the tests of a table's members but columns and indexes, by its slots
 unfoldable pub restTold : List ℕ → List ℕ → Whole → Bool
 restTold s f w =
-    every (eqb (getD f 9 0) 0 ∷ (eqb (getD f 1 0) 0 || isWithin 1 9223372036854775807 w) ∷ (eqb (getD f 2 0) 0 || isTruth (kindOf (slotTree s (getD f 2 0)))) ∷ [])
+    every (eqb (getD f mostWords 0) 0 ∷ (eqb (getD f 1 0) 0 || isWithin 1 9223372036854775807 w) ∷ (eqb (getD f 2 0) 0 || isTruth (kindOf (slotTree s (getD f 2 0)))) ∷ [])
 
 -- the indexes in a slot, of a table that has the columns ms, whose names are ns; a cell that had none has them now
 pub record IndexesIn (s : List ℕ) (p : ℕ) (ms : List Named) (ns : List (List ℕ)) (r : Bool) (before after : List ℕ) : Type 0 where
   pub fits : r ≡ (eqb p 0 || indexesFit ms (slotTree s p))
-  pub front : take 36 after ≡ take 36 before
-  pub holds : r ≡ true → getD before 36 0 ≡ 0 → indexesFrom after ≡ map (indexOf ns) (itemsIn (slotTree s p))
+  pub front : take indexesOffset after ≡ take indexesOffset before
+  pub holds : r ≡ true → getD before indexesOffset 0 ≡ 0 → indexesFrom after ≡ map (indexOf ns) (itemsIn (slotTree s p))
 
 -- a cell with a name and no indexes
 pub record NameOnly (cell : List ℕ) : Type 0 where
-  pub size : length cell ≡ 48
-  pub short : getD cell 0 0 ≤ 24
-  pub none : getD cell 36 0 ≡ 0
+  pub size : length cell ≡ entryBytes
+  pub short : getD cell 0 0 ≤ mostTextBytes
+  pub none : getD cell indexesOffset 0 ≡ 0
 
 -- the table of a cell and the cells of its columns
 unfoldable pub tableWith : List ℕ → List (List ℕ) → Table
 tableWith cell columns =
     record {
       name = cellName cell;
-      columns = map columnFrom (take (getD cell 25 0) columns);
-      root = isSet cell 26;
+      columns = map columnFrom (take (getD cell columnsOffset 0) columns);
+      root = isSet cell rootOffset;
       maxRows = maxRowsFrom cell;
       indexes = indexesFrom cell;
     }
@@ -57,25 +52,25 @@ tableWith cell columns =
 pub record TableRead (tables : List (List ℕ)) (w : List ℕ) (j : Json) (r : Read) (before after : List (List ℕ)) : Type 0 where
   pub fits : r .fits ≡ tableFits tables j
   pub table : r .fits ≡ true → tableWith (r .cell) after ≡ tableOf tables (record { name = w; value = j })
-  pub few : r .fits ≡ true → getD (r .cell) 25 0 ≤ 6
-  pub rest : drop 6 after ≡ drop 6 before
+  pub few : r .fits ≡ true → getD (r .cell) columnsOffset 0 ≤ mostColumns
+  pub rest : drop mostColumns after ≡ drop mostColumns before
 
 -- the cell of the name that stands at a place
 unfoldable pub headAt : List ℕ → ℕ → List ℕ
-headAt s p = nameCell (treeAt s p) ++ replicate 23 0
+headAt s p = nameCell (treeAt s p) ++ replicate (entryBytes - atomBytes) 0
 
 -- cells with the names of the members at the first places, which are ids; the members are read well
 pub record Heads (s places : List ℕ) (heads : List (List ℕ)) : Type 0 where
-  pub few : length heads ≤ 4
+  pub few : length heads ≤ mostTables
   pub fit : length heads ≤ length places
   pub only : (i : ℕ) → i < length heads → NameOnly (getD heads i [])
   pub named : map cellName heads ≡ map (λ (p : ℕ). memberOf s p .name) (take (length heads) places)
   pub ids : all isId (map cellName heads) ≡ true
   pub well : (i : ℕ) → i < length heads → isRead (memberAt (valueAt 12 s) s (getD places i 0) .read) ≡ true
 
--- no table has more than six columns
+-- no table has too many columns
 unfoldable pub FewColumns : List (List ℕ) → Type 0
-FewColumns cells = (t : ℕ) → t < 4 → getD (getD cells (1 + t) []) 25 0 ≤ 6
+FewColumns cells = (t : ℕ) → t < mostTables → columnCount cells t ≤ mostColumns
 
 -- whether the member at a place is a table that fits, and the table, where the tables have these names
 abbrev pub placeFits : List ℕ → List (List ℕ) → ℕ → Bool
@@ -91,9 +86,9 @@ pub record EachRead (s places : List ℕ) (heads : List (List ℕ)) (r : Bool) (
   pub first : getD after 0 [] ≡ getD before 0 []
   pub columns : FewColumns before → FewColumns after
 
--- what was read of the tables j: r of them, above 4 where they do not fit
+-- what was read of the tables j: r of them, above the most where they do not fit
 pub record TablesRead (j : Json) (r : ℕ) (before after : List (List ℕ)) : Type 0 where
-  pub fits : leb r 4 ≡ tablesFit j
-  pub tables : leb r 4 ≡ true → tablesFrom after 0 r ≡ map (tableOf (names (counting (membersIn j)))) (counting (membersIn j))
+  pub fits : leb r mostTables ≡ tablesFit j
+  pub tables : leb r mostTables ≡ true → tablesFrom after 0 r ≡ map (tableOf (names (counting (membersIn j)))) (counting (membersIn j))
   pub first : getD after 0 [] ≡ getD before 0 []
   pub columns : FewColumns before → FewColumns after

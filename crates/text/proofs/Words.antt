@@ -29,7 +29,6 @@ use Rattle.text.proofs.Sizes.{quote-is, string-size}
 
 -- a string's bytes
 pub text-kind : (k : Kind) → isText k ≡ true → k ≡ Text
-unfolding isText
 text-kind Text h = refl
 text-kind Null h = absurd (let z : _≡_ {A = ℕ} 0 1 = cc in omega arith)
 text-kind Truth h = absurd (let z : _≡_ {A = ℕ} 0 1 = cc in omega arith)
@@ -38,7 +37,7 @@ text-kind Array h = absurd (let z : _≡_ {A = ℕ} 0 1 = cc in omega arith)
 text-kind Object h = absurd (let z : _≡_ {A = ℕ} 0 1 = cc in omega arith)
 
 pub word-not : (w : List ℕ) (j : Json) → isText (kindOf j) ≡ false → false ≡ isWord w j
-unfolding isText kindOf isWord
+unfolding kindOf isWord
 word-not w null h = refl
 word-not w (bool b) h = refl
 word-not w (num t) h = refl
@@ -59,7 +58,7 @@ text-tree s at h =
     (inside-byte s i 34 (q .0) (lit< tt), q .1 ∙ rw (stringAt, z))
 
 no-string : (j : Json) → isText (kindOf j) ≡ false → wordIn j ≡ []
-unfolding isText kindOf wordIn
+unfolding kindOf wordIn
 no-string null h = refl
 no-string (bool b) h = refl
 no-string (num t) h = refl

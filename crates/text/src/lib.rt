@@ -1,8 +1,11 @@
 // Strings of a text: decoded, looked up, compared, counted.
 use model::Found;
+use model::Kind;
 use model::Next;
 use model::Read;
+use scan::BACKSLASH;
 use scan::Hex;
+use scan::LETTER_U;
 ghost use mathlib.Core.Path.{_≡_};
 ghost use mathlib.Core.List.{[], _∷_};
 ghost use mathlib.Core.Bool.{true, cond};
@@ -183,9 +186,9 @@ fn emit(text: &[u8], at: usize, e: usize, out: &mut [u8], w: Written) -> Written
     ensures { λ r. ⌜ Pushed (now (out .entry)) w (charBytes (now (text .entry)) at e (byte (now (text .entry)) at)) r (now (out .exit)) ⌝ }
 {
     let b = scan::peek(text, at);
-    if b == 92 {
+    if b == BACKSLASH {
         let c = scan::peek(text, at + 1);
-        if c == 117 {
+        if c == LETTER_U {
             let h = scan::hex4(text, at + 2);
             return escape_bytes(text, h, out, w);
         }
@@ -240,7 +243,7 @@ fn quote(text: &[u8], at: usize) -> Found
     let mut i = at;
     for k in 0..text.len() {
         let b = scan::peek(text, i);
-        if b == 92 {
+        if b == BACKSLASH {
             return Found::Nothing;
         }
         let n = scan::character(text, i);
@@ -267,7 +270,7 @@ pub fn string_at(text: &[u8], at: usize, scratch: &mut [u8]) -> Part
     ensures { λ r. ⌜ Held (now (text .entry)) (now (scratch .exit)) (r .«in_scratch») (r .start) (r .len) (escaped (now (text .entry)) at) (wordIn (treeAt (now (text .entry)) at)) ⌝ }
 {
     let k = nav::kind_at(text, at);
-    let t = nav::is_text(k);
+    let t = leaf::is_kind(k, Kind::Text);
     if t {
         let i = scan::spaces(text, at);
         let j = i + 1;
@@ -380,7 +383,7 @@ fn char_is(text: &[u8], at: usize, e: usize, word: &[u8], o: usize) -> Found
     ensures { λ r. ⌜ r ≡ matched (charBytes (now (text .entry)) at e (byte (now (text .entry)) at)) (now (word .entry)) o ⌝ }
 {
     let b = scan::peek(text, at);
-    if b == 92 {
+    if b == BACKSLASH {
         let mut buf = [0u8; 4];
         let w = emit(text, at, e, &mut buf, Written::To(0));
         let n = count(w);
@@ -419,7 +422,7 @@ pub fn is_word(text: &[u8], at: usize, word: &[u8]) -> bool
     ensures { λ r. ⌜ r ≡ isWord (now (word .entry)) (treeAt (now (text .entry)) at) ⌝ }
 {
     let k = nav::kind_at(text, at);
-    let t = nav::is_text(k);
+    let t = leaf::is_kind(k, Kind::Text);
     if t {
         let i = scan::spaces(text, at);
         return body_is(text, i + 1, word);
@@ -444,7 +447,7 @@ pub fn find(text: &[u8], ends: &[u16], at: usize, word: &[u8]) -> Found
     ensures { λ r. ⌜ Means (now (text .entry)) r (hasMember (now (word .entry)) (membersIn (treeAt (now (text .entry)) at))) (memberValue (now (word .entry)) (membersIn (treeAt (now (text .entry)) at))) ⌝ }
 {
     let mut last = Found::Nothing;
-    let mut g = nav::first(text, at, 123, 125);
+    let mut g = nav::first(text, at, b'{', b'}');
     loop {
         match g {
             Found::At(p) => {

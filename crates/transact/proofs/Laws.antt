@@ -9,7 +9,7 @@ use borrow.Author.Tests.{eqb-true, leb-true}
 use lib.Dec.{eqb, leb}
 use lib.ListN.{length, replicate}
 use Rattle.model.specs.Octets.{big, filled}
-use Rattle.model.specs.Limits.{lastNumber}
+use Rattle.model.specs.Limits.{lastNumber, storeBytes, countOffset}
 use Rattle.model.specs.Base.{if_then_else_}
 use Rattle.model.specs.Schema.{Schema}
 use Rattle.model.specs.Rows.{Row}
@@ -17,9 +17,9 @@ use Rattle.model.specs.Records.{diff}
 use Rattle.model.proofs.Order.{Sorted}
 use Rattle.model.specs.Refusals.{isRefusal}
 use Rattle.model.specs.Replies.{Reply}
-use Rattle.inner.specs.Packed.{packedTables, databaseFrom}
+use Rattle.model.specs.Catalog.{packedTables, databaseFrom}
 use Rattle.inner.specs.Working.{working}
-use Rattle.model.specs.Areas.{Store, textFrom, encodeStore, storeOf}
+use Rattle.model.specs.Areas.{Store, encodeStore, storeOf}
 use Rattle.model.specs.Calls.{lengthsGood, Transacted, transactRefused, storeAfter, recordsAfter, transactReplied, transactOn, storeTransact}
 use Rattle.model.specs.declared.Answer.{Answer}
 use Rattle.model.specs.declared.Answer.the-variants.{Disordered, WrongLength}
@@ -40,10 +40,10 @@ and-true true = refl
 and-true false = refl
 
 -- the right lengths, one by one
-pub lengths : (area fresh records text : List ℕ) → lengthsGood area fresh records text ≡ true → (length area ≡ 24107) × (length fresh ≡ 256) × (26249 ≤ length records)
+pub lengths : (area fresh records text : List ℕ) → lengthsGood area fresh records text ≡ true → (length area ≡ storeBytes) × (length fresh ≡ 256) × (26249 ≤ length records)
 lengths area fresh records text h =
-    let p = parts (eqb (length area) 24107 ∷ eqb (length fresh) 256 ∷ leb 26249 (length records) ∷ leb 64 (length text) ∷ []) h in
-    (eqb-true (length area) 24107 (p .0), eqb-true (length fresh) 256 (p .1 .0), leb-true 26249 (length records) (p .1 .1 .0))
+    let p = parts (eqb (length area) storeBytes ∷ eqb (length fresh) 256 ∷ leb 26249 (length records) ∷ leb 64 (length text) ∷ []) h in
+    (eqb-true (length area) storeBytes (p .0), eqb-true (length fresh) 256 (p .1 .0), leb-true 26249 (length records) (p .1 .1 .0))
 
 -- rows that stay are no change
 idle : (b : Bool) (s : Schema) (rows meant : List Row) (r : Reply) → Sorted rows → r .rows ≡ (if b then meant else rows) → r .changes ≡ (if b then diff s rows meant else []) → r .rows ≡ rows → r .changes ≡ []
@@ -89,7 +89,7 @@ module _ (area request fresh records text : List ℕ) where
       n = rowCount area
 
       abbrev store : Store
-      store = storeIn s (runIn area) (numberIn area) (textFrom area) n rows
+      store = storeIn (databaseFrom cells) (runIn area) (numberIn area) n rows
 
       abbrev d : Reply
       d = replyOn cells (numberIn area) n rows request fresh (length text)
@@ -125,7 +125,7 @@ module _ (area request fresh records text : List ℕ) where
       unfolding storeIn
       stays e =
           let z : numberIn area ≡ numberIn area + length (d .changes) = let u : length (d .changes) ≡ 0 = ap length (unchanged e) in omega (arith, u) in
-          sym (store-of-is area store (k .store) .0) ∙ (λ i. encodeStore (record { run = runIn area; number = z i; schema = textFrom area; rows = sym e i }))
+          sym (store-of-is area store (k .store) .0) ∙ (λ i. encodeStore (record { run = runIn area; number = z i; database = databaseFrom cells; rows = sym e i }))
 
       module _ (run number m : ℕ) (p : run ≡ runIn area) (q : number ≡ numberIn area) (e : m ≡ n) {exit : List (List (List ℕ))} {recordsOut textOut : List ℕ} {r : Effect}
           (got : Replied s (replyOn cells number m rows request fresh (length text)) run number m rows exit records recordsOut text textOut r) where
@@ -147,10 +147,10 @@ module _ (area request fresh records text : List ℕ) where
             (w .answer ∙ z .0, (z .1 .0, (b .0 ∙ z .1 .1 .0, b .1 ∙ z .1 .1 .1))))
             (λ f. accepted f area (stays (w .stays c)))
 
-        pub transact-commits : r .commits ≡ true → r .count ≤ length exit → (middle after : List ℕ) → middle ≡ placed 4 4 (big 4 (number + r .changes)) area → after ≡ placed 4106 20001 (rowsPart (r .count) exit) middle → Leaves (r .answer) after recordsOut textOut
+        pub transact-commits : r .commits ≡ true → r .count ≤ length exit → (middle after : List ℕ) → middle ≡ placed 4 4 (big 4 (number + r .changes)) area → after ≡ placed countOffset 20001 (rowsPart (r .count) exit) middle → Leaves (r .answer) after recordsOut textOut
         unfolding storeIn
         transact-commits c h middle after u v =
             let f : isRefusal (d .answer) ≡ false = split (isRefusal (d .answer)) (λ f. absurd (clash (r .commits) c (w .refuses (ap isRefusal (w .answer) ∙ f)))) (λ f. f) in
             accepted f after (
-            v ∙ ap (placed 4106 20001 (rowsPart (r .count) exit)) u ∙ area-after area cells rows k (number + r .changes) (r .count) exit h (w .tidy c (k .tidy))
-            ∙ (λ i. encodeStore (record { run = runIn area; number = q i + w .changes i; schema = textFrom area; rows = w .rows c i })))
+            v ∙ ap (placed countOffset 20001 (rowsPart (r .count) exit)) u ∙ area-after area cells rows k (number + r .changes) (r .count) exit h (w .tidy c (k .tidy))
+            ∙ (λ i. encodeStore (record { run = runIn area; number = q i + w .changes i; database = databaseFrom cells; rows = w .rows c i })))

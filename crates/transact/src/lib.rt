@@ -1,5 +1,14 @@
 // The transact of a store: from a request's text to the answer, the area after it and the records.
+use model::ATOM;
 use model::Answer;
+use model::CELLS;
+use model::ENTRIES;
+use model::ENTRY;
+use model::FRESH_BYTES;
+use model::LEAST_ANSWER;
+use model::LEAST_RECORDS;
+use model::ROWS;
+use model::STORE_BYTES;
 ghost use mathlib.Core.Path.{_≡_};
 ghost use Rattle.model.specs.Calls.{zeroed, lengthsGood, storeTransact};
 
@@ -7,16 +16,16 @@ ghost use Rattle.model.specs.Calls.{zeroed, lengthsGood, storeTransact};
 fn lengths_good(area: &[u8], fresh: &[u8], records: &[u8], answer: &[u8]) -> bool
     ensures { λ r. ⌜ r ≡ lengthsGood (now (area .entry)) (now (fresh .entry)) (now (records .entry)) (now (answer .entry)) ⌝ }
 {
-    if area.len() != 24107 {
+    if area.len() != STORE_BYTES {
         return false;
     }
-    if fresh.len() != 256 {
+    if fresh.len() != FRESH_BYTES {
         return false;
     }
-    if records.len() < 26249 {
+    if records.len() < LEAST_RECORDS {
         return false;
     }
-    64 <= answer.len()
+    LEAST_ANSWER <= answer.len()
 }
 
 // Refuses: both buffers are all zero.
@@ -45,9 +54,9 @@ pub fn transact(
     if !lengths_good(area, fresh, records, answer) {
         return refuse(Answer::WrongLength, records, answer);
     }
-    let mut cells = [[0u8; 48]; 29];
-    let mut before = [[[0u8; 25]; 25]; 32];
-    if !holding::held(area, &mut cells, &mut before) {
+    let mut catalog = [[0u8; ENTRY]; ENTRIES];
+    let mut before = [[[0u8; ATOM]; CELLS]; ROWS];
+    if !holding::held(area, &mut catalog, &mut before) {
         return refuse(Answer::Disordered, records, answer);
     }
     let run = area::run_of(area);
@@ -55,7 +64,7 @@ pub fn transact(
     let n = area::row_count(area);
     let mut rows = before;
     let e = reply::reply(
-        &cells,
+        &catalog,
         run,
         number,
         &before,

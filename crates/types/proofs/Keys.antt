@@ -19,14 +19,14 @@ use Rattle.model.specs.Members.{hasMember, memberValue}
 use Rattle.model.specs.Whole.{wholeOf, wholeInt}
 use Rattle.model.specs.Text.{isWord}
 use Rattle.model.specs.Schema.{Base, integer, boolean, text, uuid, plain, strong, weak}
-use Rattle.inner.specs.Packed.{baseNumbered}
-use Rattle.inner.specs.Packed.{cellName, refersFrom}
+use Rattle.model.specs.Catalog.{baseNumbered}
+use Rattle.model.specs.Catalog.{cellName, refersFrom}
 use Rattle.model.specs.SchemaText.{may, isOneOf, isInteger, isId, isBase, baseNumber, sameBase, isLimit, limitOr, least, greatest, lowOf, highOf, placeOr, keyTests, keyMembers, keyBase, keyFits, refersOf}
 use Rattle.model.specs.SchemaText as ST
 use Rattle.model.proofs.Tests.{split, and-r, parts, bytes-same}
 use Rattle.fields.specs.Fields.{choiceFrom, choice, slotTree, Slots}
 use Rattle.fields.proofs.Slotted.{must-null, may-slot}
-use Rattle.names.specs.Names.{cellNamed}
+use Rattle.catalog.specs.Entries.{cellNamed}
 use Rattle.types.proofs.Tables.{one-of, place-is}
 use Rattle.types.specs.declared.Key.{Key}
 use Rattle.types.specs.Types.{limitIn, boundIn, tableIn, isFound, placeByte, baseByte, howByte, limitTold, keyTold, KeyRead}

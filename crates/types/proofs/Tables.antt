@@ -18,7 +18,8 @@ use Rattle.model.specs.SchemaText.{isOneOf, isId, placeOr}
 use Rattle.model.proofs.Tests.{split, clash, and-l, and-r, bytes-same}
 use Rattle.model.proofs.Atoms.{textOf-textAtom}
 use Rattle.model.proofs.SchemaLaws.{place-below}
-use Rattle.names.specs.Names.{shortCell, nameCell, foundAt}
+use Rattle.names.specs.Names.{shortCell, nameCell}
+use Rattle.catalog.specs.Entries.{foundAt}
 use Rattle.names.proofs.Ids.{id-none, id-long}
 use Rattle.types.specs.Types.{isFound, placeByte}
 
@@ -76,7 +77,7 @@ module _ (ws : List (List ℕ)) (ids : all isId ws ≡ true) where
 
   -- a string that is one of the names, and where it stands
   pub one-of : (j : Json) → isFound (foundAt (placeOf (textOf (nameCell j)) ws)) ≡ isOneOf ws j
-  unfolding nameCell wordIn kindOf isText textIn
+  unfolding nameCell wordIn kindOf textIn
   one-of j = ap (λ (o : Option ℕ). isFound (foundAt o)) (cell-place (wordIn j)) ∙ found-member (wordIn j) ws ∙ go j
     where
       go : (j : Json) → member (wordIn j) ws ≡ isOneOf ws j
@@ -88,7 +89,7 @@ module _ (ws : List (List ℕ)) (ids : all isId ws ≡ true) where
       go (obj ms) = none-empty
 
   pub place-is : (j : Json) → isOneOf ws j ≡ true → length ws ≤ 4 → placeByte (foundAt (placeOf (textOf (nameCell j)) ws)) ≡ placeOr (textIn j) ws
-  unfolding nameCell wordIn kindOf isText textIn placeByte foundAt
+  unfolding nameCell wordIn kindOf textIn placeByte foundAt
   place-is null h few = absurd (clash false h refl)
   place-is (bool b) h few = absurd (clash false h refl)
   place-is (num t) h few = absurd (clash false h refl)

@@ -15,11 +15,12 @@ use Rattle.model.specs.Json.{Json, Named}
 use Rattle.model.specs.Members.{memberValue}
 use Rattle.model.specs.Whole.{wholeOf, wholeInt}
 use Rattle.model.specs.Value.{textOf}
-use Rattle.inner.specs.Packed.{baseNumbered}
-use Rattle.inner.specs.Packed.{refersFrom}
+use Rattle.model.specs.Catalog.{baseNumbered}
+use Rattle.model.specs.Catalog.{refersFrom}
 use Rattle.model.specs.SchemaText.{isInteger, isWithin, sizeOr, keyMembers, keyBase, keyFits, refersOf, lowOf, highOf, typeMembers, typeFits, minOf, maxOf}
-use Rattle.fields.specs.Fields.{choice, slotTree}
-use Rattle.names.specs.Names.{nameCell, cellNamed}
+use Rattle.fields.specs.Fields.{mostWords, choice, slotTree}
+use Rattle.names.specs.Names.{nameCell}
+use Rattle.catalog.specs.Entries.{cellNamed}
 use Rattle.types.specs.declared.Key.{Key}
 use Rattle.types.specs.declared.Shape.{Shape}
 
@@ -59,7 +60,7 @@ limitTold s p right = eqb p 0 || (right && isInteger (slotTree s p))
 unfoldable pub keyTold : List ℕ → List ℕ → ℕ → ℕ → Whole → Whole → Found → ℕ → Bool
 keyTold s f n base low high table kind =
     every
-    (eqb (getD f 9 0) 0
+    (eqb (getD f mostWords 0) 0
     ∷ ltb n 4
     ∷ limitTold s (getD f 1 0) (eqb base 0)
     ∷ limitTold s (getD f 2 0) (eqb base 0)
@@ -84,7 +85,7 @@ pub record KeyIn (s : List ℕ) (tables : List (List ℕ)) (p : ℕ) (r : Key) :
   pub none : eqb p 0 ≡ true → r .fits ≡ false
   pub some : eqb p 0 ≡ false → KeyRead tables (slotTree s p) r
 
--- the most elements, by the slot of max and its integer: 1 where it is not said, 4 where it is no integer
+-- the most elements, by the slot of max and its integer: 1 where it is not said, as many as a set may have where it is no integer
 unfoldable pub maxIn : ℕ → Whole → ℕ
 maxIn p w = elim (eqb p 0) [ true ↦ 1 | false ↦ sizeOr mostElements w ]
 
@@ -92,7 +93,7 @@ maxIn p w = elim (eqb p 0) [ true ↦ 1 | false ↦ sizeOr mostElements w ]
 unfoldable pub typeTold : List ℕ → List ℕ → Bool → Whole → Whole → Bool
 typeTold s f key least most =
     every
-    (eqb (getD f 9 0) 0
+    (eqb (getD f mostWords 0) 0
     ∷ key
     ∷ (eqb (getD f 1 0) 0 || isWithin 0 1 least)
     ∷ (eqb (getD f 2 0) 0 || (isWithin 1 mostElements most || eqb (choice (ascii "unlimited" ∷ []) (slotTree s (getD f 2 0))) 0))

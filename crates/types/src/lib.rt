@@ -1,4 +1,8 @@
 // The type of a column as a schema writes it: a key, min and max.
+use fields::Places;
+use fields::WORDS;
+use model::ELEMENTS;
+use model::Entry;
 use model::Found;
 use model::Whole;
 ghost use mathlib.Core.Path.{_≡_};
@@ -8,13 +12,17 @@ ghost use Prim.Native.Nat.{_≤_, _<_};
 ghost use lib.Dec.{eqb};
 ghost use lib.ListN.{length};
 ghost use lib.Signed.{leZ};
+ghost use Rattle.model.specs.Limits.{mostTables};
 ghost use Rattle.model.specs.Base.{all};
 ghost use Rattle.inner.specs.Positions.{Says, wellAt, treeAt};
 ghost use Rattle.model.specs.Whole.{wholeInt, isWhole};
-ghost use Rattle.inner.specs.Packed.{cellName};
+ghost use Rattle.model.specs.Catalog.{cellName};
 ghost use Rattle.model.specs.SchemaText.{isId, isInteger, isWithin, sizeOr, isMax};
 ghost use Rattle.fields.specs.Fields.{slotTree};
 ghost use Rattle.types.specs.Types.{limitIn, boundIn, tableIn, isFound, placeByte, baseByte, howByte, keyTold, KeyRead, KeyIn, maxIn, typeTold, TypeRead};
+
+// Elements of a set, at most.
+const MOST: u64 = ELEMENTS as u64;
 
 // A key: whether it fits, its base (0 integer, 1 boolean, 2 string, 3 uuid), how it refers (0 not, 1 strongly, 2 weakly), to which table, and its limits.
 pub struct Key {
@@ -147,7 +155,7 @@ fn limit_fits(text: &[u8], ends: &[u16], p: usize, right: bool) -> bool
 }
 
 // The table that a slot names.
-fn table_in(text: &[u8], tables: &[[u8; 48]], p: usize) -> Found
+fn table_in(text: &[u8], tables: &[Entry], p: usize) -> Found
     ensures { λ r. ⌜ r ≡ tableIn (now (text .entry)) (now (tables .entry)) p ⌝ }
 {
     if p == 0 {
@@ -155,7 +163,7 @@ fn table_in(text: &[u8], tables: &[[u8; 48]], p: usize) -> Found
     }
     let name = names::name_at(text, p);
     let t = atom::text_of(&name);
-    names::cell_named(tables, t)
+    catalog::named(tables, t)
 }
 
 fn is_found(f: Found) -> bool
@@ -213,7 +221,7 @@ fn how_byte(p: usize, kind: usize) -> u8
 fn key_fits(
     text: &[u8],
     ends: &[u16],
-    f: [usize; 10],
+    f: Places,
     n: usize,
     base: u8,
     low: Whole,
@@ -235,16 +243,16 @@ fn key_fits(
     let r = p | ((base == 3) & t);
     let k = q | (kind < 2);
     let z = (f[5] != 0) | q;
-    (f[9] == 0) & ((n < 4) & (a & (b & (c & (d & (o & (r & (k & z))))))))
+    (f[WORDS] == 0) & ((n < 4) & (a & (b & (c & (d & (o & (r & (k & z))))))))
 }
 
 // The key at `at`.
-pub fn read_key(text: &[u8], ends: &[u16], tables: &[[u8; 48]], at: usize) -> Key
+pub fn read_key(text: &[u8], ends: &[u16], tables: &[Entry], at: usize) -> Key
     requires { ⌜ Says (now text) (now ends) ⌝ }
     requires { ⌜ wellAt (now text) at ≡ true ⌝ }
     requires { ⌜ 0 < at ⌝ }
     requires { ⌜ all isId (map cellName (now tables)) ≡ true ⌝ }
-    requires { ⌜ length (now tables) ≤ 4 ⌝ }
+    requires { ⌜ length (now tables) ≤ mostTables ⌝ }
     ensures { λ r. ⌜ KeyRead (map cellName (now (tables .entry))) (treeAt (now (text .entry)) at) r ⌝ }
 {
     let f = fields::fields_or(
@@ -299,11 +307,11 @@ fn no_key() -> Key
 }
 
 // The key in a slot.
-fn key_in(text: &[u8], ends: &[u16], tables: &[[u8; 48]], p: usize) -> Key
+fn key_in(text: &[u8], ends: &[u16], tables: &[Entry], p: usize) -> Key
     requires { ⌜ Says (now text) (now ends) ⌝ }
     requires { ⌜ (eqb p 0 ≡ false → wellAt (now text) p ≡ true) ⌝ }
     requires { ⌜ all isId (map cellName (now tables)) ≡ true ⌝ }
-    requires { ⌜ length (now tables) ≤ 4 ⌝ }
+    requires { ⌜ length (now tables) ≤ mostTables ⌝ }
     ensures { λ r. ⌜ KeyIn (now (text .entry)) (map cellName (now (tables .entry))) p r ⌝ }
 {
     if p == 0 {
@@ -319,28 +327,28 @@ fn max_in(p: usize, w: Whole) -> u64
     if p == 0 {
         return 1;
     }
-    size_or(4, w)
+    size_or(MOST, w)
 }
 
 // Whether min and max fit: f has a type's slots, least and most are their integers, and k whether its key fits.
-fn type_fits(text: &[u8], f: [usize; 10], k: bool, least: Whole, most: Whole) -> bool
+fn type_fits(text: &[u8], f: Places, k: bool, least: Whole, most: Whole) -> bool
     ensures { λ r. ⌜ r ≡ typeTold (now (text .entry)) f k least most ⌝ }
 {
     let a = is_within(0, 1, least);
-    let b = is_within(1, 4, most);
+    let b = is_within(1, MOST, most);
     let u = fields::choice_in(text, f[2], b"\x09unlimited");
     let n = size_or(1, least);
     let m = max_in(f[2], most);
-    (f[9] == 0) & (k & (((f[1] == 0) | a) & (((f[2] == 0) | (b | (u == 0))) & (n <= m))))
+    (f[WORDS] == 0) & (k & (((f[1] == 0) | a) & (((f[2] == 0) | (b | (u == 0))) & (n <= m))))
 }
 
 // The type at `at`.
-pub fn read_type(text: &[u8], ends: &[u16], tables: &[[u8; 48]], at: usize) -> Shape
+pub fn read_type(text: &[u8], ends: &[u16], tables: &[Entry], at: usize) -> Shape
     requires { ⌜ Says (now text) (now ends) ⌝ }
     requires { ⌜ wellAt (now text) at ≡ true ⌝ }
     requires { ⌜ 0 < at ⌝ }
     requires { ⌜ all isId (map cellName (now tables)) ≡ true ⌝ }
-    requires { ⌜ length (now tables) ≤ 4 ⌝ }
+    requires { ⌜ length (now tables) ≤ mostTables ⌝ }
     ensures { λ r. ⌜ TypeRead (map cellName (now (tables .entry))) (treeAt (now (text .entry)) at) r ⌝ }
 {
     let f = fields::fields_or(text, ends, at, b"\x03key\x03min\x03max");

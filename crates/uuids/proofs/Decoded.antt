@@ -66,7 +66,7 @@ module _ {before bs after : List ℕ} {r : Written} (p : Pushed before (To 0) bs
       go (no g) = absurd (let k : Full ≡ To (0 + length bs) = sym q ∙ p .to ∙ pushed-to (length before) 0 bs (omega (arith, g)) in let z : _≡_ {A = ℕ} 0 1 = cc in omega arith)
 
 pub no-string : (j : Json) → isText (kindOf j) ≡ false → stringIn j ≡ none
-unfolding isText kindOf
+unfolding kindOf
 no-string null h = refl
 no-string (bool b) h = refl
 no-string (num t) h = refl

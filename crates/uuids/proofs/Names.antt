@@ -176,7 +176,7 @@ spells-atom (Of high low) o p = ap atomOf (p .1) ∙ ap (λ l. some (pad l)) (p 
 spells-atom Bad o p = ap atomOf p
 
 pub some-string : (j : Json) → isText (kindOf j) ≡ true → stringIn j ≡ some (string j)
-unfolding isText kindOf string
+unfolding kindOf string
 some-string null h = cc
 some-string (bool b) h = cc
 some-string (num t) h = cc

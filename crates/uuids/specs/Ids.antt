@@ -5,6 +5,7 @@ use mathlib.Core.Bool.{Bool, true, false}
 use mathlib.Core.List.{List, _++_}
 use mathlib.Core.Option.{Option, none, some}
 use lib.Dec.{eqb, ltb}
+use Rattle.model.specs.Limits.{idBytes}
 use Rattle.model.specs.Octets.{big}
 use Rattle.model.specs.Strings.{hexOf}
 use Rattle.model.specs.Json.{Json}
@@ -28,7 +29,7 @@ spelt (Of high low) at b =
 
 -- two halves are the bytes of an id that there is
 unfoldable pub Spells : Id → Option ℕ → Type 0
-Spells (Of high low) o = (i : ℕ) × (o ≡ some i) × (big 16 i ≡ big 8 high ++ big 8 low)
+Spells (Of high low) o = (i : ℕ) × (o ≡ some i) × (big idBytes i ≡ big 8 high ++ big 8 low)
 Spells Bad o = o ≡ none
 
 -- the id that a string spells

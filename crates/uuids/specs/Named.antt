@@ -7,6 +7,7 @@ use mathlib.Core.Option.{Option, none, some}
 use Rattle.model.specs.declared.Found.{Found}
 use Rattle.model.specs.declared.Found.the-variants.{At, Nothing}
 use lib.ListN.{length, getD}
+use Rattle.model.specs.Limits.{mostRequestBytes, freshBytes}
 use Rattle.model.specs.Json.{Json, Named}
 use Rattle.model.specs.Value.{uuidAtom}
 use Rattle.inner.specs.Positions.{Says, itemsFrom, itemsFine}
@@ -22,8 +23,8 @@ operationsAt s ops = map membersIn (itemsFrom s ops)
 pub record Running (s ends : List ℕ) (ops : Found) (fresh : List ℕ) : Type 0 where
   pub says : Says s ends
   pub fine : itemsFine s ops ≡ true
-  pub short : length s ≤ 8192
-  pub ids : length fresh ≡ 256
+  pub short : length s ≤ mostRequestBytes
+  pub ids : length fresh ≡ freshBytes
 
 -- what its uuid-names stand for
 unfoldable pub namesAt : List ℕ → Found → List ℕ → Names

@@ -1,12 +1,18 @@
 // Ids as written in a request: the characters of a uuid, and the uuid-names of its inserts.
 use elements::Pair;
+use model::Atom;
 use model::Found;
+use model::ID;
+use model::Kind;
+use model::OPERATIONS;
+use model::REQUEST_TEXT;
 use text::Written;
 ghost use mathlib.Core.Path.{_≡_};
 ghost use mathlib.Core.Bool.{true};
 ghost use mathlib.Core.List.{_++_};
 ghost use Prim.Native.Nat.{_≤_};
 ghost use lib.ListN.{length};
+ghost use Rattle.model.specs.Limits.{atomBytes, freshBytes};
 ghost use Rattle.model.specs.Octets.{big};
 ghost use Rattle.model.specs.Schema.{uuid};
 ghost use Rattle.model.specs.Value.{pad};
@@ -16,6 +22,9 @@ ghost use Rattle.model.specs.Written.{isDash, uuidFrom, atomIn};
 ghost use Rattle.model.specs.Transact.{insertName, isNamed};
 ghost use Rattle.uuids.specs.Ids.{shifted, spelt, Spells, idIn, idAtom};
 ghost use Rattle.uuids.specs.Named.{operationsAt, namesAt, placeNamed, answered, atomOf, freshAtom, namedIn, Running};
+
+// Characters of a uuid as written.
+const CHARACTERS: usize = 36;
 
 // The upper and the lower 64 bits of an id; or that there is none.
 pub enum Id {
@@ -48,7 +57,7 @@ fn spell(i: Id, at: usize, b: u8) -> Id
         Id::Of(high, low) => {
             let dash = is_dash(at);
             if dash {
-                if b == 45 {
+                if b == b'-' {
                     return i;
                 }
                 return Id::Bad;
@@ -63,16 +72,16 @@ fn spell(i: Id, at: usize, b: u8) -> Id
     }
 }
 
-// The id that 36 characters spell.
+// The id that characters spell.
 pub fn id_of(t: &[u8]) -> Id
     ensures { λ r. ⌜ Spells r (uuidFrom 0 0 (now (t .entry))) ⌝ }
 {
-    if t.len() != 36 {
+    if t.len() != CHARACTERS {
         return Id::Bad;
     }
     let mut i = Id::Of(0, 0);
     let mut at = 0;
-    while at < 36 {
+    while at < CHARACTERS {
         i = spell(i, at, t[at]);
         at += 1;
     }
@@ -84,10 +93,10 @@ pub fn id_at(text: &[u8], at: usize) -> Id
     ensures { λ r. ⌜ Spells r (idIn (treeAt (now (text .entry)) at)) ⌝ }
 {
     let k = nav::kind_at(text, at);
-    let t = nav::is_text(k);
+    let t = leaf::is_kind(k, Kind::Text);
     if t {
         let i = scan::spaces(text, at);
-        let mut buf = [0u8; 36];
+        let mut buf = [0u8; CHARACTERS];
         let w = text::decode(text, i + 1, &mut buf);
         match w {
             Written::To(n) => return id_of(&buf[..n]),
@@ -143,7 +152,7 @@ pub fn place_of(text: &[u8], ends: &[u16], ops: Found, name: &[u8]) -> Found
 
 // An id's atom.
 fn put_id(high: u64, low: u64, out: &mut [u8])
-    requires { ⌜ length (now out) ≡ 25 ⌝ }
+    requires { ⌜ length (now out) ≡ atomBytes ⌝ }
     ensures { λ _. ⌜ now (out .exit) ≡ pad (big 8 high ++ big 8 low) ⌝ }
 {
     octets::clear(out);
@@ -151,20 +160,20 @@ fn put_id(high: u64, low: u64, out: &mut [u8])
     octets::put_number(&mut out[8..], low, 8);
 }
 
-// The atom of fresh id k, of which there are 16; of no id after those.
+// The atom of fresh id k; of no id after the last of them.
 fn put_fresh(fresh: &[u8], k: usize, out: &mut [u8])
-    requires { ⌜ length (now fresh) ≡ 256 ⌝ }
-    requires { ⌜ length (now out) ≡ 25 ⌝ }
+    requires { ⌜ length (now fresh) ≡ freshBytes ⌝ }
+    requires { ⌜ length (now out) ≡ atomBytes ⌝ }
     ensures { λ _. ⌜ now (out .exit) ≡ freshAtom (now (fresh .entry)) k ⌝ }
 {
     octets::clear(out);
-    if k < 16 {
-        octets::put_bytes(out, &fresh[16 * k..16 * k + 16]);
+    if k < OPERATIONS {
+        octets::put_bytes(out, &fresh[ID * k..ID * k + ID]);
     }
 }
 
 // An id's atom, where there is one.
-fn put_uuid(i: Id, out: &mut [u8; 25]) -> bool
+fn put_uuid(i: Id, out: &mut Atom) -> bool
     ensures { λ r. ⌜ idAtom i ≡ answered r (now (out .exit)) ⌝ }
 {
     match i {
@@ -177,21 +186,14 @@ fn put_uuid(i: Id, out: &mut [u8; 25]) -> bool
 }
 
 // The atom of the fresh id that the string at `at` stands for as a uuid-name.
-fn named_at(
-    text: &[u8],
-    ends: &[u16],
-    ops: Found,
-    fresh: &[u8],
-    at: usize,
-    out: &mut [u8; 25],
-) -> bool
+fn named_at(text: &[u8], ends: &[u16], ops: Found, fresh: &[u8], at: usize, out: &mut Atom) -> bool
     requires { ⌜ Running (now text) (now ends) ops (now fresh) ⌝ }
     ensures { λ r. ⌜ atomOf (namedIn (namesAt (now (text .entry)) ops (now (fresh .entry))) (treeAt (now (text .entry)) at)) ≡ answered r (now (out .exit)) ⌝ }
 {
     let k = nav::kind_at(text, at);
-    let t = nav::is_text(k);
+    let t = leaf::is_kind(k, Kind::Text);
     if t {
-        let mut buf = [0u8; 8192];
+        let mut buf = [0u8; REQUEST_TEXT];
         let p = text::string_at(text, at, &mut buf);
         let f = place_of(text, ends, ops, text::bytes(text, &buf, p));
         match f {
@@ -212,7 +214,7 @@ pub fn uuid_at(
     ops: Found,
     fresh: &[u8],
     at: usize,
-    out: &mut [u8; 25],
+    out: &mut Atom,
 ) -> bool
     requires { ⌜ Running (now text) (now ends) ops (now fresh) ⌝ }
     requires { ⌜ wellAt (now text) at ≡ true ⌝ }

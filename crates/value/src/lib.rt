@@ -1,17 +1,22 @@
-// Sets of at most four atoms, and the canonical form of a value.
+// Sets of atoms, and the canonical form of a value.
+use model::ATOM;
+use model::Atom;
+use model::Atoms;
+use model::ELEMENTS;
 ghost use mathlib.Core.Path.{_≡_};
 ghost use mathlib.Core.Bool.{true};
 ghost use mathlib.Core.List.{[], _∷_, _++_};
 ghost use Prim.Native.Nat.{_≤_};
 ghost use lib.ListN.{length, take, drop};
+ghost use Rattle.model.specs.Limits.{mostElements};
 ghost use Rattle.model.specs.Base.{if_then_else_, all, member, distinct, eqLists};
 ghost use Rattle.model.specs.Schema.{Base, Column, scalar};
-ghost use Rattle.inner.specs.Packed.{baseNumbered};
+ghost use Rattle.model.specs.Catalog.{baseNumbered};
 ghost use Rattle.model.specs.Value.{zeros, ascending, placed, sorted, wellAtom, byteAtom, canonicalFor, valueOf, union, without};
 ghost use Rattle.value.specs.Places.{placeIn};
 
 // Whether x is among the elements.
-pub fn member(x: &[u8; 25], l: &[[u8; 25]]) -> bool
+pub fn member(x: &Atom, l: &[Atom]) -> bool
     ensures { λ r. ⌜ r ≡ member (now (x .entry)) (now (l .entry)) ⌝ }
 {
     let mut found = false;
@@ -25,7 +30,7 @@ pub fn member(x: &[u8; 25], l: &[[u8; 25]]) -> bool
 }
 
 // Whether all elements are different.
-pub fn distinct(l: &[[u8; 25]]) -> bool
+pub fn distinct(l: &[Atom]) -> bool
     ensures { λ r. ⌜ r ≡ distinct (now (l .entry)) ⌝ }
 {
     let mut ok = true;
@@ -39,7 +44,7 @@ pub fn distinct(l: &[[u8; 25]]) -> bool
 }
 
 // Whether two lists of elements are the same.
-pub fn equal(l: &[[u8; 25]], m: &[[u8; 25]]) -> bool
+pub fn equal(l: &[Atom], m: &[Atom]) -> bool
     ensures { λ r. ⌜ r ≡ eqLists (now (l .entry)) (now (m .entry)) ⌝ }
 {
     if l.len() != m.len() {
@@ -55,8 +60,8 @@ pub fn equal(l: &[[u8; 25]], m: &[[u8; 25]]) -> bool
     ok
 }
 
-// Whether all atoms are well formed for a base type; whether all are zero. Their type says that they are 25 bytes each.
-fn all_well(kind: u8, l: &[[u8; 25]]) -> bool
+// Whether all atoms are well formed for a base type; whether all are zero. Their type says how many bytes they have.
+fn all_well(kind: u8, l: &[Atom]) -> bool
     ensures { λ r. ⌜ r ≡ all (wellAtom (baseNumbered kind)) (now (l .entry)) ⌝ }
     ensures { λ r. ⌜ (r ≡ true → all byteAtom (now (l .entry)) ≡ true) ⌝ }
 {
@@ -70,7 +75,7 @@ fn all_well(kind: u8, l: &[[u8; 25]]) -> bool
     ok
 }
 
-fn all_blank(l: &[[u8; 25]]) -> bool
+fn all_blank(l: &[Atom]) -> bool
     ensures { λ r. ⌜ r ≡ all zeros (now (l .entry)) ⌝ }
     ensures { λ _. ⌜ all byteAtom (now (l .entry)) ≡ true ⌝ }
 {
@@ -85,7 +90,7 @@ fn all_blank(l: &[[u8; 25]]) -> bool
 }
 
 // Whether each atom is before those after it: before the next one, which is enough.
-pub fn ascending(kind: u8, l: &[[u8; 25]]) -> bool
+pub fn ascending(kind: u8, l: &[Atom]) -> bool
     ensures { λ r. ⌜ r ≡ ascending (baseNumbered kind) (now (l .entry)) ⌝ }
 {
     let mut ok = true;
@@ -99,7 +104,7 @@ pub fn ascending(kind: u8, l: &[[u8; 25]]) -> bool
 }
 
 // The place of x among atoms in order: how many stand before the first that x is less than.
-fn place(kind: u8, l: &[[u8; 25]], x: &[u8; 25]) -> usize
+fn place(kind: u8, l: &[Atom], x: &Atom) -> usize
     ensures { λ r. ⌜ r ≡ placeIn (baseNumbered kind) (now (x .entry)) (now (l .entry)) ⌝ }
 {
     let mut i = 0;
@@ -113,14 +118,14 @@ fn place(kind: u8, l: &[[u8; 25]], x: &[u8; 25]) -> usize
 }
 
 // x at place i, those from there on moved up by one, the last one lost.
-fn insert_at(atoms: [[u8; 25]; 4], i: usize, x: [u8; 25]) -> [[u8; 25]; 4]
-    requires { ⌜ i ≤ 4 ⌝ }
-    ensures { λ r. ⌜ r ≡ take 4 (take i atoms ++ x ∷ drop i atoms) ⌝ }
+fn insert_at(atoms: Atoms, i: usize, x: Atom) -> Atoms
+    requires { ⌜ i ≤ mostElements ⌝ }
+    ensures { λ r. ⌜ r ≡ take mostElements (take i atoms ++ x ∷ drop i atoms) ⌝ }
 {
     let mut a = atoms;
     let mut carry = x;
     let mut j = i;
-    while j < 4 {
+    while j < ELEMENTS {
         let t = a[j];
         a[j] = carry;
         carry = t;
@@ -130,20 +135,20 @@ fn insert_at(atoms: [[u8; 25]; 4], i: usize, x: [u8; 25]) -> [[u8; 25]; 4]
 }
 
 // The first n atoms are in order: the same with x in its place.
-fn put_in_order(kind: u8, atoms: [[u8; 25]; 4], n: usize, x: [u8; 25]) -> [[u8; 25]; 4]
-    requires { ⌜ n ≤ 4 ⌝ }
-    ensures { λ r. ⌜ r ≡ take 4 (placed (baseNumbered kind) x (take n atoms) ++ drop n atoms) ⌝ }
+fn put_in_order(kind: u8, atoms: Atoms, n: usize, x: Atom) -> Atoms
+    requires { ⌜ n ≤ mostElements ⌝ }
+    ensures { λ r. ⌜ r ≡ take mostElements (placed (baseNumbered kind) x (take n atoms) ++ drop n atoms) ⌝ }
 {
     let p = place(kind, &atoms[..n], &x);
     insert_at(atoms, p, x)
 }
 
 // The first n atoms sorted, and zeros.
-pub fn sort(kind: u8, atoms: [[u8; 25]; 4], n: usize) -> [[u8; 25]; 4]
-    requires { ⌜ n ≤ 4 ⌝ }
+pub fn sort(kind: u8, atoms: Atoms, n: usize) -> Atoms
+    requires { ⌜ n ≤ mostElements ⌝ }
     ensures { λ r. ⌜ r ≡ valueOf (sorted (baseNumbered kind) (take n atoms)) .atoms ⌝ }
 {
-    let mut s = [[0u8; 25]; 4];
+    let mut s = [[0u8; ATOM]; ELEMENTS];
     let mut i = n;
     while 0 < i {
         let x = atoms[i - 1];
@@ -155,9 +160,9 @@ pub fn sort(kind: u8, atoms: [[u8; 25]; 4], n: usize) -> [[u8; 25]; 4]
 }
 
 // The first n atoms are a set: the same with x.
-pub fn insert(kind: u8, atoms: [[u8; 25]; 4], n: usize, x: [u8; 25]) -> [[u8; 25]; 4]
-    requires { ⌜ n ≤ 4 ⌝ }
-    ensures { λ r. ⌜ r ≡ take 4 (union (baseNumbered kind) (take n atoms) (x ∷ []) ++ drop n atoms) ⌝ }
+pub fn insert(kind: u8, atoms: Atoms, n: usize, x: Atom) -> Atoms
+    requires { ⌜ n ≤ mostElements ⌝ }
+    ensures { λ r. ⌜ r ≡ take mostElements (union (baseNumbered kind) (take n atoms) (x ∷ []) ++ drop n atoms) ⌝ }
 {
     if member(&x, &atoms[..n]) {
         return atoms;
@@ -166,7 +171,7 @@ pub fn insert(kind: u8, atoms: [[u8; 25]; 4], n: usize, x: [u8; 25]) -> [[u8; 25
 }
 
 // How many elements the set has with x.
-pub fn insert_count(l: &[[u8; 25]], x: &[u8; 25]) -> usize
+pub fn insert_count(l: &[Atom], x: &Atom) -> usize
     ensures { λ r. ⌜ ((k : Base) → r ≡ length (union k (now (l .entry)) (now (x .entry) ∷ []))) ⌝ }
 {
     if member(x, l) {
@@ -176,7 +181,7 @@ pub fn insert_count(l: &[[u8; 25]], x: &[u8; 25]) -> usize
 }
 
 // How many elements the set has with those of `more`.
-pub fn union_count(l: &[[u8; 25]], more: &[[u8; 25]]) -> usize
+pub fn union_count(l: &[Atom], more: &[Atom]) -> usize
     ensures { λ r. ⌜ ((k : Base) → r ≡ length (union k (now (l .entry)) (now (more .entry)))) ⌝ }
 {
     let mut n = l.len();
@@ -200,11 +205,11 @@ fn one_unless(b: bool) -> usize
 }
 
 // The first n atoms, and zeros.
-pub fn first(atoms: [[u8; 25]; 4], n: usize) -> [[u8; 25]; 4]
-    requires { ⌜ n ≤ 4 ⌝ }
+pub fn first(atoms: Atoms, n: usize) -> Atoms
+    requires { ⌜ n ≤ mostElements ⌝ }
     ensures { λ r. ⌜ r ≡ valueOf (take n atoms) .atoms ⌝ }
 {
-    let mut s = [[0u8; 25]; 4];
+    let mut s = [[0u8; ATOM]; ELEMENTS];
     let mut i = 0;
     while i < n {
         let x = atoms[i];
@@ -215,11 +220,11 @@ pub fn first(atoms: [[u8; 25]; 4], n: usize) -> [[u8; 25]; 4]
 }
 
 // The first n atoms are a set: the same without x, and zeros.
-pub fn delete(atoms: [[u8; 25]; 4], n: usize, x: [u8; 25]) -> [[u8; 25]; 4]
-    requires { ⌜ n ≤ 4 ⌝ }
+pub fn delete(atoms: Atoms, n: usize, x: Atom) -> Atoms
+    requires { ⌜ n ≤ mostElements ⌝ }
     ensures { λ r. ⌜ r ≡ valueOf (without (x ∷ []) (take n atoms)) .atoms ⌝ }
 {
-    let mut s = [[0u8; 25]; 4];
+    let mut s = [[0u8; ATOM]; ELEMENTS];
     let mut m = 0;
     let mut i = 0;
     while i < n {
@@ -234,7 +239,7 @@ pub fn delete(atoms: [[u8; 25]; 4], n: usize, x: [u8; 25]) -> [[u8; 25]; 4]
 }
 
 // How many elements the set has without x.
-pub fn delete_count(l: &[[u8; 25]], x: &[u8; 25]) -> usize
+pub fn delete_count(l: &[Atom], x: &Atom) -> usize
     ensures { λ r. ⌜ r ≡ length (without (now (x .entry) ∷ []) (now (l .entry))) ⌝ }
 {
     let mut n = 0;
@@ -247,15 +252,15 @@ pub fn delete_count(l: &[[u8; 25]], x: &[u8; 25]) -> usize
     n
 }
 
-// Whether `count` elements in four atoms are in canonical form for a base type, of a scalar where `one`.
-pub fn canonical(kind: u8, one: bool, count: u8, atoms: &[[u8; 25]]) -> bool
+// Whether `count` elements in the atoms of a set are in canonical form for a base type, of a scalar where `one`.
+pub fn canonical(kind: u8, one: bool, count: u8, atoms: &[Atom]) -> bool
     ensures { λ r. ⌜ ((c : Column) → c .base ≡ baseNumbered kind → scalar c ≡ one → r ≡ canonicalFor c (record { count = count; atoms = now (atoms .entry) })) ⌝ }
 {
-    let n = atom::wide(count);
-    if atoms.len() != 4 {
+    let n = leaf::wide(count);
+    if atoms.len() != ELEMENTS {
         return false;
     }
-    if 4 < n {
+    if ELEMENTS < n {
         return false;
     }
     if one & (n != 1) {

@@ -6,7 +6,7 @@ use mathlib.Core.Option.{Option, none, some}
 use Prim.Native.Nat.{ℕ, zero, suc, _+_, _-_, _<_, _≤_}
 use native.Mathlib.Omega.{arith}
 use lib.Dec.{ltb}
-use lib.ListN.{length, getD, set, drop, replicate, length-append, length-replicate}
+use lib.ListN.{length, getD, drop, replicate, length-append, length-replicate}
 use borrow.Author.Tests.{le-ltb}
 use Rattle.model.specs.Octets.{big, twos, eqBytes}
 use Rattle.model.specs.Json.{Json, null, bool, num, str, arr, obj}
@@ -17,7 +17,7 @@ use Rattle.inner.specs.Positions.{wordIn as string}
 use Rattle.model.specs.declared.Whole.{Whole}
 use Rattle.model.specs.Whole.{wholeOf, isWhole, wholeInt}
 use Rattle.model.specs.Schema.{Base, integer, boolean, text, uuid}
-use Rattle.inner.specs.Packed.{baseNumbered}
+use Rattle.model.specs.Catalog.{baseNumbered}
 use Rattle.model.specs.Value.{pad, blank, intAtom, boolAtom, textAtom, textOf}
 use Rattle.model.specs.Written.{Names, stringIn, boolIn, atomIn, longAtom}
 use Rattle.model.proofs.Tests.{split, clash, bytes-same, bytes-self}
@@ -43,7 +43,7 @@ module _ (j : Json) {w : Whole} (e : w ≡ wholeOf j) where
   integer-none h = integer-by h
 
 is-truth : (j : Json) → isTruth (kindOf j) ≡ true → boolIn j ≡ some (isTrue j)
-unfolding isTruth kindOf isTrue
+unfolding kindOf isTrue
 is-truth null h = cc
 is-truth (bool b) h = refl
 is-truth (num t) h = cc
@@ -52,7 +52,7 @@ is-truth (arr xs) h = cc
 is-truth (obj ms) h = cc
 
 no-truth : (j : Json) → isTruth (kindOf j) ≡ false → boolIn j ≡ none
-unfolding isTruth kindOf
+unfolding kindOf
 no-truth null h = refl
 no-truth (bool b) h = cc
 no-truth (num t) h = refl
@@ -83,10 +83,6 @@ pub zeros-from : (k n : ℕ) → drop k (replicate {A = ℕ} n 0) ≡ replicate 
 zeros-from zero n = nones n (n - 0) (omega arith)
 zeros-from (suc k) zero = nones 0 (0 - suc k) (omega arith)
 zeros-from (suc k) (suc n) = zeros-from k n ∙ nones (n - k) (suc n - suc k) (omega arith)
-
-pub first-set : (l : List ℕ) (b : ℕ) → 1 ≤ length l → set l 0 b ≡ b ∷ drop 1 l
-first-set [] b h = absurd (omega arith)
-first-set (x ∷ l) b h = refl
 
 abbrev stringAtom : Option (List ℕ) → Option (List ℕ)
 stringAtom o = elim o [ none ↦ none | some t ↦ some (textAtom t) ]

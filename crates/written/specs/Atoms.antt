@@ -5,6 +5,7 @@ use mathlib.Core.Bool.{Bool, true, false}
 use mathlib.Core.List.{List, [], _∷_, map}
 use mathlib.Core.Option.{Option, none, some}
 use lib.ListN.{length}
+use Rattle.model.specs.Limits.{mostTextBytes, atomBytes}
 use Rattle.model.specs.Json.{Json}
 use Rattle.model.specs.Nav.{kindOf, isText}
 use Rattle.inner.specs.Positions.{wordIn}
@@ -25,8 +26,8 @@ booleanIn j = elim (boolIn j) [ none ↦ none | some b ↦ some (boolAtom b) ]
 -- what reading a string as an atom says: "a string above our limits" is none that fits
 unfoldable pub TextReads : Json → Atom → List ℕ → Type 0
 TextReads j Wrong out = isText (kindOf j) ≡ false
-TextReads j Fits out = (isText (kindOf j) ≡ true) × (out ≡ textAtom (wordIn j)) × (length (wordIn j) < 25)
-TextReads j Long out = (isText (kindOf j) ≡ true) × (24 < length (wordIn j))
+TextReads j Fits out = (isText (kindOf j) ≡ true) × (out ≡ textAtom (wordIn j)) × (length (wordIn j) < atomBytes)
+TextReads j Long out = (isText (kindOf j) ≡ true) × (mostTextBytes < length (wordIn j))
 
 -- the atom of an element, and the blank one where it is mistyped
 unfoldable pub cellOf : Option (List ℕ) → List ℕ
@@ -44,7 +45,7 @@ atomsOf names k js = map (atomAs names k) js
 unfoldable pub Reads : Names → Base → Json → Atom → List ℕ → Type 0
 Reads names k j Wrong out = (atomIn names k j ≡ none) × (out ≡ blank)
 Reads names k j Fits out = (atomIn names k j ≡ some out) × (longAtom k out ≡ false)
-Reads names k j Long out = (k ≡ text) × (isText (kindOf j) ≡ true) × (24 < length (wordIn j))
+Reads names k j Long out = (k ≡ text) × (isText (kindOf j) ≡ true) × (mostTextBytes < length (wordIn j))
 
 -- an atom left as it is where it was read, and a blank one where not
 unfoldable pub Told : Bool → List ℕ → Atom → List ℕ → Type 0

@@ -1,19 +1,22 @@
 // Elements as written in a request, by positions of its text: the atom that one stands for, of a base type by its number.
 use model::Found;
+use model::Kind;
+use model::REQUEST_TEXT;
+use model::TEXT;
 use model::Whole;
 use text::Written;
 ghost use mathlib.Core.Path.{_≡_};
 ghost use mathlib.Core.Bool.{true, false};
-ghost use mathlib.Core.List.{_∷_};
 ghost use Prim.Native.Nat.{_≤_};
-ghost use lib.ListN.{length, drop};
+ghost use lib.ListN.{length};
+ghost use Rattle.model.specs.Limits.{mostRequestBytes, mostTextBytes, atomBytes};
 ghost use Rattle.model.specs.Octets.{big, eqBytes};
 ghost use Rattle.model.specs.Base.{any, member};
 ghost use Rattle.inner.specs.Positions.{Says, wellAt, treeAt};
 ghost use Rattle.model.specs.Text.{isWord, chars};
 ghost use Rattle.inner.specs.Positions.{wordIn};
 ghost use Rattle.model.specs.Whole.{isWhole};
-ghost use Rattle.inner.specs.Packed.{baseNumbered};
+ghost use Rattle.model.specs.Catalog.{baseNumbered};
 ghost use Rattle.model.specs.Value.{pad, boolAtom, textAtom};
 ghost use Rattle.model.specs.Written.{longAtom};
 ghost use Rattle.elements.specs.Elements.{elementsFrom, elementsFine};
@@ -39,7 +42,7 @@ fn is_whole(w: Whole) -> bool
 
 // The atom of 64 bits of two's complement.
 fn put_integer(x: u64, out: &mut [u8])
-    requires { ⌜ length (now out) ≡ 25 ⌝ }
+    requires { ⌜ length (now out) ≡ atomBytes ⌝ }
     ensures { λ _. ⌜ now (out .exit) ≡ pad (big 8 x) ⌝ }
 {
     octets::clear(out);
@@ -48,7 +51,7 @@ fn put_integer(x: u64, out: &mut [u8])
 
 // The atom of a truth value.
 fn put_boolean(b: bool, out: &mut [u8])
-    requires { ⌜ length (now out) ≡ 25 ⌝ }
+    requires { ⌜ length (now out) ≡ atomBytes ⌝ }
     ensures { λ _. ⌜ now (out .exit) ≡ boolAtom b ⌝ }
 {
     octets::clear(out);
@@ -57,27 +60,19 @@ fn put_boolean(b: bool, out: &mut [u8])
     }
 }
 
-// The first byte.
-fn put_first(out: &mut [u8], b: u8)
-    requires { ⌜ 1 ≤ length (now out) ⌝ }
-    ensures { λ _. ⌜ now (out .exit) ≡ b ∷ drop 1 (now (out .entry)) ⌝ }
-{
-    out[0] = b;
-}
-
 // The atom of a string.
 fn put_text(t: &[u8], out: &mut [u8])
-    requires { ⌜ length (now out) ≡ 25 ⌝ }
-    requires { ⌜ length (now t) ≤ 24 ⌝ }
+    requires { ⌜ length (now out) ≡ atomBytes ⌝ }
+    requires { ⌜ length (now t) ≤ mostTextBytes ⌝ }
     ensures { λ _. ⌜ now (out .exit) ≡ textAtom (now (t .entry)) ⌝ }
 {
     octets::clear(out);
-    put_first(out, t.len() as u8);
+    leaf::put_byte(out, t.len() as u8);
     octets::put_bytes(&mut out[1..], t);
 }
 
 // The integer at `at`.
-fn integer_at(text: &[u8], ends: &[u16], at: usize, out: &mut [u8; 25]) -> bool
+fn integer_at(text: &[u8], ends: &[u16], at: usize, out: &mut model::Atom) -> bool
     requires { ⌜ Says (now text) (now ends) ⌝ }
     ensures { λ r. ⌜ integerIn (treeAt (now (text .entry)) at) ≡ answered r (now (out .exit)) ⌝ }
 {
@@ -91,11 +86,11 @@ fn integer_at(text: &[u8], ends: &[u16], at: usize, out: &mut [u8; 25]) -> bool
 }
 
 // The truth value at `at`.
-fn boolean_at(text: &[u8], at: usize, out: &mut [u8; 25]) -> bool
+fn boolean_at(text: &[u8], at: usize, out: &mut model::Atom) -> bool
     ensures { λ r. ⌜ booleanIn (treeAt (now (text .entry)) at) ≡ answered r (now (out .exit)) ⌝ }
 {
     let k = nav::kind_at(text, at);
-    let t = nav::is_truth(k);
+    let t = leaf::is_kind(k, Kind::Truth);
     if t {
         let b = nav::truth_at(text, at);
         put_boolean(b, &mut out[..]);
@@ -105,14 +100,14 @@ fn boolean_at(text: &[u8], at: usize, out: &mut [u8; 25]) -> bool
 }
 
 // The string at `at`.
-fn text_at(text: &[u8], at: usize, out: &mut [u8; 25]) -> Atom
+fn text_at(text: &[u8], at: usize, out: &mut model::Atom) -> Atom
     ensures { λ r. ⌜ TextReads (treeAt (now (text .entry)) at) r (now (out .exit)) ⌝ }
 {
     let k = nav::kind_at(text, at);
-    let t = nav::is_text(k);
+    let t = leaf::is_kind(k, Kind::Text);
     if t {
         let i = scan::spaces(text, at);
-        let mut buf = [0u8; 24];
+        let mut buf = [0u8; TEXT];
         let w = text::decode(text, i + 1, &mut buf);
         match w {
             Written::To(n) => {
@@ -126,7 +121,7 @@ fn text_at(text: &[u8], at: usize, out: &mut [u8; 25]) -> Atom
 }
 
 // That an element fits, if so; else that it is mistyped, and a blank atom.
-fn told(ok: bool, out: &mut [u8; 25]) -> Atom
+fn told(ok: bool, out: &mut model::Atom) -> Atom
     ensures { λ r. ⌜ Told ok (now (out .entry)) r (now (out .exit)) ⌝ }
 {
     if ok {
@@ -144,7 +139,7 @@ pub fn atom_at(
     fresh: &[u8],
     kind: u8,
     at: usize,
-    out: &mut [u8; 25],
+    out: &mut model::Atom,
 ) -> Atom
     requires { ⌜ Running (now text) (now ends) ops (now fresh) ⌝ }
     requires { ⌜ wellAt (now text) at ≡ true ⌝ }
@@ -178,7 +173,7 @@ pub fn same_at(
     fresh: &[u8],
     kind: u8,
     at: usize,
-    x: &[u8; 25],
+    x: &model::Atom,
 ) -> bool
     requires { ⌜ Running (now text) (now ends) ops (now fresh) ⌝ }
     requires { ⌜ wellAt (now text) at ≡ true ⌝ }
@@ -186,21 +181,21 @@ pub fn same_at(
     ensures { λ r. ⌜ (r ≡ true → longAtom (baseNumbered kind) (atomAs (namesAt (now (text .entry)) ops (now (fresh .entry))) (baseNumbered kind) (treeAt (now (text .entry)) at)) ≡ false) ⌝ }
 {
     let y = &x[..];
-    let mut cell = [0u8; 25];
+    let mut cell = [0u8; model::ATOM];
     let a = atom_at(text, ends, ops, fresh, kind, at, &mut cell);
     match a {
         Atom::Wrong => atom::same(x, &cell),
-        Atom::Long => y.len() != 25,
+        Atom::Long => y.len() != model::ATOM,
         Atom::Fits => atom::same(x, &cell),
     }
 }
 
 // The length in characters of the string at `at`.
 pub fn long_chars(text: &[u8], at: usize) -> usize
-    requires { ⌜ length (now text) ≤ 8192 ⌝ }
+    requires { ⌜ length (now text) ≤ mostRequestBytes ⌝ }
     ensures { λ r. ⌜ r ≡ chars (wordIn (treeAt (now (text .entry)) at)) ⌝ }
 {
-    let mut buf = [0u8; 8192];
+    let mut buf = [0u8; REQUEST_TEXT];
     let p = text::string_at(text, at, &mut buf);
     text::characters(text::bytes(text, &buf, p))
 }
@@ -228,10 +223,10 @@ fn word_among(text: &[u8], ends: &[u16], set: bool, f: Found, word: &[u8]) -> bo
 // Whether the string at `at` is among the elements from f on.
 pub fn long_among(text: &[u8], ends: &[u16], set: bool, f: Found, at: usize) -> bool
     requires { ⌜ Says (now text) (now ends) ⌝ }
-    requires { ⌜ length (now text) ≤ 8192 ⌝ }
+    requires { ⌜ length (now text) ≤ mostRequestBytes ⌝ }
     ensures { λ r. ⌜ r ≡ any (isWord (wordIn (treeAt (now (text .entry)) at))) (elementsFrom (now (text .entry)) set f) ⌝ }
 {
-    let mut buf = [0u8; 8192];
+    let mut buf = [0u8; REQUEST_TEXT];
     let p = text::string_at(text, at, &mut buf);
     word_among(text, ends, set, f, text::bytes(text, &buf, p))
 }
@@ -245,7 +240,7 @@ pub fn cell_among(
     kind: u8,
     set: bool,
     f: Found,
-    x: &[u8; 25],
+    x: &model::Atom,
 ) -> bool
     requires { ⌜ Running (now text) (now ends) ops (now fresh) ⌝ }
     requires { ⌜ elementsFine (now text) set f ≡ true ⌝ }

@@ -4,7 +4,8 @@ use Prim.Native.Nat.{_-_, _≤_}
 use native.Mathlib.Omega.{arith}
 use lib.ListN.{length, set, replicate, length-set}
 use Rattle.model.specs.Octets.{part}
-use Rattle.area.proofs.Copies.{copied, copied-more, copied-end, byte-at, part-length}
+use Rattle.catalog.proofs.Copied.{copied, copied-more, copied-end}
+use Rattle.area.proofs.Copies.{byte-at, part-length}
 use Rattle.area.proofs.cell_at.Statement.{statement}
 use Rattle.area.proofs.cell_at.Tie as tie
 

@@ -3,6 +3,7 @@ use mathlib.Core.Path.{_≡_}
 use mathlib.Core.Bool.{not, _&&_, _||_}
 use lib.Dec.{eqb, leb}
 use lib.ListN.{getD}
+use Rattle.model.specs.Limits.{heardOffset, wholeOffset}
 use Rattle.area.specs.Writing.{tailGood}
 use borrow.Author.Needs.{needs}
 use Rattle.area.proofs.mirror_part.Statement.{statement}
@@ -26,7 +27,7 @@ returns c =
     let a = c .before .before .before .before .before .args .area .now in
     let n = c .before .before .before .number-of .ensures in
     let t = c .before .before .top-of .ensures in
-    λ j. leb (getD a 24111 0) 1 && leb (getD a 24112 0) 1 && leb (n j) (t j) && (eqb (getD a 24111 0) 1 || eqb (t j) 0) && (eqb (getD a 24112 0) 1 || not (eqb (n j) 0))
+    λ j. leb (getD a heardOffset 0) 1 && leb (getD a wholeOffset 0) 1 && leb (n j) (t j) && (eqb (getD a heardOffset 0) 1 || eqb (t j) 0) && (eqb (getD a wholeOffset 0) 1 || not (eqb (n j) 0))
 
 pub mirror-part-spec : {M : Type 1} → statement M
 mirror-part-spec =

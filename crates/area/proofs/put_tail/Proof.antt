@@ -22,6 +22,9 @@ part-put-byte-end c = search needs
 put-byte-requires : tie.Need-put-byte-requires
 put-byte-requires c κs = search needs
 
+add-put-byte : tie.Need-add-put-byte
+add-put-byte c = search needs
+
 sub-put-byte-2 : tie.Need-sub-put-byte-2
 sub-put-byte-2 c = search needs
 
@@ -57,6 +60,7 @@ put-tail-spec =
     part-put-byte-start
     part-put-byte-end
     put-byte-requires
+    add-put-byte
     sub-put-byte-2
     part-put-byte-start-2
     part-put-byte-end-2

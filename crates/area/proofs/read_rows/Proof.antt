@@ -6,7 +6,8 @@ use native.Mathlib.Omega.{arith}
 use lib.ListN.{length, set, take, drop, length-set}
 use lib.Seq.{take-all}
 use Rattle.area.specs.Layout.{rowsIn}
-use Rattle.area.proofs.Copies.{copied, copied-more, take-copied, row-from, rows-length}
+use Rattle.catalog.proofs.Copied.{copied, copied-more}
+use Rattle.area.proofs.Copies.{take-copied, row-from, rows-length}
 use Rattle.area.proofs.read_rows.Statement.{statement}
 use Rattle.area.proofs.read_rows.Tie as tie
 

@@ -5,7 +5,8 @@ use Prim.Native.Nat.{_-_, _≤_}
 use native.Mathlib.Omega.{arith}
 use lib.ListN.{length, set, drop, replicate, length-set}
 use Rattle.model.specs.Records.{cut}
-use Rattle.area.proofs.Copies.{copied, copied-more, copied-end, cell-from, cut-length}
+use Rattle.catalog.proofs.Copied.{copied, copied-more, copied-end}
+use Rattle.area.proofs.Copies.{cell-from, cut-length}
 use Rattle.area.proofs.row_at.Statement.{statement}
 use Rattle.area.proofs.row_at.Tie as tie
 

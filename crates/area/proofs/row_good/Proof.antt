@@ -6,7 +6,9 @@ use native.Mathlib.Omega.{arith}
 use borrow.Author.Tests.{not-true, not-false}
 use lib.ListN.{length, getD}
 use Rattle.inner.specs.Working.{tableIn}
-use Rattle.area.specs.Layout.{tidyFrom, canonicalFrom, columnCells}
+use Rattle.area.specs.Layout.{tidyFrom, canonicalFrom}
+use Rattle.catalog.proofs.Laws.{few-tables, few-columns}
+use Rattle.catalog.specs.Entries.{columnCells}
 use Rattle.area.proofs.Schemas.{no-table, no-id, not-tidy, all-good}
 use borrow.Author.Needs.{needs}
 use Rattle.area.proofs.row_good.Statement.{statement}
@@ -15,23 +17,23 @@ use Rattle.area.proofs.row_good.Tie as tie
 table-of-requires : tie.Need-table-of-requires
 table-of-requires c κs = search needs
 
-index-1-if1 : tie.Need-index-1-if1
-index-1-if1 c = search needs
+index-1-table-count : tie.Need-index-1-table-count
+index-1-table-count c = search needs
 
-index-2-if1 : tie.Need-index-2-if1
-index-2-if1 c = search needs
+table-count-requires : tie.Need-table-count-requires
+table-count-requires c κs = search needs
 
 returns : tie.Need-returns
 returns c =
-    let a = c .before .before .before .args in
-    sym (no-table (a .schema .now) (a .row .now) (omega (arith, c .before .before .table-of .ensures)))
+    let a = c .before .before .before .before .args in
+    sym (no-table (a .schema .now) (a .row .now) (omega (arith, c .before .table-count .ensures, c .before .before .before .table-of .ensures)))
 
 has-some-id-requires : tie.Need-has-some-id-requires
 has-some-id-requires c κs = search needs
 
 returns-2 : tie.Need-returns-2
 returns-2 c =
-    let a = c .before .before .before .before .before .args in
+    let a = c .before .before .before .before .before .before .args in
     sym (no-id (a .schema .now) (a .row .now) (sym (c .before .has-some-id .ensures) ∙ not-true _ (c .if2 .taken)))
 
 wide-requires : tie.Need-wide-requires
@@ -39,20 +41,20 @@ wide-requires c κs = search needs
 
 columns-of-requires : tie.Need-columns-of-requires
 columns-of-requires c κs =
-    let s = c .before .before .before .before .before .before in
-    let l : c .wide .result < 4 = omega (arith, s .pre .tables, c .wide .ensures, c .before .before .before .if1 .left) in
-    (l, s .pre .columns (c .wide .result) l)
+    let s = c .before .before .before .before .before .before .before in
+    let l : c .wide .result < 4 = omega (arith, few-tables (s .args .schema .now) (s .pre), c .wide .ensures, c .before .before .before .before .table-count .ensures, c .before .before .before .if1 .left) in
+    (l, few-columns (s .args .schema .now) (s .pre) (c .wide .result) l)
 
 tidy-row-requires : tie.Need-tidy-row-requires
 tidy-row-requires c κs = search needs
 
 returns-3 : tie.Need-returns-3
 returns-3 c =
-    let s = c .before .before .before .before .before .before .before .before .before in
+    let s = c .before .before .before .before .before .before .before .before .before .before in
     let x = s .args .schema .now in
     let r = s .args .row .now in
-    let t = c .before .before .before .wide .ensures ∙ c .before .before .before .before .before .before .before .before .table-of .ensures in
-    let h : tableIn r < getD (getD x 0 []) 25 0 = omega (arith, t, c .before .before .before .wide .ensures, c .before .before .before .before .before .before .if1 .left) in
+    let t = c .before .before .before .wide .ensures ∙ c .before .before .before .before .before .before .before .before .before .table-of .ensures in
+    let h : tableIn r < getD (getD x 0 []) 25 0 = omega (arith, t, c .before .before .before .wide .ensures, c .before .before .before .before .before .before .if1 .left, c .before .before .before .before .before .before .before .table-count .ensures) in
     let e = c .before .before .columns-of .ensures .0 ∙ ap (columnCells x) t in
     sym (not-tidy x r h (ap (λ (l : List (List ℕ)). tidyFrom (length l) r) (sym e) ∙ sym (c .before .tidy-row .ensures) ∙ not-true _ (c .if3 .taken)))
 
@@ -61,11 +63,11 @@ canonical-row-requires c κs = search needs
 
 returns-4 : tie.Need-returns-4
 returns-4 c =
-    let s = c .before .before .before .before .before .before .before .before .before .before in
+    let s = c .before .before .before .before .before .before .before .before .before .before .before in
     let x = s .args .schema .now in
     let r = s .args .row .now in
-    let t = c .before .before .before .before .wide .ensures ∙ c .before .before .before .before .before .before .before .before .before .table-of .ensures in
-    let h : tableIn r < getD (getD x 0 []) 25 0 = omega (arith, t, c .before .before .before .before .wide .ensures, c .before .before .before .before .before .before .before .if1 .left) in
+    let t = c .before .before .before .before .wide .ensures ∙ c .before .before .before .before .before .before .before .before .before .before .table-of .ensures in
+    let h : tableIn r < getD (getD x 0 []) 25 0 = omega (arith, t, c .before .before .before .before .wide .ensures, c .before .before .before .before .before .before .before .if1 .left, c .before .before .before .before .before .before .before .before .table-count .ensures) in
     let e = c .before .before .before .columns-of .ensures .0 ∙ ap (columnCells x) t in
     let i = sym (c .before .before .before .before .before .before .has-some-id .ensures) ∙ not-false _ (c .before .before .before .before .before .if2 .left) in
     let d = ap (λ (l : List (List ℕ)). tidyFrom (length l) r) (sym e) ∙ sym (c .before .before .tidy-row .ensures) ∙ not-false _ (c .before .if3 .left) in
@@ -76,8 +78,8 @@ row-good-spec =
     tie.close
     (tie.spec
     table-of-requires
-    index-1-if1
-    index-2-if1
+    index-1-table-count
+    table-count-requires
     returns
     has-some-id-requires
     returns-2

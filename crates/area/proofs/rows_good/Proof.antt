@@ -1,7 +1,7 @@
 -- `area::rows_good` meets its contract. Assumes nothing.
 use mathlib.Core.Path.{sym, _∙_}
 use borrow.Author.Tests.{not-true, not-false}
-use Rattle.inner.specs.Packed.{packedTables}
+use Rattle.model.specs.Catalog.{packedTables}
 use Rattle.area.proofs.Schemas.{rows-no, rows-apart, rows-all}
 use borrow.Author.Needs.{needs}
 use Rattle.area.proofs.rows_good.Statement.{statement}

@@ -1,4 +1,5 @@
 -- `area::write_rows` meets its contract. Assumes nothing.
+use Rattle.model.specs.Limits.{countOffset}
 use Rattle.area.proofs.Writes.{place-rest}
 use borrow.Author.Needs.{needs}
 use Rattle.area.proofs.write_rows.Statement.{statement}
@@ -20,7 +21,7 @@ same-length : tie.Need-same-length
 same-length c = search needs
 
 returns : tie.Need-returns
-returns c = place-rest 4106 20001 _ _ _ (c .before .before .put-counted .ensures)
+returns c = place-rest countOffset 20001 _ _ _ (c .before .before .put-counted .ensures)
 
 pub write-rows-spec : {M : Type 1} → statement M
 write-rows-spec =

@@ -5,10 +5,11 @@ use Prim.Native.Nat.{ℕ}
 use native.Mathlib.Omega.{arith}
 use lib.ListN.{length, drop}
 use Rattle.model.specs.Octets.{big}
-use Rattle.model.specs.Areas.{textBytes}
+use Rattle.model.specs.Limits.{catalogBytes, countOffset, storeBytes}
+use Rattle.model.specs.Base.{flat}
 use Rattle.octets.proofs.Rests.{write-next}
 use Rattle.area.specs.Writing.{rowsPart}
-use Rattle.area.proofs.Writes.{text-length, store-are}
+use Rattle.area.proofs.Writes.{store-are}
 use borrow.Author.Needs.{needs}
 use Rattle.area.proofs.write_store.Statement.{statement}
 use Rattle.area.proofs.write_store.Tie as tie
@@ -28,17 +29,17 @@ part-put-number-end c = search needs
 put-number-requires-2 : tie.Need-put-number-requires-2
 put-number-requires-2 c κs = search needs
 
-sub-put-text : tie.Need-sub-put-text
-sub-put-text c = search needs
+sub-put-catalog : tie.Need-sub-put-catalog
+sub-put-catalog c = search needs
 
-part-put-text-start : tie.Need-part-put-text-start
-part-put-text-start c = search needs
+part-put-catalog-start : tie.Need-part-put-catalog-start
+part-put-catalog-start c = search needs
 
-part-put-text-end : tie.Need-part-put-text-end
-part-put-text-end c = search needs
+part-put-catalog-end : tie.Need-part-put-catalog-end
+part-put-catalog-end c = search needs
 
-put-text-requires : tie.Need-put-text-requires
-put-text-requires c κs = search needs
+put-catalog-requires : tie.Need-put-catalog-requires
+put-catalog-requires c κs = search needs
 
 sub-put-counted : tie.Need-sub-put-counted
 sub-put-counted c = search needs
@@ -56,21 +57,22 @@ same-length : tie.Need-same-length
 same-length c = search needs
 
 returns : tie.Need-returns
-returns c s t =
+returns c d e t =
     let p3 = c .before .before in
     let p2 = p3 .before .before .before .before in
-    let p1 = p2 .before .before .before .before in
+    let p1 = p2 .before .before .before .before .before in
     let p0 = p1 .before .before .before .before in
-    let i = p0 .before .before .before .before in
+    let i = p0 .before .before .before in
     let a = i .args in
     let xs = a .area .now in
-    let text = a .schema .now in
+    let cs = a .catalog .now in
     let h = big 4 (a .run) ++ big 4 (a .number) in
-    let l : length (h ++ textBytes text) ≡ 4106 = omega (arith, text-length text (i .pre .0 .1)) in
+    let w = p2 .put-catalog .ensures in
+    let l : length (h ++ flat cs) ≡ countOffset = omega (arith, w .1) in
     let e1 = write-next (big 4 (a .run)) (big 4 (a .number)) xs _ _ 4 4 refl (p0 .put-number .ensures) (p1 .put-number2 .ensures) in
-    let e2 = write-next h (textBytes text) xs _ _ 8 4098 refl e1 (p2 .put-text .ensures) in
-    write-next (h ++ textBytes text) (rowsPart (a .n) (a .rows .now)) xs _ _ 4106 20001 l e2 (p3 .put-counted .ensures)
-    ∙ ap (λ (b : List ℕ). b ++ drop 24107 xs) (store-are s (a .rows .now) (a .n) (i .pre .1 .0) t (a .run) (a .number) text)
+    let e2 = write-next h (flat cs) xs _ _ 8 catalogBytes refl e1 (w .0) in
+    write-next (h ++ flat cs) (rowsPart (a .n) (a .rows .now)) xs _ _ countOffset 20001 l e2 (p3 .put-counted .ensures)
+    ∙ ap (λ (b : List ℕ). b ++ drop storeBytes xs) (store-are d cs e (a .rows .now) (a .n) (i .pre .1 .0) t (a .run) (a .number))
 
 pub write-store-spec : {M : Type 1} → statement M
 write-store-spec =
@@ -81,10 +83,10 @@ write-store-spec =
     part-put-number-start
     part-put-number-end
     put-number-requires-2
-    sub-put-text
-    part-put-text-start
-    part-put-text-end
-    put-text-requires
+    sub-put-catalog
+    part-put-catalog-start
+    part-put-catalog-end
+    put-catalog-requires
     sub-put-counted
     part-put-counted-start
     part-put-counted-end

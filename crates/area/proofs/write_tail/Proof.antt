@@ -1,6 +1,7 @@
 -- `area::write_tail` meets its contract. Assumes nothing.
 use mathlib.Core.Path.{_∙_}
 use mathlib.Core.List.{[], _∷_, _++_}
+use Rattle.model.specs.Limits.{storeBytes}
 use Rattle.model.specs.Octets.{big}
 use Rattle.area.specs.Writing.{placed, tailBytes}
 use Rattle.area.proofs.Writes.{place-rest}
@@ -8,11 +9,11 @@ use borrow.Author.Needs.{needs}
 use Rattle.area.proofs.write_tail.Statement.{statement}
 use Rattle.area.proofs.write_tail.Tie as tie
 
-bit-of-requires : tie.Need-bit-of-requires
-bit-of-requires c κs = search needs
+bit-requires : tie.Need-bit-requires
+bit-requires c κs = search needs
 
-bit-of-requires-2 : tie.Need-bit-of-requires-2
-bit-of-requires-2 c κs = search needs
+bit-requires-2 : tie.Need-bit-requires-2
+bit-requires-2 c κs = search needs
 
 sub-put-tail : tie.Need-sub-put-tail
 sub-put-tail c = search needs
@@ -33,17 +34,17 @@ returns : tie.Need-returns
 unfolding tailBytes
 returns c =
     let p = c .before .before in
-    let w = p .before .before .bit-of2 .ensures in
-    let h = p .before .before .before .bit-of .ensures in
+    let w = p .before .before .bit2 .ensures in
+    let h = p .before .before .before .bit .ensures in
     let a = p .before .before .before .before .before .args in
-    place-rest 24107 6 _ _ _ (p .put-tail .ensures) ∙ (λ j. placed 24107 6 (big 4 (a .top) ++ h j ∷ w j ∷ []) (a .area .now))
+    place-rest storeBytes 6 _ _ _ (p .put-tail .ensures) ∙ (λ j. placed storeBytes 6 (big 4 (a .top) ++ h j ∷ w j ∷ []) (a .area .now))
 
 pub write-tail-spec : {M : Type 1} → statement M
 write-tail-spec =
     tie.close
     (tie.spec
-    bit-of-requires
-    bit-of-requires-2
+    bit-requires
+    bit-requires-2
     sub-put-tail
     part-put-tail-start
     part-put-tail-end

@@ -7,7 +7,7 @@ use borrow.Author.Needs.{needs}
 use lib.ListN.{length}
 use Rattle.inner.proofs.Working.{working-length}
 use Rattle.model.specs.Octets.{value}
-use Rattle.inner.specs.Packed.{packedTables}
+use Rattle.model.specs.Catalog.{packedTables}
 use Rattle.model.specs.Records.{known}
 use Rattle.model.specs.Rows.{keyOf, has}
 use Rattle.inner.specs.Working.{working}

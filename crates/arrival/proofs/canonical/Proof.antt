@@ -1,11 +1,10 @@
 -- `arrival::canonical` meets its contract. Assumes nothing.
 use mathlib.Core.List.{[]}
 use mathlib.Core.Path.{_∙_}
-use Prim.Native.Nat.{_+_, _*_}
 use native.Mathlib.Omega.{arith}
 use borrow.Author.Needs.{needs}
 use lib.ListN.{length, getD}
-use Rattle.inner.specs.Packed.{columnFrom}
+use Rattle.model.specs.Catalog.{columnFrom, columnCell}
 use Rattle.model.specs.Value.{canonicalFor}
 use Rattle.record.proofs.Listings.{column-size}
 use Rattle.record.specs.Reading.{arrivalRecord, canonicalIn}
@@ -34,22 +33,12 @@ atoms-requires c κs =
     let s = c .before .before .before .before .before .before in
     omega (arith, column-size (s .args .arrival) (length (s .args .bytes .now)) (s .pre .1 .0) _ (c .before .before .before .arrival .given .1))
 
-mul-canonical-by : tie.Need-mul-canonical-by
-mul-canonical-by c = search needs
-
-add-canonical-by : tie.Need-add-canonical-by
-add-canonical-by c = search needs
-
-add-canonical-by-2 : tie.Need-add-canonical-by-2
-add-canonical-by-2 c = search needs
-
-mul-canonical-by-2 : tie.Need-mul-canonical-by-2
-mul-canonical-by-2 c = search needs
-
-shared-slice-element-canonical-by : tie.Need-shared-slice-element-canonical-by
-shared-slice-element-canonical-by c =
-    let s = c .before .before .before .before .before .before .before in
-    omega (arith, s .pre .0 .size, c .before .before .wide .ensures, c .before .wide2 .ensures, listed-place (s .args .schema .now) (s .pre .0) (s .args .arrival) (s .args .bytes .now) (c .before .before .before .before .arrival .given .0 .0) (c .before .before .before .before .arrival .given .1) (s .pre .1 .1))
+column-requires : tie.Need-column-requires
+column-requires c κs =
+    let k = c .before .before .before .before in
+    let s = k .before .before .before in
+    let p = listed-place (s .args .schema .now) (s .pre .0) (s .args .arrival) (s .args .bytes .now) (k .arrival .given .0 .0) (k .arrival .given .1) (s .pre .1 .1) in
+    (omega (arith, c .before .before .wide .ensures, p .0), omega (arith, c .before .wide2 .ensures, p .1))
 
 slice-aggregate-canonical-by : tie.Need-slice-aggregate-canonical-by
 slice-aggregate-canonical-by c = search needs
@@ -83,9 +72,10 @@ returns-3 c =
     let p = w .before .before .wide .ensures in
     let q = w .before .wide2 .ensures in
     let r = w .atoms .ensures in
+    let e = c .before .before .column .ensures ∙ (λ j. getD x (columnCell (p j) (q j)) []) in
     let v = k .arrival .given .0 .0 in
     c .canonical-by .ensures
-    ∙ (λ j. canonicalFor (columnFrom (getD x (5 + 6 * p j + q j) [])) (record { count = v .count; atoms = r j }))
+    ∙ (λ j. canonicalFor (columnFrom (e j)) (record { count = v .count; atoms = r j }))
     ∙ canonical-column x (s .pre .0) (s .args .arrival) (s .args .bytes .now) v (k .arrival .given .1) (s .pre .1 .1)
 
 returns-4 : tie.Need-returns-4
@@ -110,11 +100,7 @@ canonical-spec =
     wide-requires
     wide-requires-2
     atoms-requires
-    mul-canonical-by
-    add-canonical-by
-    add-canonical-by-2
-    mul-canonical-by-2
-    shared-slice-element-canonical-by
+    column-requires
     slice-aggregate-canonical-by
     canonical-by-requires
     enum-told-3

@@ -1,31 +1,24 @@
 -- `arrival::canonical_by` meets its contract. Assumes nothing.
-use mathlib.Core.Path.{refl}
+use mathlib.Core.Path.{sym, ap}
 use borrow.Author.Needs.{needs}
-use Rattle.inner.specs.Packed.{columnFrom}
+use Rattle.model.specs.Catalog.{columnFrom, baseNumbered}
 use Rattle.arrival.proofs.canonical_by.Statement.{statement}
 use Rattle.arrival.proofs.canonical_by.Tie as tie
 
-element-copy-out-one : tie.Need-element-copy-out-one
-element-copy-out-one c = search needs
+kind-requires : tie.Need-kind-requires
+kind-requires c κs = search needs
 
-element-copy-out-one-2 : tie.Need-element-copy-out-one-2
-element-copy-out-one-2 c = search needs
-
-element-copy-out-canonical : tie.Need-element-copy-out-canonical
-element-copy-out-canonical c = search needs
+is-scalar-requires : tie.Need-is-scalar-requires
+is-scalar-requires c κs = search needs
 
 canonical-requires : tie.Need-canonical-requires
 canonical-requires c κs = search needs
 
 returns : tie.Need-returns
-returns c = c .canonical .ensures (columnFrom (c .before .before .before .before .args .cell .now)) refl refl
+returns c =
+    let x = c .before .before .before .args .entry .now in
+    c .canonical .ensures (columnFrom x) (sym (ap baseNumbered (c .before .before .kind .ensures))) (sym (c .before .is-scalar .ensures))
 
 pub canonical-by-spec : {M : Type 1} → statement M
 canonical-by-spec =
-    tie.close
-    (tie.spec
-    element-copy-out-one
-    element-copy-out-one-2
-    element-copy-out-canonical
-    canonical-requires
-    returns)
+    tie.close (tie.spec kind-requires is-scalar-requires canonical-requires returns)

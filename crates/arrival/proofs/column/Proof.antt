@@ -8,7 +8,7 @@ use lib.ListN.{getD, replicate}
 use Rattle.inner.proofs.Places.{place-at, place-none}
 use Rattle.inner.proofs.Working.{working-length}
 use Rattle.model.specs.Octets.{value}
-use Rattle.inner.specs.Packed.{packedTables}
+use Rattle.model.specs.Catalog.{packedTables}
 use Rattle.model.specs.Rows.{keyOf}
 use Rattle.inner.specs.Working.{working}
 use Rattle.arrival.specs.Steps.{columnIn}

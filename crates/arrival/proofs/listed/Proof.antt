@@ -6,6 +6,7 @@ use native.Mathlib.Omega.{arith}
 use borrow.Author.Needs.{needs}
 use lib.ListN.{length, take}
 use lib.Seq.{length-take-le}
+use Rattle.catalog.proofs.Laws.{few-tables}
 use Rattle.record.specs.Reading.{arrivalRecord, listedRecord}
 use Rattle.arrival.proofs.listed.Statement.{statement}
 use Rattle.arrival.proofs.listed.Tie as tie
@@ -13,41 +14,45 @@ use Rattle.arrival.proofs.listed.Tie as tie
 counts-of-requires : tie.Need-counts-of-requires
 counts-of-requires c κs = search needs
 
-index-1-wide : tie.Need-index-1-wide
-index-1-wide c = search needs
+index-1-table-count : tie.Need-index-1-table-count
+index-1-table-count c = search needs
 
-index-2-wide : tie.Need-index-2-wide
-index-2-wide c = search needs
+table-count-requires : tie.Need-table-count-requires
+table-count-requires c κs = search needs
 
 wide-requires : tie.Need-wide-requires
 wide-requires c κs = search needs
 
 array-share-prefix-counts : tie.Need-array-share-prefix-counts
-array-share-prefix-counts c = search needs
+array-share-prefix-counts c =
+    let n = few-tables _ (c .before .before .before .before .before .pre .0) in
+    search needs
 
 slice-aggregate-listed : tie.Need-slice-aggregate-listed
 slice-aggregate-listed c =
-    let s = c .before .before .before .before .before in
-    let h : c .before .wide .result ≤ length (c .before .before .before .counts-of .result) = omega (arith, c .before .wide .ensures, s .pre .0 .fit .tables) in
-    omega (arith, length-take-le (c .before .wide .result) (c .before .before .before .counts-of .result) h)
+    let s = c .before .before .before .before .before .before in
+    let r = c .before .before .before .before .counts-of .result in
+    let h : c .before .wide .result ≤ length r = omega (arith, c .before .wide .ensures, c .before .before .table-count .ensures, few-tables _ (s .pre .0)) in
+    omega (arith, length-take-le (c .before .wide .result) r h)
 
 listed-requires : tie.Need-listed-requires
 listed-requires c κs = search needs
 
 returns : tie.Need-returns
 returns c =
-    let s = c .before .before .before .before .before .before in
-    let r = c .before .before .before .before .counts-of .result in
+    let s = c .before .before .before .before .before .before .before in
+    let k = c .before .before .before .before .before in
     c .listed .ensures
-    ∙ ap (λ (l : List ℕ). listedRecord l (arrivalRecord (s .args .arrival) (s .args .bytes .now))) (ap (λ (k : ℕ). take k r) (c .before .before .wide .ensures) ∙ c .before .before .before .before .counts-of .ensures)
+    ∙ ap (λ (l : List ℕ). listedRecord l (arrivalRecord (s .args .arrival) (s .args .bytes .now)))
+    (ap (λ (n : ℕ). take n (k .counts-of .result)) (c .before .before .wide .ensures ∙ c .before .before .before .table-count .ensures) ∙ k .counts-of .ensures)
 
 pub listed-spec : {M : Type 1} → statement M
 listed-spec =
     tie.close
     (tie.spec
     counts-of-requires
-    index-1-wide
-    index-2-wide
+    index-1-table-count
+    table-count-requires
     wide-requires
     array-share-prefix-counts
     slice-aggregate-listed

@@ -1,9 +1,13 @@
 -- `arrival::put_column` meets its contract. Assumes nothing.
-use mathlib.Core.Path.{sym, ap, _∙_}
+use mathlib.Core.Path.{_≡_, sym, ap, _∙_}
 use Prim.Native.Nat.{ℕ, _<_}
 use native.Mathlib.Omega.{arith}
 use borrow.Author.Needs.{needs}
 use lib.ListN.{replicate}
+use Rattle.catalog.proofs.Laws.{few-tables, few-columns}
+use Rattle.model.specs.Limits.{mostTables}
+use Rattle.model.specs.Catalog.{tableCount}
+use Rattle.inner.specs.Working.{tableIn}
 use Rattle.arrival.proofs.Changes.{no-table, no-column, that-column}
 use Rattle.arrival.proofs.put_column.Statement.{statement}
 use Rattle.arrival.proofs.put_column.Tie as tie
@@ -14,14 +18,28 @@ table-of-requires c κs = search needs
 wide-requires : tie.Need-wide-requires
 wide-requires c κs = search needs
 
-index-1-wide : tie.Need-index-1-wide
-index-1-wide c = search needs
+index-1-table-count : tie.Need-index-1-table-count
+index-1-table-count c = search needs
 
-index-2-wide : tie.Need-index-2-wide
-index-2-wide c = search needs
+table-count-requires : tie.Need-table-count-requires
+table-count-requires c κs = search needs
 
 wide-requires-2 : tie.Need-wide-requires-2
 wide-requires-2 c κs = search needs
+
+-- the row's table, and how many tables there are
+module _ (c : tie.After-wide2) where
+  abbrev start : tie.Start
+  start = c .before .before .before .before .before .before
+
+  abbrev table : ℕ
+  table = c .before .before .before .wide .result
+
+  here : table ≡ tableIn (start .args .row .now)
+  here = c .before .before .before .wide .ensures ∙ c .before .before .before .before .table-of .ensures
+
+  tables : c .wide2 .result ≡ tableCount (start .args .schema .now)
+  tables = c .wide2 .ensures ∙ c .before .table-count .ensures
 
 clear-requires : tie.Need-clear-requires
 clear-requires c κs = search needs
@@ -32,24 +50,26 @@ same-length c = search needs
 returns : tie.Need-returns
 returns c =
     let k = c .before .before .before .before in
-    let s = k .before .before .before .before .before .before in
-    let w = k .before .before .before in
-    let here = w .wide .ensures ∙ w .before .table-of .ensures in
+    let e = k .before in
+    let s = start e in
     c .before .before .clear .ensures
     ∙ ap (λ (n : ℕ). replicate n 0) (s .pre .1)
-    ∙ sym (no-table (s .args .schema .now) (s .pre .0) (s .args .row .now) (s .args .c) (w .wide .result) here (omega (arith, k .before .wide2 .ensures, k .if1 .taken)))
+    ∙ sym (no-table (s .args .schema .now) (s .pre .0) (s .args .row .now) (s .args .c) (table e) (here e) (omega (arith, tables e, k .if1 .taken)))
 
-add-wide : tie.Need-add-wide
-add-wide c = search needs
+add-width : tie.Need-add-width
+add-width c = search needs
 
-mul-wide : tie.Need-mul-wide
-mul-wide c = search needs
+mul-width : tie.Need-mul-width
+mul-width c = search needs
 
-index-1-wide-2 : tie.Need-index-1-wide-2
-index-1-wide-2 c = search needs
+index-1-width : tie.Need-index-1-width
+index-1-width c =
+    let e = c .before in
+    let n = few-tables _ (start e .pre .0) in
+    omega (arith, n, tables e, c .if1 .left)
 
-index-2-wide-2 : tie.Need-index-2-wide-2
-index-2-wide-2 c = search needs
+width-requires : tie.Need-width-requires
+width-requires c κs = search needs
 
 wide-requires-3 : tie.Need-wide-requires-3
 wide-requires-3 c κs = search needs
@@ -63,22 +83,20 @@ same-length-2 c = search needs
 returns-2 : tie.Need-returns-2
 returns-2 c =
     let k = c .before .before .before .before in
-    let e = k .before .before .before in
-    let s = e .before .before .before .before .before .before in
-    let w = e .before .before .before in
-    let here = w .wide .ensures ∙ w .before .table-of .ensures in
+    let e = k .before .before .before .before in
+    let s = start (e .before) in
     c .before .before .clear2 .ensures
     ∙ ap (λ (n : ℕ). replicate n 0) (s .pre .1)
-    ∙ sym (no-column (s .args .schema .now) (s .pre .0) (s .args .row .now) (s .args .c) (w .wide .result) here (omega (arith, e .before .wide2 .ensures, e .if1 .left)) (omega (arith, k .before .wide3 .ensures, k .if2 .taken)))
+    ∙ sym (no-column (s .args .schema .now) (s .pre .0) (s .args .row .now) (s .args .c) (table (e .before)) (here (e .before)) (omega (arith, tables (e .before), e .if1 .left)) (omega (arith, k .before .wide3 .ensures, k .before .before .width .ensures, k .if2 .taken)))
 
 put-value-requires : tie.Need-put-value-requires
 put-value-requires c κs =
     let k = c .before in
-    let e = k .before .before .before in
-    let s = e .before .before .before .before .before .before in
-    let w = e .before .before .before in
-    let h : w .wide .result < 4 = omega (arith, e .before .wide2 .ensures, e .if1 .left, s .pre .0 .fit .tables) in
-    (omega (arith, k .if2 .left, k .before .wide3 .ensures, s .pre .0 .fit .columns (w .wide .result) h), s .pre .1)
+    let e = k .before .before .before .before in
+    let s = start (e .before) in
+    let t = table (e .before) in
+    let h : t < mostTables = omega (arith, tables (e .before), e .if1 .left, few-tables _ (s .pre .0)) in
+    (omega (arith, k .if2 .left, k .before .wide3 .ensures, k .before .before .width .ensures, few-columns _ (s .pre .0) t h), s .pre .1)
 
 same-length-3 : tie.Need-same-length-3
 same-length-3 c = search needs
@@ -86,12 +104,10 @@ same-length-3 c = search needs
 returns-3 : tie.Need-returns-3
 returns-3 c =
     let k = c .before .before .before .before in
-    let e = k .before .before .before in
-    let s = e .before .before .before .before .before .before in
-    let w = e .before .before .before in
-    let here = w .wide .ensures ∙ w .before .table-of .ensures in
+    let e = k .before .before .before .before in
+    let s = start (e .before) in
     c .before .before .put-value .ensures
-    ∙ sym (that-column (s .args .schema .now) (s .pre .0) (s .args .row .now) (s .args .c) (w .wide .result) here (omega (arith, e .before .wide2 .ensures, e .if1 .left)) (omega (arith, k .before .wide3 .ensures, k .if2 .left)))
+    ∙ sym (that-column (s .args .schema .now) (s .pre .0) (s .args .row .now) (s .args .c) (table (e .before)) (here (e .before)) (omega (arith, tables (e .before), e .if1 .left)) (omega (arith, k .before .wide3 .ensures, k .before .before .width .ensures, k .if2 .left)))
 
 pub put-column-spec : {M : Type 1} → statement M
 put-column-spec =
@@ -99,16 +115,16 @@ put-column-spec =
     (tie.spec
     table-of-requires
     wide-requires
-    index-1-wide
-    index-2-wide
+    index-1-table-count
+    table-count-requires
     wide-requires-2
     clear-requires
     same-length
     returns
-    add-wide
-    mul-wide
-    index-1-wide-2
-    index-2-wide-2
+    add-width
+    mul-width
+    index-1-width
+    width-requires
     wide-requires-3
     clear-requires-2
     same-length-2

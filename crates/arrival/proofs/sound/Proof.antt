@@ -2,7 +2,7 @@
 use mathlib.Core.Path.{sym, _∙_}
 use borrow.Author.Needs.{needs}
 use borrow.Author.Tests.{not-true, not-false}
-use Rattle.inner.specs.Packed.{packedTables}
+use Rattle.model.specs.Catalog.{packedTables}
 use Rattle.record.specs.Reading.{arrivalRecord}
 use Rattle.arrival.proofs.Records.{sound-not, sound-canonical}
 use Rattle.arrival.proofs.sound.Statement.{statement}

@@ -1,8 +1,10 @@
 -- `arrivals::line` meets its contract. Assumes nothing.
 use mathlib.Core.Path.{sym}
+use Prim.Native.Nat.{_-_}
 use native.Mathlib.Omega.{arith}
 use lib.Seq.{length-take-le}
 use borrow.Author.Needs.{needs}
+use Rattle.model.specs.Limits.{mirrorBytes}
 use Rattle.arrivals.proofs.line.Statement.{statement}
 use Rattle.arrivals.proofs.line.Tie as tie
 
@@ -12,16 +14,19 @@ returns c = search needs
 shared-slice-read-if2 : tie.Need-shared-slice-read-if2
 shared-slice-read-if2 c = search needs
 
+sub-one : tie.Need-sub-one
+sub-one c = search needs
+
 slice-relend-prefix-one : tie.Need-slice-relend-prefix-one
 slice-relend-prefix-one c = search needs
 
 slice-aggregate-one : tie.Need-slice-aggregate-one
 slice-aggregate-one c =
     let s = c .before .before .before .before .before .before in
-    sym (length-take-le 24112 (s .args .area .now) (omega (arith, s .pre)))
+    sym (length-take-le (mirrorBytes - 1) (s .args .area .now) (omega (arith, s .pre)))
 
-sub-one : tie.Need-sub-one
-sub-one c = search needs
+sub-one-2 : tie.Need-sub-one-2
+sub-one-2 c = search needs
 
 part-one-start : tie.Need-part-one-start
 part-one-start c = search needs
@@ -53,9 +58,10 @@ line-spec =
     (tie.spec
     returns
     shared-slice-read-if2
+    sub-one
     slice-relend-prefix-one
     slice-aggregate-one
-    sub-one
+    sub-one-2
     part-one-start
     part-one-end
     one-requires

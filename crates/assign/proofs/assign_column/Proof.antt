@@ -1,7 +1,7 @@
 -- `assign::assign_column` meets its contract. Assumes nothing.
 use Rattle.inner.specs.Positions.{treeAt}
 use Rattle.model.specs.Members.{membersIn}
-use Rattle.inner.specs.Packed.{columnFrom}
+use Rattle.model.specs.Catalog.{columnFrom}
 use Rattle.uuids.specs.Named.{namesAt}
 use native.Mathlib.Omega.{arith}
 use Rattle.judged.proofs.Fits.{row-fits}
@@ -12,8 +12,8 @@ use borrow.Author.Needs.{needs}
 use Rattle.assign.proofs.assign_column.Statement.{statement}
 use Rattle.assign.proofs.assign_column.Tie as tie
 
-cell-name-requires : tie.Need-cell-name-requires
-cell-name-requires c κs = search needs
+name-of-requires : tie.Need-name-of-requires
+name-of-requires c κs = search needs
 
 find-requires : tie.Need-find-requires
 find-requires c κs = search needs
@@ -29,7 +29,7 @@ count-at-requires c κs =
     let n = namesAt (a .text .now) (a .ops) (a .fresh .now) in
     let x = columnFrom (a .column .now) in
     let ms = membersIn (treeAt (a .text .now) (a .at)) in
-    let p = find-there (a .text .now) ms (k .find .ensures) (k .before .cell-name .ensures) (c .before .f .given .1) in
+    let p = find-there (a .text .now) ms (k .find .ensures) (k .before .name-of .ensures) (c .before .f .given .1) in
     (s .pre .0 .says, p .1)
 
 row-atoms-requires : tie.Need-row-atoms-requires
@@ -40,7 +40,7 @@ row-atoms-requires c κs =
     let n = namesAt (a .text .now) (a .ops) (a .fresh .now) in
     let x = columnFrom (a .column .now) in
     let ms = membersIn (treeAt (a .text .now) (a .at)) in
-    let p = find-there (a .text .now) ms (k .find .ensures) (k .before .cell-name .ensures) (c .before .before .f .given .1) in
+    let p = find-there (a .text .now) ms (k .find .ensures) (k .before .name-of .ensures) (c .before .before .f .given .1) in
     (s .pre .0, (p .1, sound-there n ms x (p .0) (s .pre .1 .1 .0)))
 
 cast-set-column : tie.Need-cast-set-column
@@ -51,7 +51,7 @@ cast-set-column c =
     let n = namesAt (a .text .now) (a .ops) (a .fresh .now) in
     let x = columnFrom (a .column .now) in
     let ms = membersIn (treeAt (a .text .now) (a .at)) in
-    let p = find-there (a .text .now) ms (k .find .ensures) (k .before .cell-name .ensures) (c .before .before .before .before .f .given .1) in
+    let p = find-there (a .text .now) ms (k .find .ensures) (k .before .name-of .ensures) (c .before .before .before .before .f .given .1) in
     omega (arith, row-fits n x (treeAt (a .text .now) (c .before .before .before .before .f .given .0 .0)) (sound-there n ms x (p .0) (s .pre .1 .1 .0)) .few, c .before .before .count-at .ensures)
 
 set-column-requires : tie.Need-set-column-requires
@@ -68,7 +68,7 @@ returns c =
     let n = namesAt (a .text .now) (a .ops) (a .fresh .now) in
     let x = columnFrom (a .column .now) in
     let ms = membersIn (treeAt (a .text .now) (a .at)) in
-    let p = find-there (a .text .now) ms (k .find .ensures) (k .before .cell-name .ensures) (c .before .before .before .before .before .before .f .given .1) in
+    let p = find-there (a .text .now) ms (k .find .ensures) (k .before .name-of .ensures) (c .before .before .before .before .before .before .f .given .1) in
     column-set (a .c) (a .row .now) (c .set-column .ensures) (value-is n x (treeAt (a .text .now) (c .before .before .before .before .before .before .f .given .0 .0)) (sound-there n ms x (p .0) (s .pre .1 .1 .0)) (c .before .before .before .before .count-at .ensures) (c .before .before .before .row-atoms .ensures)) (value-there n ms x (p .0))
 
 returns-2 : tie.Need-returns-2
@@ -79,13 +79,13 @@ returns-2 c =
     let n = namesAt (a .text .now) (a .ops) (a .fresh .now) in
     let x = columnFrom (a .column .now) in
     let ms = membersIn (treeAt (a .text .now) (a .at)) in
-    column-kept (a .c) (a .row .now) (value-missing n ms x (find-missing (a .text .now) ms (k .find .ensures) (k .before .cell-name .ensures) (c .enum-told .given .1)))
+    column-kept (a .c) (a .row .now) (value-missing n ms x (find-missing (a .text .now) ms (k .find .ensures) (k .before .name-of .ensures) (c .enum-told .given .1)))
 
 pub assign-column-spec : {M : Type 1} → statement M
 assign-column-spec =
     tie.close
     (tie.spec
-    cell-name-requires
+    name-of-requires
     find-requires
     enum-known-f
     count-at-requires

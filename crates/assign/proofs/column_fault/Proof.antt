@@ -1,15 +1,15 @@
 -- `assign::column_fault` meets its contract. Assumes nothing.
 use Rattle.inner.specs.Positions.{treeAt}
 use Rattle.model.specs.Members.{membersIn}
-use Rattle.inner.specs.Packed.{columnFrom}
+use Rattle.model.specs.Catalog.{columnFrom}
 use Rattle.uuids.specs.Named.{namesAt}
 use Rattle.assign.proofs.Faults.{find-there, find-missing, fault-named, fault-absent}
 use borrow.Author.Needs.{needs}
 use Rattle.assign.proofs.column_fault.Statement.{statement}
 use Rattle.assign.proofs.column_fault.Tie as tie
 
-cell-name-requires : tie.Need-cell-name-requires
-cell-name-requires c κs = search needs
+name-of-requires : tie.Need-name-of-requires
+name-of-requires c κs = search needs
 
 find-requires : tie.Need-find-requires
 find-requires c κs = search needs
@@ -25,7 +25,7 @@ row-fault-requires c κs =
     let n = namesAt (a .text .now) (a .ops) (a .fresh .now) in
     let x = columnFrom (a .column .now) in
     let ms = membersIn (treeAt (a .text .now) (a .at)) in
-    let p = find-there (a .text .now) ms (k .find .ensures) (k .before .cell-name .ensures) (c .before .f .given .1) in
+    let p = find-there (a .text .now) ms (k .find .ensures) (k .before .name-of .ensures) (c .before .f .given .1) in
     (s .pre .0, p .1)
 
 named-fault-requires : tie.Need-named-fault-requires
@@ -48,7 +48,7 @@ returns c =
     let n = namesAt (a .text .now) (a .ops) (a .fresh .now) in
     let x = columnFrom (a .column .now) in
     let ms = membersIn (treeAt (a .text .now) (a .at)) in
-    let p = find-there (a .text .now) ms (k .find .ensures) (k .before .cell-name .ensures) (c .before .before .before .before .f .given .1) in
+    let p = find-there (a .text .now) ms (k .find .ensures) (k .before .name-of .ensures) (c .before .before .before .before .f .given .1) in
     fault-named (a .insert) n ms x (p .0) (c .before .before .row-fault .ensures) (c .before .named-fault .ensures) (c .earlier .ensures)
 
 returns-2 : tie.Need-returns-2
@@ -59,13 +59,13 @@ returns-2 c =
     let n = namesAt (a .text .now) (a .ops) (a .fresh .now) in
     let x = columnFrom (a .column .now) in
     let ms = membersIn (treeAt (a .text .now) (a .at)) in
-    fault-absent (a .insert) n ms x (find-missing (a .text .now) ms (k .find .ensures) (k .before .cell-name .ensures) (c .before .enum-told .given .1)) (c .absent-fault .ensures)
+    fault-absent (a .insert) n ms x (find-missing (a .text .now) ms (k .find .ensures) (k .before .name-of .ensures) (c .before .enum-told .given .1)) (c .absent-fault .ensures)
 
 pub column-fault-spec : {M : Type 1} → statement M
 column-fault-spec =
     tie.close
     (tie.spec
-    cell-name-requires
+    name-of-requires
     find-requires
     enum-known-f
     row-fault-requires

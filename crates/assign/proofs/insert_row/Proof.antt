@@ -1,7 +1,7 @@
 -- `assign::insert_row` meets its contract. Assumes nothing.
 use mathlib.Core.List.{map}
 use Rattle.model.specs.Octets.{value}
-use Rattle.inner.specs.Packed.{columnFrom}
+use Rattle.model.specs.Catalog.{columnFrom}
 use mathlib.Core.Bool.{true}
 use Rattle.assign.specs.Assigned.{writtenRow}
 use Rattle.assign.proofs.Values.{row-got, row-sound, got-length}

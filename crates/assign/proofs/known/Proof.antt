@@ -3,7 +3,7 @@ use borrow.Author.Needs.{needs}
 use mathlib.Core.List.{map}
 use Rattle.inner.specs.Positions.{treeAt, left}
 use Rattle.model.specs.Members.{membersIn}
-use Rattle.inner.specs.Packed.{columnFrom}
+use Rattle.model.specs.Catalog.{columnFrom}
 use Rattle.nav.proofs.Walk.{pass-less}
 use Rattle.assign.proofs.Faults.{Knows, knows-start, knows-on, knows-not, knows-end}
 use Rattle.assign.proofs.known.Statement.{statement}

@@ -5,7 +5,7 @@ use mathlib.Core.Bool.{false}
 use Prim.Native.Nat.{_-_, _≤_}
 use native.Mathlib.Omega.{arith}
 use lib.ListN.{length}
-use Rattle.inner.specs.Packed.{columnFrom}
+use Rattle.model.specs.Catalog.{columnFrom}
 use Rattle.conditions.specs.Tests.{testsAt}
 use Rattle.assign.specs.Assigned.{writtenRow}
 use Rattle.assign.proofs.Values.{row-got, row-sound, got-length}

@@ -5,7 +5,7 @@ use lib.Dec.{ltb}
 use lib.ListN.{take}
 use native.Mathlib.Omega.{arith}
 use Rattle.model.specs.Octets.{value}
-use Rattle.atom.specs.Bytes.{halves}
+use Rattle.leaf.specs.Bytes.{halves}
 use Rattle.atom.proofs.Types.{halves-less}
 use borrow.Author.Needs.{needs}
 use Rattle.atom.proofs.less_integers.Statement.{statement}
@@ -14,25 +14,25 @@ use Rattle.atom.proofs.less_integers.Tie as tie
 number-requires : tie.Need-number-requires
 number-requires c κs = search needs
 
-turned-requires : tie.Need-turned-requires
-turned-requires c κs = search needs
+turn-requires : tie.Need-turn-requires
+turn-requires c κs = search needs
 
 number-requires-2 : tie.Need-number-requires-2
 number-requires-2 c κs = search needs
 
-turned-requires-2 : tie.Need-turned-requires-2
-turned-requires-2 c κs = search needs
+turn-requires-2 : tie.Need-turn-requires-2
+turn-requires-2 c κs = search needs
 
 returns : tie.Need-returns
 returns c =
     let s = c .before .before .before .before .before .before in
     let x = value (take 8 (s .args .a .now)) in
     let y = value (take 8 (s .args .b .now)) in
-    ap (λ (n : ℕ). ltb n (c .turned2 .result)) (c .before .before .before .turned .ensures ∙ ap halves (c .before .before .before .before .number .ensures))
-    ∙ ap (ltb (halves x)) (c .turned2 .ensures ∙ ap halves (c .before .number2 .ensures))
+    ap (λ (n : ℕ). ltb n (c .turn2 .result)) (c .before .before .before .turn .ensures ∙ ap halves (c .before .before .before .before .number .ensures))
+    ∙ ap (ltb (halves x)) (c .turn2 .ensures ∙ ap halves (c .before .number2 .ensures))
     ∙ halves-less x y (omega (arith, c .before .before .before .before .number .ensures)) (omega (arith, c .before .number2 .ensures))
 
 pub less-integers-spec : {M : Type 1} → statement M
 less-integers-spec =
     tie.close
-    (tie.spec number-requires turned-requires number-requires-2 turned-requires-2 returns)
+    (tie.spec number-requires turn-requires number-requires-2 turn-requires-2 returns)

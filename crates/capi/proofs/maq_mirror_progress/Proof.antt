@@ -5,7 +5,7 @@ use Prim.Native.Nat.{ℕ}
 use native.Mathlib.Omega.{arith}
 use lib.ListN.{length, length-set}
 use Rattle.model.specs.Octets.{big}
-use Rattle.model.specs.Areas.{bit}
+use Rattle.model.specs.Catalog.{bit}
 use Rattle.capi.proofs.Telling.{progress-numbered, last-byte, progress-other, progress-told}
 use borrow.Author.Needs.{needs}
 use Rattle.capi.proofs.maq_mirror_progress.Statement.{statement}

@@ -6,7 +6,7 @@ use native.Mathlib.Omega.{arith}
 use borrow.Author.Tests.{not-true, not-false}
 use lib.ListN.{length}
 use Rattle.model.specs.Schema.{columnsOf}
-use Rattle.inner.specs.Packed.{packedTables}
+use Rattle.model.specs.Catalog.{packedTables}
 use Rattle.inner.specs.Working.{tableIn, idIn}
 use Rattle.references.proofs.Packs.{few-columns}
 use Rattle.changes.specs.Walk.{skips}

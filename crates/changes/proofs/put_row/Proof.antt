@@ -1,7 +1,7 @@
 -- `changes::put_row` meets its contract. Assumes nothing.
 use mathlib.Core.Path.{sym, _∙_}
 use native.Mathlib.Omega.{arith}
-use Rattle.inner.specs.Packed.{packedTables}
+use Rattle.model.specs.Catalog.{packedTables}
 use Rattle.changes.specs.Walk.{rowMost}
 use Rattle.changes.proofs.Writing.{recorded-none, recorded-is, recorded-then}
 use Rattle.changes.proofs.Rows.{most-gone, most-other, found-within, row-kept, row-gone, row-new, row-changed}
@@ -9,8 +9,8 @@ use borrow.Author.Needs.{needs}
 use Rattle.changes.proofs.put_row.Statement.{statement}
 use Rattle.changes.proofs.put_row.Tie as tie
 
-place-of-requires : tie.Need-place-of-requires
-place-of-requires c κs = search needs
+find-row-requires : tie.Need-find-row-requires
+find-row-requires c κs = search needs
 
 enum-known-found : tie.Need-enum-known-found
 enum-known-found c = search needs
@@ -21,7 +21,7 @@ returns c =
     let p = f .before .before in
     let s = p .before .before in
     let S = packedTables (s .args .schema .now) in
-    recorded-is (recorded-none (s .args .run) (s .args .number) (s .args .to) (s .args .records .now) (s .pre .1 .1 .few)) (row-kept S (s .args .others .now) (s .args .k) (s .pre .1 .0) (s .args .row .now) (s .args .gone) _ (sym (p .place-of .ensures S) ∙ f .found .given .1) (c .if1 .taken)) (rowMost (s .args .gone)) (omega arith)
+    recorded-is (recorded-none (s .args .run) (s .args .number) (s .args .to) (s .args .records .now) (s .pre .1 .1 .few)) (row-kept S (s .args .others .now) (s .args .k) (s .pre .1 .0) (s .args .row .now) (s .args .gone) _ (sym (p .find-row .ensures S) ∙ f .found .given .1) (c .if1 .taken)) (rowMost (s .args .gone)) (omega arith)
 
 mul-put-columns : tie.Need-mul-put-columns
 mul-put-columns c =
@@ -29,7 +29,7 @@ mul-put-columns c =
     let p = f .before .before in
     let s = p .before .before in
     let S = packedTables (s .args .schema .now) in
-    omega (arith, s .good, s .pre .1 .0, found-within S (s .args .others .now) (s .args .k) (s .pre .1 .0) (s .args .row .now) (s .args .gone) _ (sym (p .place-of .ensures S) ∙ f .found .given .1))
+    omega (arith, s .good, s .pre .1 .0, found-within S (s .args .others .now) (s .args .k) (s .pre .1 .0) (s .args .row .now) (s .args .gone) _ (sym (p .find-row .ensures S) ∙ f .found .given .1))
 
 shared-slice-element-put-columns : tie.Need-shared-slice-element-put-columns
 shared-slice-element-put-columns c =
@@ -37,7 +37,7 @@ shared-slice-element-put-columns c =
     let p = f .before .before in
     let s = p .before .before in
     let S = packedTables (s .args .schema .now) in
-    omega (arith, s .pre .1 .0, found-within S (s .args .others .now) (s .args .k) (s .pre .1 .0) (s .args .row .now) (s .args .gone) _ (sym (p .place-of .ensures S) ∙ f .found .given .1))
+    omega (arith, s .pre .1 .0, found-within S (s .args .others .now) (s .args .k) (s .pre .1 .0) (s .args .row .now) (s .args .gone) _ (sym (p .find-row .ensures S) ∙ f .found .given .1))
 
 put-columns-requires : tie.Need-put-columns-requires
 put-columns-requires c κs =
@@ -66,7 +66,7 @@ returns-2 c =
     let f = t .before in let p = f .before .before in
     let s = p .before .before in
     let S = packedTables (s .args .schema .now) in
-    recorded-is (q .put-gone .ensures) (row-gone S (s .args .others .now) (s .args .k) (s .pre .1 .0) (s .args .row .now) (s .args .gone) (sym (p .place-of .ensures S) ∙ f .enum-told .given .1) (t .if2 .taken)) (rowMost (s .args .gone)) (omega (arith, most-gone (s .args .gone) (t .if2 .taken)))
+    recorded-is (q .put-gone .ensures) (row-gone S (s .args .others .now) (s .args .k) (s .pre .1 .0) (s .args .row .now) (s .args .gone) (sym (p .find-row .ensures S) ∙ f .enum-told .given .1) (t .if2 .taken)) (rowMost (s .args .gone)) (omega (arith, most-gone (s .args .gone) (t .if2 .taken)))
 
 put-born-requires : tie.Need-put-born-requires
 put-born-requires c κs =
@@ -94,7 +94,7 @@ returns-3 c =
     let f = e .before .before in let p = f .before .before in
     let s = p .before .before in
     let S = packedTables (s .args .schema .now) in
-    recorded-is (k .put-columns .ensures) (row-changed S (s .args .others .now) (s .args .k) (s .pre .1 .0) (s .args .row .now) (s .args .gone) _ (sym (p .place-of .ensures S) ∙ f .found .given .1) (e .if1 .left)) (rowMost (s .args .gone)) (omega (arith, most-other (s .args .gone) (e .if1 .left)))
+    recorded-is (k .put-columns .ensures) (row-changed S (s .args .others .now) (s .args .k) (s .pre .1 .0) (s .args .row .now) (s .args .gone) _ (sym (p .find-row .ensures S) ∙ f .found .given .1) (e .if1 .left)) (rowMost (s .args .gone)) (omega (arith, most-other (s .args .gone) (e .if1 .left)))
 
 same-length-3 : tie.Need-same-length-3
 same-length-3 c = search needs
@@ -107,13 +107,13 @@ returns-4 c =
     let f = e .before in let p = f .before .before in
     let s = p .before .before in
     let S = packedTables (s .args .schema .now) in
-    recorded-is (recorded-then (b .put-born .ensures) (k .put-columns2 .ensures)) (row-new S (s .args .others .now) (s .args .k) (s .pre .1 .0) (s .args .row .now) (s .args .gone) (sym (p .place-of .ensures S) ∙ f .enum-told .given .1) (e .if2 .left)) (rowMost (s .args .gone)) (omega (arith, most-other (s .args .gone) (e .if2 .left)))
+    recorded-is (recorded-then (b .put-born .ensures) (k .put-columns2 .ensures)) (row-new S (s .args .others .now) (s .args .k) (s .pre .1 .0) (s .args .row .now) (s .args .gone) (sym (p .find-row .ensures S) ∙ f .enum-told .given .1) (e .if2 .left)) (rowMost (s .args .gone)) (omega (arith, most-other (s .args .gone) (e .if2 .left)))
 
 pub put-row-spec : {M : Type 1} → statement M
 put-row-spec =
     tie.close
     (tie.spec
-    place-of-requires
+    find-row-requires
     enum-known-found
     returns
     mul-put-columns

@@ -4,7 +4,7 @@ use Prim.Native.Nat.{ℕ, _+_, _*_, _-_, _≤_}
 use native.Mathlib.Nat.{mul-le-mul-left}
 use native.Mathlib.Omega.{arith}
 use lib.ListN.{drop}
-use Rattle.inner.specs.Packed.{packedTables}
+use Rattle.model.specs.Catalog.{packedTables}
 use Rattle.inner.specs.Working.{working}
 use Rattle.changes.specs.Walk.{rowMost, pass}
 use Rattle.changes.proofs.Writing.{Along, along-all, along-is, along-next, along-end}

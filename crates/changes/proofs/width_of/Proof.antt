@@ -4,7 +4,7 @@ use Prim.Native.Nat.{ℕ}
 use native.Mathlib.Omega.{arith}
 use lib.ListN.{length}
 use Rattle.model.specs.Schema.{columnsOf}
-use Rattle.inner.specs.Packed.{packedTables}
+use Rattle.model.specs.Catalog.{packedTables}
 use borrow.Author.Needs.{needs}
 use Rattle.changes.proofs.width_of.Statement.{statement}
 use Rattle.changes.proofs.width_of.Tie as tie

@@ -15,8 +15,8 @@ returns c =
 kind-at-requires : tie.Need-kind-at-requires
 kind-at-requires c κs = search needs
 
-is-text-requires : tie.Need-is-text-requires
-is-text-requires c κs = search needs
+is-kind-requires : tie.Need-is-kind-requires
+is-kind-requires c κs = search needs
 
 name-at-requires : tie.Need-name-at-requires
 name-at-requires c κs = search needs
@@ -38,7 +38,7 @@ returns-2 c =
     let it = nm .before .before in
     let el = it .before .before in
     let a = el .before .before .before .args in
-    let y = sym (it .is-text .ensures ∙ ap isText (it .before .kind-at .ensures)) ∙ nm .before .if2 .taken in
+    let y = sym (it .is-kind .ensures ∙ ap isText (it .before .kind-at .ensures)) ∙ nm .before .if2 .taken in
     λ given e. name-good (a .text .now) (a .ops) (a .i) given e (a .p) (el .if1 .left) y (tx .text-of .ensures ∙ ap textOf (nm .name-at .ensures)) (sym (id .is-id .ensures) ∙ c .before .if3 .taken) (c .taken-fault .ensures)
 
 returns-3 : tie.Need-returns-3
@@ -49,7 +49,7 @@ returns-3 c =
     let it = nm .before .before in
     let el = it .before .before in
     let a = el .before .before .before .args in
-    let y = sym (it .is-text .ensures ∙ ap isText (it .before .kind-at .ensures)) ∙ nm .before .if2 .taken in
+    let y = sym (it .is-kind .ensures ∙ ap isText (it .before .kind-at .ensures)) ∙ nm .before .if2 .taken in
     λ given e. name-bad (a .text .now) (a .ops) (a .i) given e (a .p) (el .if1 .left) y (tx .text-of .ensures ∙ ap textOf (nm .name-at .ensures)) (sym (id .is-id .ensures) ∙ c .if3 .left)
 
 returns-4 : tie.Need-returns-4
@@ -57,7 +57,7 @@ returns-4 c =
     let it = c .before in
     let el = it .before .before in
     let a = el .before .before .before .args in
-    λ given e. name-other (a .text .now) (a .ops) (a .i) given e (a .p) (el .if1 .left) (sym (it .is-text .ensures ∙ ap isText (it .before .kind-at .ensures)) ∙ c .if2 .left)
+    λ given e. name-other (a .text .now) (a .ops) (a .i) given e (a .p) (el .if1 .left) (sym (it .is-kind .ensures ∙ ap isText (it .before .kind-at .ensures)) ∙ c .if2 .left)
 
 pub name-fault-spec : {M : Type 1} → statement M
 name-fault-spec =
@@ -65,7 +65,7 @@ name-fault-spec =
     (tie.spec
     returns
     kind-at-requires
-    is-text-requires
+    is-kind-requires
     name-at-requires
     text-of-requires
     is-id-requires

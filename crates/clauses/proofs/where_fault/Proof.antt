@@ -12,8 +12,8 @@ use Rattle.clauses.proofs.where_fault.Tie as tie
 kind-in-requires : tie.Need-kind-in-requires
 kind-in-requires c κs = search needs
 
-is-array-requires : tie.Need-is-array-requires
-is-array-requires c κs = search needs
+is-kind-requires : tie.Need-is-kind-requires
+is-kind-requires c κs = search needs
 
 first-requires : tie.Need-first-requires
 first-requires c κs = search needs
@@ -23,7 +23,7 @@ tests-fault-requires c κs =
     let ia = c .before .before in
     let st = ia .before .before .before .before .before in
     let a = st .args in
-    let y = sym (ia .is-array .ensures ∙ ap isArray (ia .before .kind-in .ensures)) ∙ c .before .if1 .taken in
+    let y = sym (ia .is-kind .ensures ∙ ap isArray (ia .before .kind-in .ensures)) ∙ c .before .if1 .taken in
     (st .pre .0, (ap (itemsFine (a .text .now)) (c .first .ensures) ∙ array-fine (a .text .now) (a .p) (st .pre .1 .0) y, st .pre .1 .1))
 
 returns : tie.Need-returns
@@ -31,7 +31,7 @@ returns c =
     let ia = c .before .before .before in
     let st = ia .before .before .before .before .before in
     let a = st .args in
-    let y = sym (ia .is-array .ensures ∙ ap isArray (ia .before .kind-in .ensures)) ∙ c .before .before .if1 .taken in
+    let y = sym (ia .is-kind .ensures ∙ ap isArray (ia .before .kind-in .ensures)) ∙ c .before .before .if1 .taken in
     c .tests-fault .ensures ∙ ap (λ (f : Found). testsAt (a .text .now) (a .ops) (a .fresh .now) (a .columns .now) f .fault) (c .before .first .ensures) ∙ sym (ap (λ j. j .fault) (where-is (a .text .now) (a .ops) (a .fresh .now) (a .columns .now) (a .p) (st .pre .1 .0) y))
 
 returns-2 : tie.Need-returns-2
@@ -39,14 +39,14 @@ returns-2 c =
     let ia = c .before in
     let st = ia .before .before .before .before .before in
     let a = st .args in
-    sym (where-not (a .text .now) (a .ops) (a .fresh .now) (a .columns .now) (a .p) (sym (ia .is-array .ensures ∙ ap isArray (ia .before .kind-in .ensures)) ∙ c .if1 .left))
+    sym (where-not (a .text .now) (a .ops) (a .fresh .now) (a .columns .now) (a .p) (sym (ia .is-kind .ensures ∙ ap isArray (ia .before .kind-in .ensures)) ∙ c .if1 .left))
 
 pub where-fault-spec : {M : Type 1} → statement M
 where-fault-spec =
     tie.close
     (tie.spec
     kind-in-requires
-    is-array-requires
+    is-kind-requires
     first-requires
     tests-fault-requires
     returns

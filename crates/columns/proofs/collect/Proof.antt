@@ -18,7 +18,6 @@ use Rattle.columns.proofs.has_from.Reads as has-from-reads
 use Rattle.names.proofs.is_id.Reads as is-id-reads
 use Rattle.names.proofs.name_at.Reads as name-at-reads
 use Rattle.nav.proofs.first.Reads as first-reads
-use Rattle.nav.proofs.is_object.Reads as is-object-reads
 use Rattle.nav.proofs.kind_at.Reads as kind-at-reads
 use Rattle.nav.proofs.next_member.Reads as next-member-reads
 
@@ -31,8 +30,8 @@ abbrev μ-loop : tie.MeasureT-loop
 kind-at-requires : tie.Need-kind-at-requires Inv-loop μ-loop
 kind-at-requires c κs = tt
 
-is-object-requires : tie.Need-is-object-requires Inv-loop μ-loop
-is-object-requires c κs = tt
+is-kind-requires : tie.Need-is-kind-requires Inv-loop μ-loop
+is-kind-requires c κs = tt
 
 first-requires : tie.Need-first-requires Inv-loop μ-loop
 first-requires c κs = tt
@@ -70,7 +69,7 @@ has-from-requires c κs =
     let ka = io .before in
     let st = ka .before .before .before .before in
     let s = st .args .text .now in
-    let o = sym (io .is-object .ensures ∙ ap isObject (ka .kind-at .ensures)) ∙ th .if1 .taken in
+    let o = sym (io .is-kind .ensures ∙ ap isObject (ka .kind-at .ensures)) ∙ th .if1 .taken in
     let wq = to .text-of .ensures ∙ ap textOf (na .name-at .ensures) in
     let id = sym (ii .is-id .ensures ∙ ap isId wq) in
     (st .pre .0, rw (nm .next-member .ensures) (pass-fine s (gg .g .given .1) (l .loop .inv .fine)))
@@ -96,7 +95,7 @@ returns c =
     let ka = io .before in
     let st = ka .before .before .before .before in
     let s = st .args .text .now in
-    let o = sym (io .is-object .ensures ∙ ap isObject (ka .kind-at .ensures)) ∙ th .if1 .taken in
+    let o = sym (io .is-kind .ensures ∙ ap isObject (ka .kind-at .ensures)) ∙ th .if1 .taken in
     let wq = to .text-of .ensures ∙ ap textOf (na .name-at .ensures) in
     let id = sym (ii .is-id .ensures ∙ ap isId wq) in
     let hf = c .before .before in
@@ -116,7 +115,7 @@ mul-places c =
     let ka = io .before in
     let st = ka .before .before .before .before in
     let s = st .args .text .now in
-    let o = sym (io .is-object .ensures ∙ ap isObject (ka .kind-at .ensures)) ∙ th .if1 .taken in
+    let o = sym (io .is-kind .ensures ∙ ap isObject (ka .kind-at .ensures)) ∙ th .if1 .taken in
     let wq = to .text-of .ensures ∙ ap textOf (na .name-at .ensures) in
     let id = sym (ii .is-id .ensures ∙ ap isId wq) in
     let f = l .loop .inv .few in
@@ -146,7 +145,7 @@ add-n c =
     let ka = io .before in
     let st = ka .before .before .before .before in
     let s = st .args .text .now in
-    let o = sym (io .is-object .ensures ∙ ap isObject (ka .kind-at .ensures)) ∙ th .if1 .taken in
+    let o = sym (io .is-kind .ensures ∙ ap isObject (ka .kind-at .ensures)) ∙ th .if1 .taken in
     let wq = to .text-of .ensures ∙ ap textOf (na .name-at .ensures) in
     let id = sym (ii .is-id .ensures ∙ ap isId wq) in
     let f = l .loop .inv .few in
@@ -174,7 +173,7 @@ returns-2 c =
     let ka = io .before in
     let st = ka .before .before .before .before in
     let s = st .args .text .now in
-    let o = sym (io .is-object .ensures ∙ ap isObject (ka .kind-at .ensures)) ∙ th .if1 .taken in
+    let o = sym (io .is-kind .ensures ∙ ap isObject (ka .kind-at .ensures)) ∙ th .if1 .taken in
     let wq = to .text-of .ensures ∙ ap textOf (na .name-at .ensures) in
     let id = sym (ii .is-id .ensures ∙ ap isId wq) in
     name-bad s (st .args .most) (st .pre .1 .1 .0) (st .args .at) o (l .loop .inv) (gg .g .given .1) (id ∙ c .if2 .left)
@@ -192,7 +191,7 @@ loop-less c =
     let ka = io .before in
     let st = ka .before .before .before .before in
     let s = st .args .text .now in
-    let o = sym (io .is-object .ensures ∙ ap isObject (ka .kind-at .ensures)) ∙ th .if1 .taken in
+    let o = sym (io .is-kind .ensures ∙ ap isObject (ka .kind-at .ensures)) ∙ th .if1 .taken in
     let wq = to .text-of .ensures ∙ ap textOf (na .name-at .ensures) in
     let id = sym (ii .is-id .ensures ∙ ap isId wq) in
     rw (nm .next-member .ensures) (pass-less s (gg .g .given .1))
@@ -210,7 +209,7 @@ loop-again c =
     let ka = io .before in
     let st = ka .before .before .before .before in
     let s = st .args .text .now in
-    let o = sym (io .is-object .ensures ∙ ap isObject (ka .kind-at .ensures)) ∙ th .if1 .taken in
+    let o = sym (io .is-kind .ensures ∙ ap isObject (ka .kind-at .ensures)) ∙ th .if1 .taken in
     let wq = to .text-of .ensures ∙ ap textOf (na .name-at .ensures) in
     let id = sym (ii .is-id .ensures ∙ ap isId wq) in
     let hf = c .before in
@@ -230,7 +229,7 @@ loop-less-2 c =
     let ka = io .before in
     let st = ka .before .before .before .before in
     let s = st .args .text .now in
-    let o = sym (io .is-object .ensures ∙ ap isObject (ka .kind-at .ensures)) ∙ th .if1 .taken in
+    let o = sym (io .is-kind .ensures ∙ ap isObject (ka .kind-at .ensures)) ∙ th .if1 .taken in
     let wq = to .text-of .ensures ∙ ap textOf (na .name-at .ensures) in
     let id = sym (ii .is-id .ensures ∙ ap isId wq) in
     rw (nm .next-member .ensures) (pass-less s (gg .g .given .1))
@@ -248,7 +247,7 @@ loop-again-2 c =
     let ka = io .before in
     let st = ka .before .before .before .before in
     let s = st .args .text .now in
-    let o = sym (io .is-object .ensures ∙ ap isObject (ka .kind-at .ensures)) ∙ th .if1 .taken in
+    let o = sym (io .is-kind .ensures ∙ ap isObject (ka .kind-at .ensures)) ∙ th .if1 .taken in
     let wq = to .text-of .ensures ∙ ap textOf (na .name-at .ensures) in
     let id = sym (ii .is-id .ensures ∙ ap isId wq) in
     let hf = c .before .before in
@@ -271,7 +270,7 @@ returns-3 c =
     let io = th .before in
     let ka = io .before in
     let st = ka .before .before .before .before in
-    let o = sym (io .is-object .ensures ∙ ap isObject (ka .kind-at .ensures)) ∙ th .if1 .taken in
+    let o = sym (io .is-kind .ensures ∙ ap isObject (ka .kind-at .ensures)) ∙ th .if1 .taken in
     gather-end (st .args .text .now) (st .args .most) (st .pre .1 .1 .0) (st .args .at) o (l .loop .inv) (c .enum-told .given .1)
 
 returns-4 : tie.Need-returns-4 Inv-loop μ-loop
@@ -279,7 +278,7 @@ returns-4 c =
     let io = c .before in
     let ka = io .before in
     let st = ka .before .before .before .before in
-    not-object (st .args .text .now) (st .args .most) (st .pre .1 .1 .0) (st .args .at) (st .args .places .now) (sym (io .is-object .ensures ∙ ap isObject (ka .kind-at .ensures)) ∙ c .if1 .left)
+    not-object (st .args .text .now) (st .args .most) (st .pre .1 .1 .0) (st .args .at) (st .args .places .now) (sym (io .is-kind .ensures ∙ ap isObject (ka .kind-at .ensures)) ∙ c .if1 .left)
 
 pub collect-spec : {M : Type 1} → statement M
 collect-spec =
@@ -288,7 +287,7 @@ collect-spec =
     Inv-loop
     μ-loop
     kind-at-requires
-    is-object-requires
+    is-kind-requires
     first-requires
     loop-holds
     enum-known-g

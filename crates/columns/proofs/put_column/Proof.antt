@@ -1,51 +1,40 @@
-use lib.ListN.{length, drop}
-use Prim.Native.Nat.{ℕ}
+-- `columns::put_column` meets its contract. Assumes nothing.
+use mathlib.Core.Path.{_∙_}
 use mathlib.Core.List.{_++_}
-use mathlib.Core.Path.{_≡_, ap, _∙_}
-use Rattle.octets.proofs.Rests.{write-next}
+use lib.ListN.{drop}
+use Rattle.catalog.specs.Writing.{columnBytes}
 use Rattle.columns.specs.Columns.{shapeBytes}
 use borrow.Author.Needs.{needs}
 use Rattle.columns.proofs.put_column.Statement.{statement}
 use Rattle.columns.proofs.put_column.Tie as tie
-use Rattle.columns.proofs.put_column.Reads as reads
-use Rattle.columns.proofs.put_column.Lts as lts
-use Rattle.columns.proofs.put_shape.Reads as put-shape-reads
-use Rattle.octets.proofs.put_bytes.Reads as put-bytes-reads
 
-put-bytes-requires : tie.Need-put-bytes-requires
-put-bytes-requires c κs = search needs
+small-requires : tie.Need-small-requires
+small-requires c κs = search needs
 
-sub-put-shape : tie.Need-sub-put-shape
-sub-put-shape c = search needs
+small-requires-2 : tie.Need-small-requires-2
+small-requires-2 c κs = search needs
 
-part-put-shape-start : tie.Need-part-put-shape-start
-part-put-shape-start c = search needs
+bit-requires : tie.Need-bit-requires
+bit-requires c κs = search needs
 
-part-put-shape-end : tie.Need-part-put-shape-end
-part-put-shape-end c = search needs
-
-put-shape-requires : tie.Need-put-shape-requires
-put-shape-requires c κs = search needs
+put-column-requires : tie.Need-put-column-requires
+put-column-requires c κs = search needs
 
 same-length : tie.Need-same-length
 same-length c = search needs
 
 returns : tie.Need-returns
+unfolding shapeBytes
 returns c =
-    let p = c .before .before .before .before .before .before in
-    let st = p .before .before .before .before in
-    let name = st .args .name .now in
-    let n : length name ≡ 25 = p .before .put-bytes-arg2 .given .0 in
-    write-next name (shapeBytes (st .args .t) (st .args .mutable)) (st .args .out .now) _ _ 25 22 n (p .put-bytes .ensures ∙ ap (λ (k : ℕ). name ++ drop k (st .args .out .now)) n) (c .before .before .put-shape .ensures)
+    let pc = c .before .before in
+    let b = pc .before in
+    let s2 = b .before in
+    let s1 = s2 .before in
+    let st = s1 .before .before .before .before in
+    let k = st .args .t .key in
+    pc .put-column .ensures
+    ∙ (λ i. (st .args .name .now ++ columnBytes (k .base) (k .how) (k .target) (s1 .small .ensures i) (s2 .small2 .ensures i) (b .bit .ensures i) (k .low) (k .high)) ++ drop 47 (st .args .out .now))
 
 pub put-column-spec : {M : Type 1} → statement M
 put-column-spec =
-    tie.close
-    (tie.spec
-    put-bytes-requires
-    sub-put-shape
-    part-put-shape-start
-    part-put-shape-end
-    put-shape-requires
-    same-length
-    returns)
+    tie.close (tie.spec small-requires small-requires-2 bit-requires put-column-requires same-length returns)

@@ -2,7 +2,7 @@
 use Prim.Native.Nat.{_-_}
 use mathlib.Core.List.{map}
 use native.Mathlib.Omega.{arith}
-use Rattle.inner.specs.Packed.{cellName}
+use Rattle.model.specs.Catalog.{cellName}
 use Rattle.columns.proofs.Listing.{Putting, put-start, put-more, put-end}
 use Rattle.columns.proofs.put_columns.Statement.{statement}
 use Rattle.columns.proofs.put_columns.Tie as tie

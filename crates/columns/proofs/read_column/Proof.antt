@@ -9,7 +9,7 @@ use Rattle.model.specs.Json.{Json}
 use Rattle.inner.specs.Positions.{treeAt}
 use Rattle.model.specs.Members.{membersIn}
 use Rattle.model.specs.Value.{textOf}
-use Rattle.inner.specs.Packed.{cellName}
+use Rattle.model.specs.Catalog.{cellName}
 use Rattle.model.specs.SchemaText.{truthOr}
 use Rattle.fields.specs.Fields.{wordsFrom, wordsOf, slotTree, Slots}
 use Rattle.columns.specs.Parts.{memberOf}

@@ -5,7 +5,7 @@ use mathlib.Core.List.{map}
 use native.Mathlib.Omega.{arith}
 use borrow.Author.Tests.{le-leb}
 use Rattle.inner.specs.Positions.{treeAt}
-use Rattle.inner.specs.Packed.{cellName}
+use Rattle.model.specs.Catalog.{cellName}
 use Rattle.columns.proofs.Listing.{none-read, bad-read, all-read}
 use borrow.Author.Needs.{needs}
 use Rattle.columns.proofs.read_columns.Statement.{statement}

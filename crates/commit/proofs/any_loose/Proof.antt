@@ -5,7 +5,7 @@ use native.Mathlib.Omega.{arith}
 use lib.ListN.{drop}
 use Rattle.model.specs.Base.{any}
 use Rattle.model.specs.Commit.{loose}
-use Rattle.inner.specs.Packed.{packedTables}
+use Rattle.model.specs.Catalog.{packedTables}
 use Rattle.inner.specs.Working.{working}
 use Rattle.references.proofs.Walks.{any-row-here, any-row-on, any-row-end}
 use Rattle.commit.proofs.any_loose.Statement.{statement}

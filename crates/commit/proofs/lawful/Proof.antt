@@ -2,7 +2,7 @@
 use mathlib.Core.Path.{sym, _∙_}
 use borrow.Author.Needs.{needs}
 use borrow.Author.Tests.{not-true, not-false}
-use Rattle.inner.specs.Packed.{packedTables}
+use Rattle.model.specs.Catalog.{packedTables}
 use Rattle.inner.specs.Working.{working}
 use Rattle.commit.proofs.Laws.{lawful-strong, lawful-loose, lawful-weak, lawful-few, lawful-rest}
 use Rattle.commit.proofs.lawful.Statement.{statement}

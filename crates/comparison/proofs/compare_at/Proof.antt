@@ -2,7 +2,7 @@
 use mathlib.Core.Path.{sym, ap, _∙_}
 use mathlib.Core.Bool.{not}
 use Rattle.inner.specs.Positions.{treeAt}
-use Rattle.inner.specs.Packed.{baseNumbered}
+use Rattle.model.specs.Catalog.{baseNumbered}
 use Rattle.model.specs.Conditions.{orders, firstInt, compare}
 use Rattle.uuids.specs.Named.{namesAt}
 use Rattle.judged.specs.Weights.{atomsAs}

@@ -4,7 +4,7 @@ use mathlib.Core.Bool.{Bool, true, false}
 use Rattle.model.specs.Json.{Json}
 use Rattle.inner.specs.Positions.{left}
 use Rattle.model.specs.Base.{any, all, member}
-use Rattle.inner.specs.Packed.{baseNumbered}
+use Rattle.model.specs.Catalog.{baseNumbered}
 use Rattle.model.specs.Written.{longAtom}
 use Rattle.model.proofs.Tests.{clash}
 use Rattle.elements.specs.Elements.{elementsFrom, elementsFine}

@@ -4,7 +4,7 @@ use borrow.Author.Tests.{not-true, not-false}
 use native.Mathlib.Omega.{arith}
 use Rattle.model.specs.Base.{any, all, member, eqLists}
 use Rattle.inner.specs.Positions.{treeAt}
-use Rattle.inner.specs.Packed.{baseNumbered}
+use Rattle.model.specs.Catalog.{baseNumbered}
 use Rattle.model.specs.Written.{longAtom}
 use Rattle.uuids.specs.Named.{namesAt}
 use Rattle.comparison.proofs.Stored.{begun}

@@ -1,6 +1,6 @@
 -- `comparison::integer_at` meets its contract. Assumes nothing.
 use Rattle.inner.specs.Positions.{treeAt}
-use Rattle.inner.specs.Packed.{baseNumbered}
+use Rattle.model.specs.Catalog.{baseNumbered}
 use Rattle.uuids.specs.Named.{namesAt}
 use Rattle.comparison.proofs.Compared.{reads-integer}
 use borrow.Author.Needs.{needs}

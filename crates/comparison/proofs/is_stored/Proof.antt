@@ -7,7 +7,7 @@ use lib.ListN.{length, drop}
 use Rattle.model.specs.Base.{member}
 use Rattle.inner.specs.Positions.{treeAt}
 use Rattle.model.proofs.Tests.{clash}
-use Rattle.inner.specs.Packed.{baseNumbered}
+use Rattle.model.specs.Catalog.{baseNumbered}
 use Rattle.uuids.specs.Named.{namesAt}
 use Rattle.written.specs.Atoms.{atomAs}
 use Rattle.comparison.proofs.Stored.{stored-here, stored-on, stored-end}

@@ -4,7 +4,7 @@ use mathlib.Core.Bool.{Bool, true}
 use Rattle.model.specs.Json.{Json}
 use Rattle.inner.specs.Positions.{left}
 use Rattle.model.specs.Base.{any, member}
-use Rattle.inner.specs.Packed.{baseNumbered}
+use Rattle.model.specs.Catalog.{baseNumbered}
 use Rattle.elements.specs.Elements.{elementsFrom, elementsFine}
 use Rattle.elements.proofs.Walk.{walk-less, walk-fine}
 use Rattle.uuids.specs.Named.{namesAt}

@@ -1,7 +1,7 @@
 -- `conditions::column_fault` meets its contract. Assumes nothing.
 use mathlib.Core.Path.{sym, _∙_}
 use Rattle.inner.specs.Positions.{treeAt}
-use Rattle.inner.specs.Packed.{columnFrom}
+use Rattle.model.specs.Catalog.{columnFrom}
 use Rattle.uuids.specs.Named.{namesAt}
 use Rattle.conditions.proofs.Faulty.{fault-allowed, fault-not}
 use Rattle.conditions.proofs.column_fault.Statement.{statement}

@@ -3,7 +3,7 @@ use mathlib.Core.Path.{ap, _∙_}
 use Prim.Native.Nat.{min}
 use native.Mathlib.Omega.{arith}
 use Rattle.inner.specs.Positions.{treeAt}
-use Rattle.inner.specs.Packed.{baseNumbered}
+use Rattle.model.specs.Catalog.{baseNumbered}
 use Rattle.model.specs.Conditions.{compare}
 use Rattle.inner.specs.Working.{valueIn}
 use Rattle.uuids.specs.Named.{namesAt}

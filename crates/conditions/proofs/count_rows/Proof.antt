@@ -8,7 +8,7 @@ use lib.ListN.{drop}
 use Rattle.model.specs.Base.{count}
 use Rattle.model.specs.Schema.{Schema, columnsOf}
 use Rattle.model.specs.Conditions.{matches}
-use Rattle.inner.specs.Packed.{columnFrom}
+use Rattle.model.specs.Catalog.{columnFrom}
 use Rattle.inner.specs.Working.{working}
 use Rattle.conditions.specs.Tests.{testsAt}
 use Rattle.conditions.proofs.Picking.{counted-yes, counted-no, counted-end}

@@ -11,7 +11,7 @@ use Rattle.model.specs.Base.{keep}
 use Rattle.model.specs.Schema.{Schema, columnsOf}
 use Rattle.model.specs.Rows.{Row}
 use Rattle.model.specs.Conditions.{matches}
-use Rattle.inner.specs.Packed.{columnFrom}
+use Rattle.model.specs.Catalog.{columnFrom}
 use Rattle.inner.specs.Working.{working, Tidy}
 use Rattle.conditions.specs.Tests.{testsAt}
 use Rattle.conditions.proofs.Picking.{Partly, row-here, partly-out, partly-in, tidy-in, rows-in, rows-out}

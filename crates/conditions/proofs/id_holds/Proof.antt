@@ -5,7 +5,7 @@ use native.Mathlib.Omega.{arith}
 use Rattle.model.specs.Octets.{value}
 use Rattle.inner.specs.Positions.{treeAt}
 use Rattle.model.specs.Schema.{uuid}
-use Rattle.inner.specs.Packed.{baseNumbered}
+use Rattle.model.specs.Catalog.{baseNumbered}
 use Rattle.model.specs.Value.{uuidAtom}
 use Rattle.model.specs.Conditions.{compare}
 use Rattle.inner.specs.Working.{idIn}

@@ -1,5 +1,9 @@
 -- `conditions::is_allowed` meets its contract. Assumes nothing.
-use mathlib.Core.Path.{sym, _∙_}
+use Prim.Native.Nat.{ℕ}
+use mathlib.Core.Path.{sym, ap, _∙_}
+use mathlib.Core.Bool.{Bool, _&&_}
+use lib.Dec.{eqb}
+use lib.ListN.{getD}
 use Rattle.conditions.proofs.Faulty.{allowed-order, allowed-other}
 use borrow.Author.Needs.{needs}
 use Rattle.conditions.proofs.is_allowed.Statement.{statement}
@@ -8,20 +12,18 @@ use Rattle.conditions.proofs.is_allowed.Tie as tie
 orders-requires : tie.Need-orders-requires
 orders-requires c κs = tt
 
-element-copy-out-result : tie.Need-element-copy-out-result
-element-copy-out-result c = search needs
+kind-requires : tie.Need-kind-requires
+kind-requires c κs = search needs
 
-element-copy-out-result-2 : tie.Need-element-copy-out-result-2
-element-copy-out-result-2 c = search needs
-
-element-copy-out-result-3 : tie.Need-element-copy-out-result-3
-element-copy-out-result-3 c = search needs
+is-scalar-requires : tie.Need-is-scalar-requires
+is-scalar-requires c κs = search needs
 
 returns : tie.Need-returns
 returns c =
-    let t = c .before .before .before in
+    let t = c .before .before in
     let o = t .before in
-    allowed-order (o .before .args .column .now) (o .before .args .f) (sym (o .orders .ensures) ∙ t .if1 .taken)
+    ap (λ (k : ℕ). eqb k 0 && c .is-scalar .result) (c .before .kind .ensures) ∙ ap (λ (b : Bool). eqb (getD (o .before .args .column .now) 25 0) 0 && b) (c .is-scalar .ensures)
+    ∙ allowed-order (o .before .args .column .now) (o .before .args .f) (sym (o .orders .ensures) ∙ t .if1 .taken)
 
 returns-2 : tie.Need-returns-2
 returns-2 c =
@@ -33,8 +35,7 @@ is-allowed-spec =
     tie.close
     (tie.spec
     orders-requires
-    element-copy-out-result
-    element-copy-out-result-2
-    element-copy-out-result-3
+    kind-requires
+    is-scalar-requires
     returns
     returns-2)

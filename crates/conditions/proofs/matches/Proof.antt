@@ -1,7 +1,7 @@
 -- `conditions::matches` meets its contract. Assumes nothing.
 use mathlib.Core.Path.{sym, _∙_}
 use mathlib.Core.List.{map}
-use Rattle.inner.specs.Packed.{columnFrom}
+use Rattle.model.specs.Catalog.{columnFrom}
 use Rattle.conditions.specs.Tests.{testsAt}
 use Rattle.conditions.proofs.Holding.{other-table, same-table}
 use Rattle.conditions.proofs.matches.Statement.{statement}

@@ -3,7 +3,7 @@ use mathlib.Core.Path.{refl, sym, ap, subst, _∙_}
 use mathlib.Core.Bool.{false}
 use mathlib.Core.List.{map}
 use Rattle.model.specs.Faults.{isFine}
-use Rattle.inner.specs.Packed.{columnFrom}
+use Rattle.model.specs.Catalog.{columnFrom}
 use Rattle.model.proofs.Tests.{clash}
 use Rattle.conditions.specs.Tests.{Holds}
 use Rattle.conditions.proofs.Faulty.{test-triple, value-well, test-other}

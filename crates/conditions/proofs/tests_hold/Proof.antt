@@ -8,7 +8,7 @@ use Rattle.model.specs.Schema.{Schema, columnsOf}
 use Rattle.model.specs.Faults.{isFine}
 use Rattle.model.specs.Conditions.{holds}
 use Rattle.model.specs.Areas.{rowFrom}
-use Rattle.inner.specs.Packed.{columnFrom}
+use Rattle.model.specs.Catalog.{columnFrom}
 use Rattle.inner.specs.Working.{tableIn}
 use Rattle.nav.proofs.Walk.{walk-fine, walk-less}
 use Rattle.conditions.specs.Tests.{testsAt, HoldAll}

@@ -4,7 +4,7 @@ use mathlib.Core.Bool.{false}
 use mathlib.Core.List.{map}
 use Rattle.inner.specs.Positions.{treeAt}
 use Rattle.model.specs.Faults.{isFine}
-use Rattle.inner.specs.Packed.{columnFrom}
+use Rattle.model.specs.Catalog.{columnFrom}
 use Rattle.model.proofs.Tests.{clash}
 use Rattle.uuids.specs.Named.{namesAt}
 use Rattle.conditions.specs.Tests.{chosen, testAs, Holds}

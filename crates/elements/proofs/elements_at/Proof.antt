@@ -21,8 +21,8 @@ is-word-requires c κs = search needs
 kind-at-requires : tie.Need-kind-at-requires
 kind-at-requires c κs = search needs
 
-is-array-requires : tie.Need-is-array-requires
-is-array-requires c κs = search needs
+is-kind-requires : tie.Need-is-kind-requires
+is-kind-requires c κs = search needs
 
 first-requires : tie.Need-first-requires
 first-requires c κs = search needs
@@ -34,7 +34,7 @@ returns c =
     let pp = iw .before .before .before in
     let pa = pp .before .before in
     let st = pa .before .before .before in
-    begins-set (st .args .text .now) (st .args .at) (pa .pair-at .ensures) (pp .p .given .1) (iw .is-word .ensures) (ia .is-array .ensures ∙ ap isArray (ia .before .kind-at .ensures)) (c .before .if1 .taken) (c .first .ensures)
+    begins-set (st .args .text .now) (st .args .at) (pa .pair-at .ensures) (pp .p .given .1) (iw .is-word .ensures) (ia .is-kind .ensures ∙ ap isArray (ia .before .kind-at .ensures)) (c .before .if1 .taken) (c .first .ensures)
 
 enum-told : tie.Need-enum-told
 enum-told c = search needs
@@ -46,7 +46,7 @@ returns-2 c =
     let pp = iw .before .before .before in
     let pa = pp .before .before in
     let st = pa .before .before .before in
-    begins-one (st .args .text .now) (st .args .at) (pa .pair-at .ensures) (pp .p .given .1) (iw .is-word .ensures) (ia .is-array .ensures ∙ ap isArray (ia .before .kind-at .ensures)) (c .if1 .left) (st .pre .1)
+    begins-one (st .args .text .now) (st .args .at) (pa .pair-at .ensures) (pp .p .given .1) (iw .is-word .ensures) (ia .is-kind .ensures ∙ ap isArray (ia .before .kind-at .ensures)) (c .if1 .left) (st .pre .1)
 
 returns-3 : tie.Need-returns-3
 returns-3 c =
@@ -63,7 +63,7 @@ elements-at-spec =
     slice-aggregate-is-word
     is-word-requires
     kind-at-requires
-    is-array-requires
+    is-kind-requires
     first-requires
     returns
     enum-told

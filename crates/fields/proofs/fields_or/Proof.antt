@@ -10,8 +10,8 @@ use Rattle.fields.proofs.fields_or.Tie as tie
 kind-at-requires : tie.Need-kind-at-requires
 kind-at-requires c κs = search needs
 
-is-object-requires : tie.Need-is-object-requires
-is-object-requires c κs = search needs
+is-kind-requires : tie.Need-is-kind-requires
+is-kind-requires c κs = search needs
 
 fields-requires : tie.Need-fields-requires
 fields-requires c κs = search needs
@@ -23,7 +23,7 @@ returns c =
     (st .args .text .now)
     (wordsOf (st .args .words .now))
     (st .args .at)
-    (sym (c .before .before .is-object .ensures ∙ ap isObject (c .before .before .before .kind-at .ensures)) ∙ c .before .if1 .taken)
+    (sym (c .before .before .is-kind .ensures ∙ ap isObject (c .before .before .before .kind-at .ensures)) ∙ c .before .if1 .taken)
     (c .fields .ensures)
 
 array-write-slots : tie.Need-array-write-slots
@@ -41,14 +41,14 @@ returns-2 c =
     (st .pre .1 .1 .1 .1 .1)
     (st .pre .1 .1 .0)
     (st .pre .1 .0)
-    (sym (c .before .is-object .ensures ∙ ap isObject (c .before .before .kind-at .ensures)) ∙ c .if1 .left)
+    (sym (c .before .is-kind .ensures ∙ ap isObject (c .before .before .kind-at .ensures)) ∙ c .if1 .left)
 
 pub fields-or-spec : {M : Type 1} → statement M
 fields-or-spec =
     tie.close
     (tie.spec
     kind-at-requires
-    is-object-requires
+    is-kind-requires
     fields-requires
     returns
     array-write-slots

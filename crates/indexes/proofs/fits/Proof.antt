@@ -11,8 +11,8 @@ use Rattle.indexes.proofs.fits.Tie as tie
 kind-at-requires : tie.Need-kind-at-requires
 kind-at-requires c κs = search needs
 
-is-array-requires : tie.Need-is-array-requires
-is-array-requires c κs = search needs
+is-kind-requires : tie.Need-is-kind-requires
+is-kind-requires c κs = search needs
 
 few-fit-requires : tie.Need-few-fit-requires
 few-fit-requires c κs = search needs
@@ -22,7 +22,7 @@ returns c =
     let k = c .before .before in
     let st = k .before .before .before .before in
     let s = st .args .text .now in
-    let a = sym (k .is-array .ensures ∙ ap isArray (k .before .kind-at .ensures)) ∙ c .before .if1 .taken in
+    let a = sym (k .is-kind .ensures ∙ ap isArray (k .before .kind-at .ensures)) ∙ c .before .if1 .taken in
     c .few-fit .ensures ∙ fits-array (membersIn (treeAt s (st .args .columns))) (treeAt s (st .args .at)) a
 
 returns-2 : tie.Need-returns-2
@@ -30,9 +30,9 @@ returns-2 c =
     let k = c .before in
     let st = k .before .before .before .before in
     let s = st .args .text .now in
-    let a = sym (k .is-array .ensures ∙ ap isArray (k .before .kind-at .ensures)) ∙ c .if1 .left in
+    let a = sym (k .is-kind .ensures ∙ ap isArray (k .before .kind-at .ensures)) ∙ c .if1 .left in
     fits-not (membersIn (treeAt s (st .args .columns))) (treeAt s (st .args .at)) a
 
 pub fits-spec : {M : Type 1} → statement M
 fits-spec =
-    tie.close (tie.spec kind-at-requires is-array-requires few-fit-requires returns returns-2)
+    tie.close (tie.spec kind-at-requires is-kind-requires few-fit-requires returns returns-2)

@@ -1,7 +1,7 @@
 -- `indexes::index` meets its contract. Assumes nothing.
 use Rattle.indexes.proofs.Numbers.{Filled, filled-start, filled-end, filled-more, filled-short, filled-on}
 use Rattle.nav.proofs.Walk.{walk-less}
-use Rattle.inner.specs.Packed.{cellName}
+use Rattle.model.specs.Catalog.{cellName}
 use Rattle.inner.specs.Positions.{treeAt, left}
 use mathlib.Core.List.{map}
 use native.Mathlib.Omega.{arith}

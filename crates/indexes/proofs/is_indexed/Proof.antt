@@ -12,8 +12,8 @@ use Rattle.indexes.proofs.is_indexed.Tie as tie
 kind-at-requires : tie.Need-kind-at-requires
 kind-at-requires c κs = search needs
 
-is-text-requires : tie.Need-is-text-requires
-is-text-requires c κs = search needs
+is-kind-requires : tie.Need-is-kind-requires
+is-kind-requires c κs = search needs
 
 name-at-requires : tie.Need-name-at-requires
 name-at-requires c κs = search needs
@@ -34,7 +34,7 @@ is-lasting-requires c κs =
     let k = n .before .before in
     let st = k .before .before .before .before in
     let s = st .args .text .now in
-    let t = sym (k .is-text .ensures ∙ ap isText (k .before .kind-at .ensures)) ∙ n .before .if1 .taken in
+    let t = sym (k .is-kind .ensures ∙ ap isText (k .before .kind-at .ensures)) ∙ n .before .if1 .taken in
     let q = f .before .text-of .ensures ∙ ap textOf (n .name-at .ensures) in
     (st .pre .0, found-well s (membersIn (treeAt s (st .args .columns))) (st .pre .1 .1) (treeAt s (st .args .at)) t q (f .find .result) (f .find .ensures) (c .before .f .given .1))
 
@@ -45,7 +45,7 @@ returns c =
     let k = n .before .before in
     let st = k .before .before .before .before in
     let s = st .args .text .now in
-    let t = sym (k .is-text .ensures ∙ ap isText (k .before .kind-at .ensures)) ∙ n .before .if1 .taken in
+    let t = sym (k .is-kind .ensures ∙ ap isText (k .before .kind-at .ensures)) ∙ n .before .if1 .taken in
     let q = f .before .text-of .ensures ∙ ap textOf (n .name-at .ensures) in
     c .is-lasting .ensures ∙ indexed-at s (membersIn (treeAt s (st .args .columns))) (st .pre .1 .1) (treeAt s (st .args .at)) t q (f .find .result) (f .find .ensures) (c .before .before .f .given .1)
 
@@ -59,7 +59,7 @@ returns-2 c =
     let k = n .before .before in
     let st = k .before .before .before .before in
     let s = st .args .text .now in
-    let t = sym (k .is-text .ensures ∙ ap isText (k .before .kind-at .ensures)) ∙ n .before .if1 .taken in
+    let t = sym (k .is-kind .ensures ∙ ap isText (k .before .kind-at .ensures)) ∙ n .before .if1 .taken in
     let q = f .before .text-of .ensures ∙ ap textOf (n .name-at .ensures) in
     indexed-none s (membersIn (treeAt s (st .args .columns))) (st .pre .1 .1) (treeAt s (st .args .at)) t q (f .find .result) (f .find .ensures) (c .enum-told .given .1)
 
@@ -68,7 +68,7 @@ returns-3 c =
     let k = c .before in
     let st = k .before .before .before .before in
     let s = st .args .text .now in
-    let t = sym (k .is-text .ensures ∙ ap isText (k .before .kind-at .ensures)) ∙ c .if1 .left in
+    let t = sym (k .is-kind .ensures ∙ ap isText (k .before .kind-at .ensures)) ∙ c .if1 .left in
     indexed-not s (membersIn (treeAt s (st .args .columns))) (st .pre .1 .1) (treeAt s (st .args .at)) t
 
 pub is-indexed-spec : {M : Type 1} → statement M
@@ -76,7 +76,7 @@ is-indexed-spec =
     tie.close
     (tie.spec
     kind-at-requires
-    is-text-requires
+    is-kind-requires
     name-at-requires
     text-of-requires
     find-requires

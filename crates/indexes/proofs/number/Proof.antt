@@ -14,8 +14,8 @@ name-at-requires c κs = search needs
 text-of-requires : tie.Need-text-of-requires
 text-of-requires c κs = search needs
 
-cell-named-requires : tie.Need-cell-named-requires
-cell-named-requires c κs = search needs
+named-requires : tie.Need-named-requires
+named-requires c κs = search needs
 
 enum-known-f : tie.Need-enum-known-f
 enum-known-f c = search needs
@@ -27,7 +27,7 @@ cast-result c =
     let n = t .before .before in
     let st = n .before .before in
     let q = t .text-of .ensures ∙ ap textOf (n .name-at .ensures) in
-    omega (arith, st .pre .1, number-at (st .args .columns .now) (treeAt (st .args .text .now) (st .args .at)) (st .pre .0) q (t2 .cell-named .ensures) (c .before .f .given .1) .1)
+    omega (arith, st .pre .1, number-at (st .args .columns .now) (treeAt (st .args .text .now) (st .args .at)) (st .pre .0) q (t2 .named .ensures) (c .before .f .given .1) .1)
 
 enum-told : tie.Need-enum-told
 enum-told c = search needs
@@ -39,7 +39,7 @@ returns c =
     let n = t .before .before in
     let st = n .before .before in
     let q = t .text-of .ensures ∙ ap textOf (n .name-at .ensures) in
-    number-at (st .args .columns .now) (treeAt (st .args .text .now) (st .args .at)) (st .pre .0) q (t2 .cell-named .ensures) (c .before .f .given .1) .0
+    number-at (st .args .columns .now) (treeAt (st .args .text .now) (st .args .at)) (st .pre .0) q (t2 .named .ensures) (c .before .f .given .1) .0
 
 returns-2 : tie.Need-returns-2
 returns-2 c =
@@ -48,7 +48,7 @@ returns-2 c =
     let n = t .before .before in
     let st = n .before .before in
     let q = t .text-of .ensures ∙ ap textOf (n .name-at .ensures) in
-    number-none (st .args .columns .now) (treeAt (st .args .text .now) (st .args .at)) (st .pre .0) q (t2 .cell-named .ensures) (c .enum-told .given .1)
+    number-none (st .args .columns .now) (treeAt (st .args .text .now) (st .args .at)) (st .pre .0) q (t2 .named .ensures) (c .enum-told .given .1)
 
 pub number-spec : {M : Type 1} → statement M
 number-spec =
@@ -56,7 +56,7 @@ number-spec =
     (tie.spec
     name-at-requires
     text-of-requires
-    cell-named-requires
+    named-requires
     enum-known-f
     cast-result
     enum-told

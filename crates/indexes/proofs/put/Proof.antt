@@ -1,6 +1,6 @@
 -- `indexes::put` meets its contract. Assumes nothing.
 use Rattle.indexes.proofs.Cells.{first-well, first-short, second-well, second-short, put-none, put-one, put-two}
-use Rattle.inner.specs.Packed.{cellName}
+use Rattle.model.specs.Catalog.{cellName}
 use mathlib.Core.List.{map}
 use borrow.Author.Needs.{needs}
 use Rattle.indexes.proofs.put.Statement.{statement}
@@ -32,20 +32,20 @@ index-requires-2 c κs =
     let st = f .before .before .before .before in
     (st .pre .0, (second-well (st .args .text .now) (st .args .at) (st .pre .1 .0) (st .pre .1 .1 .0) (f .first .ensures) (k .f .given .1) (n .next-item .ensures) (c .before .g .given .1), (second-short (st .args .text .now) (st .args .at) (st .pre .1 .0) (st .pre .1 .1 .0) (f .first .ensures) (k .f .given .1) (n .next-item .ensures) (c .before .g .given .1), st .pre .1 .1 .1)))
 
-stored-requires : tie.Need-stored-requires
-stored-requires c κs = search needs
+with-indexes-requires : tie.Need-with-indexes-requires
+with-indexes-requires c κs = search needs
 
 enum-told : tie.Need-enum-told
 enum-told c = search needs
 
-stored-requires-2 : tie.Need-stored-requires-2
-stored-requires-2 c κs = search needs
+with-indexes-requires-2 : tie.Need-with-indexes-requires-2
+with-indexes-requires-2 c κs = search needs
 
 enum-told-2 : tie.Need-enum-told-2
 enum-told-2 c = search needs
 
-stored-requires-3 : tie.Need-stored-requires-3
-stored-requires-3 c κs = search needs
+with-indexes-requires-3 : tie.Need-with-indexes-requires-3
+with-indexes-requires-3 c κs = search needs
 
 returns : tie.Need-returns
 returns c =
@@ -55,7 +55,7 @@ returns c =
     let k = n .before .before .before in
     let f = k .before .before in
     let st = f .before .before .before .before in
-    put-two (st .args .text .now) (st .args .at) (st .pre .1 .0) (st .pre .1 .1 .0) (f .first .ensures) (k .f .given .1) (n .next-item .ensures) (st .args .cell .now) (c .stored .ensures .0) (map cellName (st .args .columns .now)) (n .before .index .ensures) (g .g .given .1) (b .index2 .ensures) (c .stored .ensures .1)
+    put-two (st .args .text .now) (st .args .at) (st .pre .1 .0) (st .pre .1 .1 .0) (f .first .ensures) (k .f .given .1) (n .next-item .ensures) (st .args .cell .now) (c .with-indexes .ensures .0) (map cellName (st .args .columns .now)) (n .before .index .ensures) (g .g .given .1) (b .index2 .ensures) (c .with-indexes .ensures .1)
 
 returns-2 : tie.Need-returns-2
 returns-2 c =
@@ -64,14 +64,14 @@ returns-2 c =
     let k = n .before .before .before in
     let f = k .before .before in
     let st = f .before .before .before .before in
-    put-one (st .args .text .now) (st .args .at) (st .pre .1 .0) (st .pre .1 .1 .0) (f .first .ensures) (k .f .given .1) (n .next-item .ensures) (st .args .cell .now) (c .stored2 .ensures .0) (map cellName (st .args .columns .now)) (n .before .index .ensures) (t .enum-told .given .1) (c .stored2 .ensures .1)
+    put-one (st .args .text .now) (st .args .at) (st .pre .1 .0) (st .pre .1 .1 .0) (f .first .ensures) (k .f .given .1) (n .next-item .ensures) (st .args .cell .now) (c .with-indexes2 .ensures .0) (map cellName (st .args .columns .now)) (n .before .index .ensures) (t .enum-told .given .1) (c .with-indexes2 .ensures .1)
 
 returns-3 : tie.Need-returns-3
 returns-3 c =
     let t = c .before in
     let f = t .before .before in
     let st = f .before .before .before .before in
-    put-none (st .args .text .now) (st .args .at) (st .pre .1 .0) (st .pre .1 .1 .0) (f .first .ensures) (st .args .cell .now) (c .stored3 .ensures .0) (map cellName (st .args .columns .now)) (t .enum-told2 .given .1) (c .stored3 .ensures .1)
+    put-none (st .args .text .now) (st .args .at) (st .pre .1 .0) (st .pre .1 .1 .0) (f .first .ensures) (st .args .cell .now) (c .with-indexes3 .ensures .0) (map cellName (st .args .columns .now)) (t .enum-told2 .given .1) (c .with-indexes3 .ensures .1)
 
 pub put-spec : {M : Type 1} → statement M
 put-spec =
@@ -83,11 +83,11 @@ put-spec =
     next-item-requires
     enum-known-g
     index-requires-2
-    stored-requires
+    with-indexes-requires
     enum-told
-    stored-requires-2
+    with-indexes-requires-2
     enum-told-2
-    stored-requires-3
+    with-indexes-requires-3
     returns
     returns-2
     returns-3)

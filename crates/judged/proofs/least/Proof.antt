@@ -1,21 +1,22 @@
 -- `judged::least` meets its contract. Assumes nothing.
+use mathlib.Core.Path.{_∙_}
 use borrow.Author.Needs.{needs}
 use Rattle.judged.proofs.least.Statement.{statement}
 use Rattle.judged.proofs.least.Tie as tie
 
-element-copy-out-wide : tie.Need-element-copy-out-wide
-element-copy-out-wide c = search needs
+minimum-requires : tie.Need-minimum-requires
+minimum-requires c κs = search needs
 
 wide-requires : tie.Need-wide-requires
 wide-requires c κs = search needs
 
 returns : tie.Need-returns
-returns c = c .wide .ensures
+returns c = c .wide .ensures ∙ c .before .minimum .ensures
 
 pub least-spec : {M : Type 1} → statement M
 least-spec =
     tie.close
     (tie.spec
-    element-copy-out-wide
+    minimum-requires
     wide-requires
     returns)

@@ -1,21 +1,22 @@
 -- `judged::most` meets its contract. Assumes nothing.
+use mathlib.Core.Path.{_∙_}
 use borrow.Author.Needs.{needs}
 use Rattle.judged.proofs.most.Statement.{statement}
 use Rattle.judged.proofs.most.Tie as tie
 
-element-copy-out-wide : tie.Need-element-copy-out-wide
-element-copy-out-wide c = search needs
+maximum-requires : tie.Need-maximum-requires
+maximum-requires c κs = search needs
 
 wide-requires : tie.Need-wide-requires
 wide-requires c κs = search needs
 
 returns : tie.Need-returns
-returns c = c .wide .ensures
+returns c = c .wide .ensures ∙ c .before .maximum .ensures
 
 pub most-spec : {M : Type 1} → statement M
 most-spec =
     tie.close
     (tie.spec
-    element-copy-out-wide
+    maximum-requires
     wide-requires
     returns)

@@ -1,7 +1,7 @@
 -- `judged::operand_at` meets its contract. Assumes nothing.
 use Rattle.inner.specs.Positions.{treeAt}
 use Rattle.uuids.specs.Named.{namesAt}
-use Rattle.inner.specs.Packed.{baseNumbered}
+use Rattle.model.specs.Catalog.{baseNumbered}
 use Rattle.judged.proofs.Fits.{operand-fits, operand-one}
 use borrow.Author.Needs.{needs}
 use Rattle.judged.proofs.operand_at.Statement.{statement}

@@ -2,7 +2,7 @@
 use mathlib.Core.Path.{sym, ap, _∙_}
 use lib.Dec.{leb}
 use Rattle.model.specs.Written.{setCount}
-use Rattle.inner.specs.Packed.{columnFrom}
+use Rattle.model.specs.Catalog.{columnFrom}
 use Rattle.judged.proofs.Judging.{count-is}
 use borrow.Author.Needs.{needs}
 use Rattle.judged.proofs.set_count.Statement.{statement}

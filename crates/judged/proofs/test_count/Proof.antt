@@ -4,39 +4,34 @@ use mathlib.Core.Bool.{Bool}
 use lib.Dec.{eqb}
 use Rattle.model.specs.Base.{if_then_else_}
 use Rattle.model.specs.Written.{setCount}
-use Rattle.inner.specs.Packed.{columnFrom}
-use Rattle.judged.proofs.Judging.{scalar-is}
+use Rattle.model.specs.Catalog.{columnFrom}
 use borrow.Author.Needs.{needs}
 use Rattle.judged.proofs.test_count.Statement.{statement}
 use Rattle.judged.proofs.test_count.Tie as tie
 
-least-requires : tie.Need-least-requires
-least-requires c κs = search needs
-
-most-requires : tie.Need-most-requires
-most-requires c κs = search needs
+is-scalar-requires : tie.Need-is-scalar-requires
+is-scalar-requires c κs = search needs
 
 returns : tie.Need-returns
 returns c =
-    let a = c .before .before .before .args in
+    let a = c .before .before .args in
     let z = columnFrom (a .column .now) in
-    sym (ap (λ (b : Bool). if b then eqb (a .n) 1 else setCount z (a .f) (a .n)) (sym (scalar-is z (c .before .before .least .ensures) (c .before .most .ensures)) ∙ c .if1 .taken))
+    sym (ap (λ (b : Bool). if b then eqb (a .n) 1 else setCount z (a .f) (a .n)) (sym (c .before .is-scalar .ensures) ∙ c .if1 .taken))
 
 set-count-requires : tie.Need-set-count-requires
 set-count-requires c κs = search needs
 
 returns-2 : tie.Need-returns-2
 returns-2 c =
-    let a = c .before .before .before .before .args in
+    let a = c .before .before .before .args in
     let z = columnFrom (a .column .now) in
-    c .set-count .ensures ∙ sym (ap (λ (b : Bool). if b then eqb (a .n) 1 else setCount z (a .f) (a .n)) (sym (scalar-is z (c .before .before .before .least .ensures) (c .before .before .most .ensures)) ∙ c .before .if1 .left))
+    c .set-count .ensures ∙ sym (ap (λ (b : Bool). if b then eqb (a .n) 1 else setCount z (a .f) (a .n)) (sym (c .before .before .is-scalar .ensures) ∙ c .before .if1 .left))
 
 pub test-count-spec : {M : Type 1} → statement M
 test-count-spec =
     tie.close
     (tie.spec
-    least-requires
-    most-requires
+    is-scalar-requires
     returns
     set-count-requires
     returns-2)

@@ -8,17 +8,16 @@ use mathlib.Core.Logic.{⊎-elim}
 use Prim.Native.Nat.{ℕ, _+_, _-_, _≤_, _<_}
 use lib.ListN.{getD, drop, take}
 use Rattle.model.specs.Base.{any, keep}
-use Rattle.inner.specs.Packed.{indexFrom}
 use Rattle.limits.specs.Alike.{ofT, sameCells}
 use Rattle.limits.proofs.Kept.{any-kept-here, any-kept-on, any-kept-no, keep-end}
 use Rattle.limits.proofs.again.Statement.{statement}
 use Rattle.limits.proofs.again.Tie as tie
 
 abbrev Inv-loop : tie.InvT-loop
-Inv-loop cell at rows n table i j₀ j = (j ≤ n) × (i < j) × (any (sameCells (indexFrom cell at) (getD rows i [])) (keep (ofT table) (drop (i + 1) (take n rows))) ≡ any (sameCells (indexFrom cell at) (getD rows i [])) (keep (ofT table) (drop j (take n rows))))
+Inv-loop index rows n table i j₀ j = (j ≤ n) × (i < j) × (any (sameCells index (getD rows i [])) (keep (ofT table) (drop (i + 1) (take n rows))) ≡ any (sameCells index (getD rows i [])) (keep (ofT table) (drop j (take n rows))))
 
 abbrev μ-loop : tie.MeasureT-loop
-μ-loop cell at rows n table i j₀ j = n - j
+μ-loop index rows n table i j₀ j = n - j
 
 add-j : tie.Need-add-j Inv-loop μ-loop
 add-j c = omega (arith, c .before .pre .1, c .before .fits)
@@ -35,20 +34,20 @@ shared-slice-element-is-of c = omega (arith, c .before .before .before .pre .1)
 is-of-requires : tie.Need-is-of-requires Inv-loop μ-loop
 is-of-requires c κs = search needs
 
-mul-same-at : tie.Need-mul-same-at Inv-loop μ-loop
-mul-same-at c = omega (arith, c .before .before .before .before .before .before .good, c .before .before .before .before .before .before .pre .1)
+mul-same-in : tie.Need-mul-same-in Inv-loop μ-loop
+mul-same-in c = omega (arith, c .before .before .before .before .before .before .good, c .before .before .before .before .before .before .pre .1)
 
-shared-slice-element-same-at : tie.Need-shared-slice-element-same-at Inv-loop μ-loop
-shared-slice-element-same-at c = omega (arith, c .before .before .before .before .before .before .pre .1)
+shared-slice-element-same-in : tie.Need-shared-slice-element-same-in Inv-loop μ-loop
+shared-slice-element-same-in c = omega (arith, c .before .before .before .before .before .before .pre .1)
 
-mul-same-at-2 : tie.Need-mul-same-at-2 Inv-loop μ-loop
-mul-same-at-2 c = omega (arith, c .before .before .before .before .before .before .before .good, c .before .before .before .before .before .before .before .pre .1, c .before .before .before .before .loop-test .taken)
+mul-same-in-2 : tie.Need-mul-same-in-2 Inv-loop μ-loop
+mul-same-in-2 c = omega (arith, c .before .before .before .before .before .before .before .good, c .before .before .before .before .before .before .before .pre .1, c .before .before .before .before .loop-test .taken)
 
-shared-slice-element-same-at-2 : tie.Need-shared-slice-element-same-at-2 Inv-loop μ-loop
-shared-slice-element-same-at-2 c = omega (arith, c .before .before .before .before .before .before .before .pre .1, c .before .before .before .before .loop-test .taken)
+shared-slice-element-same-in-2 : tie.Need-shared-slice-element-same-in-2 Inv-loop μ-loop
+shared-slice-element-same-in-2 c = omega (arith, c .before .before .before .before .before .before .before .pre .1, c .before .before .before .before .loop-test .taken)
 
-same-at-requires : tie.Need-same-at-requires Inv-loop μ-loop
-same-at-requires c κs = c .before .before .before .before .before .before .before .before .pre .0
+same-in-requires : tie.Need-same-in-requires Inv-loop μ-loop
+same-in-requires c κs = c .before .before .before .before .before .before .before .before .pre .0
 
 -- where a row was looked at: the start, and the test
 module _ (c : tie.After-is-of Inv-loop μ-loop) where
@@ -56,13 +55,13 @@ module _ (c : tie.After-is-of Inv-loop μ-loop) where
   start = c .before .before .before .before .before
 
   abbrev test : List (List ℕ) → Bool
-  test = sameCells (indexFrom (start .args .cell .now) (start .args .at)) (getD (start .args .rows .now) (start .args .i) [])
+  test = sameCells (start .args .index .now) (getD (start .args .rows .now) (start .args .i) [])
 
 returns : tie.Need-returns Inv-loop μ-loop
 returns c =
     let k = c .before .before .before .before .before in
     let s = start k in
-    sym (k .before .before .before .loop .inv .2 ∙ any-kept-here (ofT (s .args .table)) [] (s .args .rows .now) (s .args .n) (k .before .before .before .loop .j) (s .pre .1 .1) (test k) (k .before .before .loop-test .taken) (sym (k .is-of .ensures) ∙ c .before .before .before .before .if1 .taken) (sym (c .before .same-at .ensures) ∙ c .if2 .taken))
+    sym (k .before .before .before .loop .inv .2 ∙ any-kept-here (ofT (s .args .table)) [] (s .args .rows .now) (s .args .n) (k .before .before .before .loop .j) (s .pre .1 .1) (test k) (k .before .before .loop-test .taken) (sym (k .is-of .ensures) ∙ c .before .before .before .before .if1 .taken) (sym (c .before .same-in .ensures) ∙ c .if2 .taken))
 
 add-j-2 : tie.Need-add-j-2 Inv-loop μ-loop
 add-j-2 c =
@@ -90,7 +89,7 @@ returns-2 : tie.Need-returns-2 Inv-loop μ-loop
 returns-2 c =
     let s = c .before .before .before in
     let l = c .before .loop in
-    sym (l .inv .2 ∙ ap (any (sameCells (indexFrom (s .args .cell .now) (s .args .at)) (getD (s .args .rows .now) (s .args .i) []))) (keep-end (ofT (s .args .table)) [] (s .args .rows .now) (s .args .n) (l .j) (s .pre .1 .1) (c .loop-test .left)))
+    sym (l .inv .2 ∙ ap (any (sameCells (s .args .index .now) (getD (s .args .rows .now) (s .args .i) []))) (keep-end (ofT (s .args .table)) [] (s .args .rows .now) (s .args .n) (l .j) (s .pre .1 .1) (c .loop-test .left)))
 
 pub again-spec : {M : Type 1} → statement M
 again-spec =
@@ -103,11 +102,11 @@ again-spec =
     mul-is-of
     shared-slice-element-is-of
     is-of-requires
-    mul-same-at
-    shared-slice-element-same-at
-    mul-same-at-2
-    shared-slice-element-same-at-2
-    same-at-requires
+    mul-same-in
+    shared-slice-element-same-in
+    mul-same-in-2
+    shared-slice-element-same-in-2
+    same-in-requires
     returns
     add-j-2
     loop-less

@@ -6,7 +6,7 @@ use borrow.Author.Tests.{not-true, not-false}
 use lib.ListN.{drop}
 use Rattle.model.specs.Base.{all}
 use Rattle.model.specs.Commit.{allEnough}
-use Rattle.inner.specs.Packed.{packedTables}
+use Rattle.model.specs.Catalog.{packedTables}
 use Rattle.inner.specs.Working.{working}
 use Rattle.references.proofs.Walks.{all-row-here, all-row-on, all-row-end}
 use Rattle.limits.specs.Alike.{rowEnough}

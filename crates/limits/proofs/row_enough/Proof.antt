@@ -7,7 +7,7 @@ use lib.ListN.{length, getD}
 use Rattle.model.specs.Schema.{columnsOf}
 use Rattle.model.specs.Areas.{rowFrom}
 use mathlib.Core.List.{[]}
-use Rattle.inner.specs.Packed.{packedTables, columnFrom, columnCell}
+use Rattle.model.specs.Catalog.{packedTables, columnFrom, columnCell}
 use Rattle.inner.specs.Working.{tableIn}
 use Rattle.references.proofs.Packs.{few-columns}
 use Rattle.limits.specs.Alike.{rowEnough}

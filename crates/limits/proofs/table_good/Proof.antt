@@ -1,13 +1,14 @@
 -- `limits::table_good` meets its contract. Assumes nothing.
 use mathlib.Core.Path.{_≡_, sym, ap, _∙_}
 use native.Mathlib.Omega.{arith}
+use mathlib.Core.Bool.{Bool, true}
 use mathlib.Core.List.{List, []}
 use Prim.Native.Nat.{ℕ, _+_, _<_}
 use borrow.Author.Tests.{not-true, not-false}
 use lib.ListN.{length, getD}
 use Rattle.model.specs.Commit.{notOver}
-use Rattle.inner.specs.Packed.{maxRowsFrom, indexFrom}
-use Rattle.references.proofs.Packs.{tableCount, tables-length, few-tables}
+use Rattle.model.specs.Catalog.{maxRowsFrom, indexFrom, tableCount, indexesOffset, firstIndexOffset, secondIndexOffset}
+use Rattle.references.proofs.Packs.{tables-length, few-tables}
 use Rattle.limits.specs.Alike.{uniqueCells, IndexFits}
 use Rattle.limits.proofs.Sanely.{cellAt, widthAt, Below, fits-first, fits-second}
 use Rattle.limits.proofs.Tables.{mine, fewEnough, good-over, good-none, good-first-no, good-one, good-two}
@@ -18,16 +19,16 @@ use Rattle.limits.proofs.table_good.Tie as tie
 wide-requires : tie.Need-wide-requires
 wide-requires c κs = search needs
 
-add-cell : tie.Need-add-cell
-add-cell c = search needs
+add-entry : tie.Need-add-entry
+add-entry c = search needs
 
-mul-cell : tie.Need-mul-cell
-mul-cell c = search needs
+mul-entry : tie.Need-mul-entry
+mul-entry c = search needs
 
-shared-slice-element-cell : tie.Need-shared-slice-element-cell
-shared-slice-element-cell c =
+index-1-entry : tie.Need-index-1-entry
+index-1-entry c =
     let s = c .before in
-    omega (arith, c .wide .ensures, s .pre .0 .size, s .pre .1 .0, tables-length (s .args .schema .now) 0 (tableCount (s .args .schema .now)), few-tables (s .args .schema .now) (s .pre .0))
+    omega (arith, c .wide .ensures, s .pre .1 .0, tables-length (s .args .schema .now) 0 (tableCount (s .args .schema .now)), few-tables (s .args .schema .now) (s .pre .0))
 
 rows-of-requires : tie.Need-rows-of-requires
 rows-of-requires c κs = search needs
@@ -35,7 +36,7 @@ rows-of-requires c κs = search needs
 within-requires : tie.Need-within-requires
 within-requires c κs = search needs
 
--- the table's cell, and whether its rows are few enough
+-- the table's entry, and whether its rows are few enough
 module _ (c : tie.After-within) where
   abbrev start : tie.Start
   start = c .before .before .before .before
@@ -55,9 +56,9 @@ module _ (c : tie.After-within) where
       ∙ ap (λ (x : List ℕ). notOver (maxRowsFrom x) (length (mine (start .args .schema .now) (start .args .table) (start .args .n) (start .args .rows .now)))) same)
 
 -- its indexes, as far as there are any
-module _ (c : tie.After-shared-slice-known) where
+module _ (c : tie.After-index-count) where
   abbrev at : tie.After-within
-  at = c .before .before .before
+  at = c .before .before
 
   abbrev schema : List (List ℕ)
   schema = start at .args .schema .now
@@ -65,104 +66,128 @@ module _ (c : tie.After-shared-slice-known) where
   abbrev table : ℕ
   table = start at .args .table
 
-  size : length (cellAt schema table) ≡ 48
-  size = ap length (sym (same at)) ∙ c .before .b .given .0
+  abbrev entry : List ℕ
+  entry = cellAt schema table
 
-  number : getD (cell at) 36 0 ≡ getD (cellAt schema table) 36 0
-  number = ap (λ (x : List ℕ). getD x 36 0) (same at)
+  few : fewEnough schema table (start at .args .n) (start at .args .rows .now) ≡ true
+  few = over at ∙ not-false _ (c .before .if1 .left)
 
-  module _ (n0 : getD (cell at) 36 0 ≡ 0 → ⊥) where
-    some : 0 < getD (cellAt schema table) 36 0
-    some = positive (getD (cell at) 36 0) (getD (cellAt schema table) 36 0) number n0
+  number : c .index-count .result ≡ getD entry indexesOffset 0
+  number = c .index-count .ensures ∙ ap (λ (x : List ℕ). getD x indexesOffset 0) (same at)
+
+  -- whether its rows differ in an index
+  abbrev differ : List ℕ → Bool
+  differ index = uniqueCells index (mine schema table (start at .args .n) (start at .args .rows .now))
+
+  module _ (n0 : c .index-count .result ≡ 0 → ⊥) where
+    some : 0 < getD entry indexesOffset 0
+    some = positive (c .index-count .result) (getD entry indexesOffset 0) number n0
       where
         positive : (a b : ℕ) → a ≡ b → (a ≡ 0 → ⊥) → 0 < b
         positive a b e f = omega arith
 
-    first-below : Below (widthAt schema table) (indexFrom (cellAt schema table) 37)
-    first-below = fits-first schema (start at .pre .0) table (one at) size some .1
+    first-fits : IndexFits (indexFrom entry firstIndexOffset) × Below (widthAt schema table) (indexFrom entry firstIndexOffset)
+    first-fits = fits-first schema (start at .pre .0) table (one at) some
 
-    first-ok : IndexFits 6 (cell at) 37
-    first-ok = rw (same at) (fits-first schema (start at .pre .0) table (one at) size some .0)
-
-    module _ (n1 : getD (cell at) 36 0 ≡ 1 → ⊥) where
-      more : 1 < getD (cellAt schema table) 36 0
-      more = above (getD (cell at) 36 0) (getD (cellAt schema table) 36 0) number n0 n1
+    module _ (n1 : c .index-count .result ≡ 1 → ⊥) where
+      more : 1 < getD entry indexesOffset 0
+      more = above (c .index-count .result) (getD entry indexesOffset 0) number n0 n1
         where
           above : (a b : ℕ) → a ≡ b → (a ≡ 0 → ⊥) → (a ≡ 1 → ⊥) → 1 < b
           above a b e f g = omega arith
 
-      second-below : Below (widthAt schema table) (indexFrom (cellAt schema table) 41)
-      second-below = fits-second schema (start at .pre .0) table (one at) size more .1
+      second-fits : IndexFits (indexFrom entry secondIndexOffset) × Below (widthAt schema table) (indexFrom entry secondIndexOffset)
+      second-fits = fits-second schema (start at .pre .0) table (one at) more
 
-      second-ok : IndexFits 6 (cell at) 41
-      second-ok = rw (same at) (fits-second schema (start at .pre .0) table (one at) size more .0)
+-- the first of them, and the second
+abbrev counted : tie.After-first-index → tie.After-index-count
+counted c = c .before .before
+
+first-is : (c : tie.After-first-index) → c .first-index .result .now ≡ indexFrom (entry (counted c)) firstIndexOffset
+first-is c = c .first-index .ensures ∙ ap (λ (x : List ℕ). indexFrom x firstIndexOffset) (same (at (counted c)))
+
+abbrev begun : tie.After-second-index → tie.After-first-index
+begun c = c .before .before .before .before
+
+second-is : (c : tie.After-second-index) → c .second-index .result .now ≡ indexFrom (entry (counted (begun c))) secondIndexOffset
+second-is c = c .second-index .ensures ∙ ap (λ (x : List ℕ). indexFrom x secondIndexOffset) (same (at (counted (begun c))))
 
 returns : tie.Need-returns
 returns c =
     let k = c .before in
-    sym (good-over (start k .args .schema .now) (start k .args .table) (start k .args .n) (start k .args .rows .now) (over k ∙ not-true _ (c .if1 .taken)))
+    let s = start k in
+    sym (good-over (s .args .schema .now) (s .args .table) (s .args .n) (s .args .rows .now) (over k ∙ not-true _ (c .if1 .taken)))
 
-shared-slice-read-count : tie.Need-shared-slice-read-count
-shared-slice-read-count c = search needs
+index-count-requires : tie.Need-index-count-requires
+index-count-requires c κs = search needs
 
 returns-2 : tie.Need-returns-2
 returns-2 c =
-    let k = c .before .before .before .before in
-    sym (good-none (start k .args .schema .now) (start k .args .table) (start k .args .n) (start k .args .rows .now) (over k ∙ not-false _ (c .before .before .before .if1 .left)) (sym (ap (λ (x : List ℕ). getD x 36 0) (same k)) ∙ c .if2 .taken))
+    let k = c .before in
+    let s = start (at k) in
+    sym (good-none (s .args .schema .now) (s .args .table) (s .args .n) (s .args .rows .now) (few k) (sym (number k) ∙ c .if2 .taken))
+
+first-index-requires : tie.Need-first-index-requires
+first-index-requires c κs = search needs
 
 unique-requires : tie.Need-unique-requires
 unique-requires c κs =
-    let k = c .before in
-    (first-ok k (c .if2 .left), start (k .before .before .before) .pre .1 .1)
+    let k = counted c in
+    (rw (first-is c) (first-fits k (c .before .if2 .left) .0), start (at k) .pre .1 .1)
 
 returns-3 : tie.Need-returns-3
 returns-3 c =
-    let k = c .before .before .before in
-    let w = k .before .before .before in
-    let s = start w in
-    sym (good-first-no (s .args .schema .now) (s .args .table) (s .args .n) (s .args .rows .now) (over w ∙ not-false _ (k .before .before .if1 .left)) (first-below k (c .before .before .if2 .left)) (some k (c .before .before .if2 .left))
-    (ap (λ (x : List ℕ). uniqueCells (indexFrom x 37) (mine (s .args .schema .now) (s .args .table) (s .args .n) (s .args .rows .now))) (sym (same w)) ∙ sym (c .before .unique .ensures) ∙ not-true _ (c .if3 .taken)))
+    let f = c .before .before in
+    let k = counted f in
+    let s = start (at k) in
+    let n0 = f .before .if2 .left in
+    sym (good-first-no (s .args .schema .now) (s .args .table) (s .args .n) (s .args .rows .now) (few k) (first-fits k n0 .1) (some k n0) (ap (differ k) (sym (first-is f)) ∙ sym (c .before .unique .ensures) ∙ not-true _ (c .if3 .taken)))
 
 returns-4 : tie.Need-returns-4
 returns-4 c =
-    let k = c .before .before .before .before in
-    let w = k .before .before .before in
-    let s = start w in
-    sym (good-one (s .args .schema .now) (s .args .table) (s .args .n) (s .args .rows .now) (over w ∙ not-false _ (k .before .before .if1 .left)) (first-below k (c .before .before .before .if2 .left)) (sym (ap (λ (x : List ℕ). getD x 36 0) (same w)) ∙ c .if4 .taken)
-    (ap (λ (x : List ℕ). uniqueCells (indexFrom x 37) (mine (s .args .schema .now) (s .args .table) (s .args .n) (s .args .rows .now))) (sym (same w)) ∙ sym (c .before .before .unique .ensures) ∙ not-false _ (c .before .if3 .left)))
+    let f = c .before .before .before in
+    let k = counted f in
+    let s = start (at k) in
+    let n0 = f .before .if2 .left in
+    sym (good-one (s .args .schema .now) (s .args .table) (s .args .n) (s .args .rows .now) (few k) (first-fits k n0 .1) (sym (number k) ∙ c .if4 .taken) (ap (differ k) (sym (first-is f)) ∙ sym (c .before .before .unique .ensures) ∙ not-false _ (c .before .if3 .left)))
+
+second-index-requires : tie.Need-second-index-requires
+second-index-requires c κs = search needs
 
 unique-requires-2 : tie.Need-unique-requires-2
 unique-requires-2 c κs =
-    let k = c .before .before .before .before in
-    (second-ok k (c .before .before .before .if2 .left) (c .if4 .left), start (k .before .before .before) .pre .1 .1)
+    let k = counted (begun c) in
+    (rw (second-is c) (second-fits k (begun c .before .if2 .left) (c .before .if4 .left) .0), start (at k) .pre .1 .1)
 
 returns-5 : tie.Need-returns-5
 returns-5 c =
-    let k = c .before .before .before .before .before in
-    let w = k .before .before .before in
-    let s = start w in
-    let n0 = c .before .before .before .before .if2 .left in
-    let n1 = c .before .if4 .left in
-    c .unique2 .ensures
-    ∙ ap (λ (x : List ℕ). uniqueCells (indexFrom x 41) (mine (s .args .schema .now) (s .args .table) (s .args .n) (s .args .rows .now))) (same w)
-    ∙ sym (good-two (s .args .schema .now) (s .args .table) (s .args .n) (s .args .rows .now) (over w ∙ not-false _ (k .before .before .if1 .left)) (first-below k n0) (second-below k n0 n1) (more k n0 n1)
-    (ap (λ (x : List ℕ). uniqueCells (indexFrom x 37) (mine (s .args .schema .now) (s .args .table) (s .args .n) (s .args .rows .now))) (sym (same w)) ∙ sym (c .before .before .before .unique .ensures) ∙ not-false _ (c .before .before .if3 .left)))
+    let d = c .before in
+    let f = begun d in
+    let k = counted f in
+    let s = start (at k) in
+    let n0 = f .before .if2 .left in
+    let n1 = d .before .if4 .left in
+    c .unique2 .ensures ∙ ap (differ k) (second-is d)
+    ∙ sym (good-two (s .args .schema .now) (s .args .table) (s .args .n) (s .args .rows .now) (few k) (first-fits k n0 .1) (second-fits k n0 n1 .1) (more k n0 n1)
+    (ap (differ k) (sym (first-is f)) ∙ sym (d .before .before .before .unique .ensures) ∙ not-false _ (d .before .before .if3 .left)))
 
 pub table-good-spec : {M : Type 1} → statement M
 table-good-spec =
     tie.close
     (tie.spec
     wide-requires
-    add-cell
-    mul-cell
-    shared-slice-element-cell
+    add-entry
+    mul-entry
+    index-1-entry
     rows-of-requires
     within-requires
     returns
-    shared-slice-read-count
+    index-count-requires
     returns-2
+    first-index-requires
     unique-requires
     returns-3
     returns-4
+    second-index-requires
     unique-requires-2
     returns-5)

@@ -5,9 +5,9 @@ use borrow.Author.Needs.{needs}
 use Prim.Native.Nat.{_-_, _≤_}
 use borrow.Author.Tests.{not-true, not-false}
 use Rattle.model.specs.Commit.{tablesGood}
-use Rattle.inner.specs.Packed.{packedTables}
+use Rattle.model.specs.Catalog.{packedTables, tableCount}
 use Rattle.inner.specs.Working.{working}
-use Rattle.references.proofs.Packs.{tableCount, tables-length, few-tables}
+use Rattle.references.proofs.Packs.{tables-length, few-tables}
 use Rattle.limits.proofs.Tables.{goodFrom, tables-here, tables-next, tables-last}
 use Rattle.limits.proofs.tables_good.Statement.{statement}
 use Rattle.limits.proofs.tables_good.Tie as tie
@@ -18,47 +18,56 @@ Inv-loop schema rows n k t₀ t = (t ≤ k) × (tablesGood 0 (packedTables schem
 abbrev μ-loop : tie.MeasureT-loop
 μ-loop schema rows n k t₀ t = k - t
 
-index-1-k : tie.Need-index-1-k Inv-loop μ-loop
-index-1-k c = omega (arith, c .pre .0 .size)
+index-1-table-count : tie.Need-index-1-table-count Inv-loop μ-loop
+index-1-table-count c = search needs
 
-index-2-k : tie.Need-index-2-k Inv-loop μ-loop
-index-2-k c = search needs
+table-count-requires : tie.Need-table-count-requires Inv-loop μ-loop
+table-count-requires c κs = search needs
+
+-- the start, by where the loop begins
+abbrev start : tie.After-table-count Inv-loop μ-loop → tie.Start Inv-loop μ-loop
+start c = c .before .before
 
 loop-holds : tie.Need-loop-holds Inv-loop μ-loop
 loop-holds c =
-    let e : tableCount (c .before .args .schema .now) - 0 ≡ tableCount (c .before .args .schema .now) = omega arith in
+    let e : tableCount (start c .args .schema .now) - 0 ≡ tableCount (start c .args .schema .now) = omega arith in
     (omega arith, rw e)
 
 table-good-requires : tie.Need-table-good-requires Inv-loop μ-loop
 table-good-requires c κs =
-    let s = c .before .before .before in
-    (s .pre .0, (omega (arith, c .loop-test .taken, tables-length (s .args .schema .now) 0 (tableCount (s .args .schema .now))), s .pre .1))
+    let w = c .before .before in
+    let s = start w in
+    (s .pre .0, (omega (arith, c .loop-test .taken, w .table-count .ensures, tables-length (s .args .schema .now) 0 (tableCount (s .args .schema .now))), s .pre .1))
 
 returns : tie.Need-returns Inv-loop μ-loop
 returns c =
-    let s = c .before .before .before .before .before in
+    let w = c .before .before .before .before in
+    let s = start w in
     let l = c .before .before .before .loop in
-    sym (l .inv .1 ∙ tables-here (s .args .schema .now) (s .args .n) (s .args .rows .now) (l .t) (c .before .before .loop-test .taken) (sym (c .before .table-good .ensures) ∙ not-true _ (c .if1 .taken)))
+    sym (l .inv .1 ∙ tables-here (s .args .schema .now) (s .args .n) (s .args .rows .now) (l .t) (omega (arith, w .table-count .ensures, c .before .before .loop-test .taken)) (sym (c .before .table-good .ensures) ∙ not-true _ (c .if1 .taken)))
 
 add-t : tie.Need-add-t Inv-loop μ-loop
 add-t c =
-    let s = c .before .before .before .before .before in
-    omega (arith, c .before .before .loop-test .taken, few-tables (s .args .schema .now) (s .pre .0))
+    let w = c .before .before .before .before in
+    let s = start w in
+    omega (arith, c .before .before .loop-test .taken, w .table-count .ensures, few-tables (s .args .schema .now) (s .pre .0))
 
 loop-less : tie.Need-loop-less Inv-loop μ-loop
 loop-less c = omega arith
 
 loop-again : tie.Need-loop-again Inv-loop μ-loop
 loop-again c =
-    let s = c .before .before .before .before .before in
+    let w = c .before .before .before .before in
+    let s = start w in
     let l = c .before .before .before .loop in
-    (omega arith, l .inv .1 ∙ tables-next (s .args .schema .now) (s .args .n) (s .args .rows .now) (l .t) (c .before .before .loop-test .taken) (sym (c .before .table-good .ensures) ∙ not-false _ (c .if1 .left)))
+    (omega arith, l .inv .1 ∙ tables-next (s .args .schema .now) (s .args .n) (s .args .rows .now) (l .t) (omega (arith, w .table-count .ensures, c .before .before .loop-test .taken)) (sym (c .before .table-good .ensures) ∙ not-false _ (c .if1 .left)))
 
 returns-2 : tie.Need-returns-2 Inv-loop μ-loop
 returns-2 c =
-    let s = c .before .before .before in
+    let w = c .before .before in
+    let s = start w in
     let l = c .before .loop in
-    sym (l .inv .1 ∙ tables-last (s .args .schema .now) (s .args .n) (s .args .rows .now) (l .t) (c .loop-test .left))
+    sym (l .inv .1 ∙ tables-last (s .args .schema .now) (s .args .n) (s .args .rows .now) (l .t) (omega (arith, w .table-count .ensures, c .loop-test .left)))
 
 pub tables-good-spec : {M : Type 1} → statement M
 tables-good-spec =
@@ -66,8 +75,8 @@ tables-good-spec =
     (tie.spec
     Inv-loop
     μ-loop
-    index-1-k
-    index-2-k
+    index-1-table-count
+    table-count-requires
     loop-holds
     table-good-requires
     returns

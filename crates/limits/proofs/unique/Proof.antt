@@ -7,7 +7,6 @@ use mathlib.Core.Logic.{⊎-elim}
 use Prim.Native.Nat.{_+_, _-_, _≤_}
 use lib.ListN.{getD, drop, take}
 use Rattle.model.specs.Base.{keep}
-use Rattle.inner.specs.Packed.{indexFrom}
 use Rattle.limits.specs.Alike.{ofT, uniqueCells}
 use Rattle.limits.proofs.Kept.{keep-yes, keep-no, keep-end}
 use Rattle.limits.proofs.Indexed.{unique-here, unique-on}
@@ -15,10 +14,10 @@ use Rattle.limits.proofs.unique.Statement.{statement}
 use Rattle.limits.proofs.unique.Tie as tie
 
 abbrev Inv-loop : tie.InvT-loop
-Inv-loop cell at rows n table i₀ i = (i ≤ n) × (uniqueCells (indexFrom cell at) (keep (ofT table) (take n rows)) ≡ uniqueCells (indexFrom cell at) (keep (ofT table) (drop i (take n rows))))
+Inv-loop index rows n table i₀ i = (i ≤ n) × (uniqueCells index (keep (ofT table) (take n rows)) ≡ uniqueCells index (keep (ofT table) (drop i (take n rows))))
 
 abbrev μ-loop : tie.MeasureT-loop
-μ-loop cell at rows n table i₀ i = n - i
+μ-loop index rows n table i₀ i = n - i
 
 loop-holds : tie.Need-loop-holds Inv-loop μ-loop
 loop-holds c = (omega arith, refl)
@@ -46,8 +45,8 @@ returns c =
     let k = c .before .before .before in
     let s = start k in
     let l = k .before .before .before .loop in
-    sym (l .inv .1 ∙ ap (uniqueCells (indexFrom (s .args .cell .now) (s .args .at))) (keep-yes (ofT (s .args .table)) [] (s .args .rows .now) (s .args .n) (l .i) (s .pre .1) (k .before .before .loop-test .taken) (sym (k .is-of .ensures) ∙ c .before .before .if1 .taken))
-    ∙ unique-here (indexFrom (s .args .cell .now) (s .args .at)) (getD (s .args .rows .now) (l .i) []) (keep (ofT (s .args .table)) (drop (l .i + 1) (take (s .args .n) (s .args .rows .now)))) (sym (c .before .again .ensures) ∙ c .if2 .taken))
+    sym (l .inv .1 ∙ ap (uniqueCells (s .args .index .now)) (keep-yes (ofT (s .args .table)) [] (s .args .rows .now) (s .args .n) (l .i) (s .pre .1) (k .before .before .loop-test .taken) (sym (k .is-of .ensures) ∙ c .before .before .if1 .taken))
+    ∙ unique-here (s .args .index .now) (getD (s .args .rows .now) (l .i) []) (keep (ofT (s .args .table)) (drop (l .i + 1) (take (s .args .n) (s .args .rows .now)))) (sym (c .before .again .ensures) ∙ c .if2 .taken))
 
 add-i : tie.Need-add-i Inv-loop μ-loop
 add-i c =
@@ -63,7 +62,7 @@ loop-again c =
     let s = start k in
     let l = k .before .before .before .loop in
     let g = k .before .before .loop-test .taken in
-    let index = indexFrom (s .args .cell .now) (s .args .at) in (
+    let index = s .args .index .now in (
       omega (arith, g),
       l .inv .1 ∙ ⊎-elim
           (λ w. ap (uniqueCells index) (keep-yes (ofT (s .args .table)) [] (s .args .rows .now) (s .args .n) (l .i) (s .pre .1) g (sym (k .is-of .ensures) ∙ w .0 .taken))
@@ -76,7 +75,7 @@ returns-2 : tie.Need-returns-2 Inv-loop μ-loop
 returns-2 c =
     let s = c .before .before .before in
     let l = c .before .loop in
-    sym (l .inv .1 ∙ ap (uniqueCells (indexFrom (s .args .cell .now) (s .args .at))) (keep-end (ofT (s .args .table)) [] (s .args .rows .now) (s .args .n) (l .i) (s .pre .1) (c .loop-test .left)))
+    sym (l .inv .1 ∙ ap (uniqueCells (s .args .index .now)) (keep-end (ofT (s .args .table)) [] (s .args .rows .now) (s .args .n) (l .i) (s .pre .1) (c .loop-test .left)))
 
 pub unique-spec : {M : Type 1} → statement M
 unique-spec =

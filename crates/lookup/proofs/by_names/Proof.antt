@@ -20,25 +20,25 @@ kind-at-requires c κs = search needs
 kind-at-requires-2 : tie.Need-kind-at-requires-2
 kind-at-requires-2 c κs = search needs
 
-is-text-requires : tie.Need-is-text-requires
-is-text-requires c κs = search needs
+is-kind-requires : tie.Need-is-kind-requires
+is-kind-requires c κs = search needs
 
-is-text-requires-2 : tie.Need-is-text-requires-2
-is-text-requires-2 c κs = search needs
+is-kind-requires-2 : tie.Need-is-kind-requires-2
+is-kind-requires-2 c κs = search needs
 
 returns : tie.Need-returns
 returns c =
     let k = c .before .before .before .before in
     let st = k .before .before in
     let s = st .args .text .now in
-    chosen (c .before .before .is-text .result) (c .before .is-text2 .result) (isText (kindOf (treeAt s (st .args .a)))) (isText (kindOf (treeAt s (st .args .b)))) true (st .args .a) (st .args .b) (st .args .c) (c .before .before .is-text .ensures ∙ ap isText (k .kind-at .ensures)) (c .before .is-text2 .ensures ∙ ap isText (c .before .before .before .kind-at2 .ensures)) (c .if1 .taken)
+    chosen (c .before .before .is-kind .result) (c .before .is-kind2 .result) (isText (kindOf (treeAt s (st .args .a)))) (isText (kindOf (treeAt s (st .args .b)))) true (st .args .a) (st .args .b) (st .args .c) (c .before .before .is-kind .ensures ∙ ap isText (k .kind-at .ensures)) (c .before .is-kind2 .ensures ∙ ap isText (c .before .before .before .kind-at2 .ensures)) (c .if1 .taken)
 
 returns-2 : tie.Need-returns-2
 returns-2 c =
     let k = c .before .before .before .before in
     let st = k .before .before in
     let s = st .args .text .now in
-    chosen (c .before .before .is-text .result) (c .before .is-text2 .result) (isText (kindOf (treeAt s (st .args .a)))) (isText (kindOf (treeAt s (st .args .b)))) false (st .args .a) (st .args .b) (st .args .c) (c .before .before .is-text .ensures ∙ ap isText (k .kind-at .ensures)) (c .before .is-text2 .ensures ∙ ap isText (c .before .before .before .kind-at2 .ensures)) (c .if1 .left)
+    chosen (c .before .before .is-kind .result) (c .before .is-kind2 .result) (isText (kindOf (treeAt s (st .args .a)))) (isText (kindOf (treeAt s (st .args .b)))) false (st .args .a) (st .args .b) (st .args .c) (c .before .before .is-kind .ensures ∙ ap isText (k .kind-at .ensures)) (c .before .is-kind2 .ensures ∙ ap isText (c .before .before .before .kind-at2 .ensures)) (c .if1 .left)
 
 pub by-names-spec : {M : Type 1} → statement M
 by-names-spec =
@@ -46,7 +46,7 @@ by-names-spec =
     (tie.spec
     kind-at-requires
     kind-at-requires-2
-    is-text-requires
-    is-text-requires-2
+    is-kind-requires
+    is-kind-requires-2
     returns
     returns-2)

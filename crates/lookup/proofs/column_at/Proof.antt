@@ -7,8 +7,8 @@ use native.Mathlib.Omega.{arith}
 use lib.ListN.{length}
 use Rattle.inner.specs.Positions.{treeAt}
 use Rattle.model.specs.Text.{isWord}
-use Rattle.inner.specs.Packed.{columnFrom}
-use Rattle.names.specs.Names.{foundAt}
+use Rattle.model.specs.Catalog.{columnFrom}
+use Rattle.catalog.specs.Entries.{foundAt}
 use Rattle.lookup.specs.Lookup.{columnIn}
 use Rattle.lookup.proofs.Columns.{columnFound, column-start, column-here, column-next, column-end}
 use Rattle.lookup.proofs.column_at.Statement.{statement}
@@ -23,14 +23,14 @@ abbrev μ-loop : tie.MeasureT-loop
 loop-holds : tie.Need-loop-holds Inv-loop μ-loop
 loop-holds c = (omega arith, column-start (c .before .args .columns .now) (treeAt (c .before .args .text .now) (c .before .args .at)))
 
-mul-cell-name : tie.Need-mul-cell-name Inv-loop μ-loop
-mul-cell-name c = search needs
+mul-name-of : tie.Need-mul-name-of Inv-loop μ-loop
+mul-name-of c = search needs
 
-shared-slice-element-cell-name : tie.Need-shared-slice-element-cell-name Inv-loop μ-loop
-shared-slice-element-cell-name c = search needs
+shared-slice-element-name-of : tie.Need-shared-slice-element-name-of Inv-loop μ-loop
+shared-slice-element-name-of c = search needs
 
-cell-name-requires : tie.Need-cell-name-requires Inv-loop μ-loop
-cell-name-requires c κs = tt
+name-of-requires : tie.Need-name-of-requires Inv-loop μ-loop
+name-of-requires c κs = tt
 
 is-word-requires : tie.Need-is-word-requires Inv-loop μ-loop
 is-word-requires c κs = tt
@@ -40,7 +40,7 @@ returns c =
     let l = c .before .before .before .before .before in
     let st = l .before .before in
     let j = treeAt (st .args .text .now) (st .args .at) in
-    sym (l .loop .inv .1 ∙ column-here (st .args .columns .now) (l .loop .i) j (c .before .before .before .before .loop-test .taken) (sym (c .before .is-word .ensures ∙ ap (λ w. isWord w j) (c .before .before .cell-name .ensures)) ∙ c .if1 .taken))
+    sym (l .loop .inv .1 ∙ column-here (st .args .columns .now) (l .loop .i) j (c .before .before .before .before .loop-test .taken) (sym (c .before .is-word .ensures ∙ ap (λ w. isWord w j) (c .before .before .name-of .ensures)) ∙ c .if1 .taken))
 
 add-i : tie.Need-add-i Inv-loop μ-loop
 add-i c = omega arith
@@ -53,7 +53,7 @@ loop-again c =
     let l = c .before .before .before .before .before in
     let st = l .before .before in
     let j = treeAt (st .args .text .now) (st .args .at) in
-    (omega arith, l .loop .inv .1 ∙ column-next (st .args .columns .now) (l .loop .i) j (c .before .before .before .before .loop-test .taken) (sym (c .before .is-word .ensures ∙ ap (λ w. isWord w j) (c .before .before .cell-name .ensures)) ∙ c .if1 .left))
+    (omega arith, l .loop .inv .1 ∙ column-next (st .args .columns .now) (l .loop .i) j (c .before .before .before .before .loop-test .taken) (sym (c .before .is-word .ensures ∙ ap (λ w. isWord w j) (c .before .before .name-of .ensures)) ∙ c .if1 .left))
 
 returns-2 : tie.Need-returns-2 Inv-loop μ-loop
 returns-2 c =
@@ -68,9 +68,9 @@ column-at-spec =
     Inv-loop
     μ-loop
     loop-holds
-    mul-cell-name
-    shared-slice-element-cell-name
-    cell-name-requires
+    mul-name-of
+    shared-slice-element-name-of
+    name-of-requires
     is-word-requires
     returns
     add-i

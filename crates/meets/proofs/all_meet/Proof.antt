@@ -5,8 +5,8 @@ use Prim.Native.Nat.{_-_, _≤_}
 use native.Mathlib.Omega.{arith}
 use borrow.Author.Tests.{not-true, not-false}
 use lib.ListN.{getD, take, drop}
-use Rattle.inner.specs.Packed.{baseNumbered}
-use Rattle.inner.specs.Packed.{columnFrom}
+use Rattle.model.specs.Catalog.{baseNumbered}
+use Rattle.model.specs.Catalog.{columnFrom}
 use Rattle.model.specs.Value.{atomInLimits}
 use Rattle.meets.specs.Met.{allMet}
 use Rattle.area.proofs.Walks.{front-on, front-off, front-end}
@@ -39,7 +39,7 @@ returns c =
     let l = c .before .before .before .before .loop in
     let h = c .before .before .before .before .before .pre in
     let t = c .before .before .before .loop-test .taken in
-    sym (l .inv .1 ∙ front-off (atomInLimits (columnFrom (a .cell .now)) (baseNumbered (getD (a .cell .now) 25 0))) [] (a .atoms .now) (a .n) (l .i) h t (sym (c .before .atom-meets .ensures) ∙ not-true _ (c .if1 .taken)))
+    sym (l .inv .1 ∙ front-off (atomInLimits (columnFrom (a .entry .now)) (baseNumbered (getD (a .entry .now) 25 0))) [] (a .atoms .now) (a .n) (l .i) h t (sym (c .before .atom-meets .ensures) ∙ not-true _ (c .if1 .taken)))
 
 add-i : tie.Need-add-i Inv-loop μ-loop
 add-i c = omega arith
@@ -54,14 +54,14 @@ loop-again c =
     let l = c .before .before .before .before .loop in
     let h = c .before .before .before .before .before .pre in
     let t = c .before .before .before .loop-test .taken in
-    (omega arith, l .inv .1 ∙ front-on (atomInLimits (columnFrom (a .cell .now)) (baseNumbered (getD (a .cell .now) 25 0))) [] (a .atoms .now) (a .n) (l .i) h t (sym (c .before .atom-meets .ensures) ∙ not-false _ (c .if1 .left)))
+    (omega arith, l .inv .1 ∙ front-on (atomInLimits (columnFrom (a .entry .now)) (baseNumbered (getD (a .entry .now) 25 0))) [] (a .atoms .now) (a .n) (l .i) h t (sym (c .before .atom-meets .ensures) ∙ not-false _ (c .if1 .left)))
 
 returns-2 : tie.Need-returns-2 Inv-loop μ-loop
 unfolding allMet
 returns-2 c =
     let a = c .before .before .args in
     let l = c .before .loop in
-    sym (l .inv .1 ∙ front-end (atomInLimits (columnFrom (a .cell .now)) (baseNumbered (getD (a .cell .now) 25 0))) [] (a .atoms .now) (a .n) (l .i) (c .before .before .pre) (omega arith))
+    sym (l .inv .1 ∙ front-end (atomInLimits (columnFrom (a .entry .now)) (baseNumbered (getD (a .entry .now) 25 0))) [] (a .atoms .now) (a .n) (l .i) (c .before .before .pre) (omega arith))
 
 pub all-meet-spec : {M : Type 1} → statement M
 all-meet-spec =

@@ -33,7 +33,7 @@ returns c =
     let a = c .before .before .before .before .before .args in
     let l = c .before .before .before .before .loop in
     let t = c .before .before .before .loop-test .taken in
-    sym (l .inv .1 ∙ met-off (a .cells .now) (a .row .now) (l .c) t (sym (c .before .column-meets .ensures) ∙ not-true _ (c .if1 .taken)))
+    sym (l .inv .1 ∙ met-off (a .columns .now) (a .row .now) (l .c) t (sym (c .before .column-meets .ensures) ∙ not-true _ (c .if1 .taken)))
 
 add-c : tie.Need-add-c Inv-loop μ-loop
 add-c c = omega arith
@@ -46,13 +46,13 @@ loop-again c =
     let a = c .before .before .before .before .before .args in
     let l = c .before .before .before .before .loop in
     let t = c .before .before .before .loop-test .taken in
-    (omega arith, l .inv .1 ∙ met-on (a .cells .now) (a .row .now) (l .c) t (sym (c .before .column-meets .ensures) ∙ not-false _ (c .if1 .left)))
+    (omega arith, l .inv .1 ∙ met-on (a .columns .now) (a .row .now) (l .c) t (sym (c .before .column-meets .ensures) ∙ not-false _ (c .if1 .left)))
 
 returns-2 : tie.Need-returns-2 Inv-loop μ-loop
 returns-2 c =
     let a = c .before .before .args in
     let l = c .before .loop in
-    sym (l .inv .1 ∙ met-end (a .cells .now) (a .row .now) (l .c) (omega arith))
+    sym (l .inv .1 ∙ met-end (a .columns .now) (a .row .now) (l .c) (omega arith))
 
 pub row-meets-spec : {M : Type 1} → statement M
 row-meets-spec =

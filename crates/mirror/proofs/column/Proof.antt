@@ -70,7 +70,7 @@ column-requires c κs =
     let e = o .before .before .before in
     let a = e .before .before .before .args in
     let h = o .opened .ensures .held (not-false _ (f .if2 .left)) in
-    (h .fit, (record { few = omega (arith, h .few, k .row-count .ensures); room = search needs }, both-sized (length (a .out .now)) (length (a .area .now)) (e .if1 .left) .0))
+    (h .accepted, (record { few = omega (arith, h .few, k .row-count .ensures); room = search needs }, both-sized (length (a .out .now)) (length (a .area .now)) (e .if1 .left) .0))
 
 same-length-3 : tie.Need-same-length-3
 same-length-3 c = search needs

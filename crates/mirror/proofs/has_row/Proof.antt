@@ -2,7 +2,7 @@
 use mathlib.Core.Path.{sym, ap, _∙_}
 use native.Mathlib.Omega.{arith}
 use borrow.Author.Tests.{not-true, not-false}
-use Rattle.inner.specs.Packed.{packedTables}
+use Rattle.model.specs.Catalog.{packedTables}
 use Rattle.model.specs.Calls.{noPresence, presenceOf, mirrorHasRow}
 use Rattle.mirror.proofs.Opening.{state-bad, state-good}
 use Rattle.mirror.proofs.Asking.{presenceIn, there-is, ask-other, ask-bad, ask-good}

@@ -47,7 +47,7 @@ step-requires c κs =
     let k = c .before .before .before .before in
     let f = k .before .before .before .before in
     let h = f .before .before .opened .ensures .held (not-false _ (f .if2 .left)) in
-    (h .fit, record { few = omega (arith, h .few, k .row-count .ensures); room = search needs })
+    (h .accepted, record { few = omega (arith, h .few, k .row-count .ensures); room = search needs })
 
 slice-aggregate-rewrite : tie.Need-slice-aggregate-rewrite
 slice-aggregate-rewrite c = search needs

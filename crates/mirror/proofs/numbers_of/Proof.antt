@@ -1,6 +1,7 @@
 -- `mirror::numbers_of` meets its contract. Assumes nothing.
 use lib.Dec.{eqb}
 use lib.ListN.{getD}
+use Rattle.model.specs.Limits.{heardOffset, wholeOffset}
 use Rattle.mirror.specs.Held.{numbersIn}
 use borrow.Author.Needs.{needs}
 use Rattle.mirror.proofs.numbers_of.Statement.{statement}
@@ -24,7 +25,7 @@ returns c =
     let a = c .before .before .before .before .before .args .area .now in
     let n = c .before .before .before .number-of .ensures in
     let t = c .before .before .top-of .ensures in
-    λ j. record { n = n j; top = t j; heard = eqb (getD a 24111 0) 1; whole = eqb (getD a 24112 0) 1 }
+    λ j. record { n = n j; top = t j; heard = eqb (getD a heardOffset 0) 1; whole = eqb (getD a wholeOffset 0) 1 }
 
 pub numbers-of-spec : {M : Type 1} → statement M
 numbers-of-spec =

@@ -1,58 +1,38 @@
 -- `mirror::opened` meets its contract. Assumes nothing.
 use mathlib.Core.Path.{sym, _∙_}
-use native.Mathlib.Omega.{arith}
+use mathlib.Core.List.{[]}
+use borrow.Author.Needs.{needs}
 use borrow.Author.Tests.{not-true, not-false}
 use Rattle.model.proofs.Octets.{octets}
-use Rattle.mirror.proofs.Opening.{text-is, open-long, open-refused, open-bad, open-good}
-use borrow.Author.Needs.{needs}
+use Rattle.mirror.proofs.Opening.{open-refused, catalog-accepted, open-bad, open-good}
 use Rattle.mirror.proofs.opened.Statement.{statement}
 use Rattle.mirror.proofs.opened.Tie as tie
 
-text-length-requires : tie.Need-text-length-requires
-text-length-requires c κs = search needs
+catalog-of-requires : tie.Need-catalog-of-requires
+catalog-of-requires c κs = search needs
+
+is-accepted-requires : tie.Need-is-accepted-requires
+is-accepted-requires c κs = search needs
 
 returns : tie.Need-returns
 returns c =
-    let s = c .before .before .before in
-    open-long (s .args .area .now) (s .pre .0) _ _ (omega (arith, c .before .text-length .ensures))
-
-add-read : tie.Need-add-read
-add-read c = search needs
-
-sub-read : tie.Need-sub-read
-sub-read c = search needs
-
-part-read-start : tie.Need-part-read-start
-part-read-start c = search needs
-
-part-read-end : tie.Need-part-read-end
-part-read-end c = search needs
-
-read-requires : tie.Need-read-requires
-read-requires c κs = search needs
-
-returns-2 : tie.Need-returns-2
-returns-2 c =
-    let t = c .before .before .before .before .before in
-    let s = t .before .before in
-    let a = s .args .area .now in
-    open-refused a (s .pre .0) _ _ _ (text-is a (t .text-length .result) (t .text-length .ensures)) (c .before .read .result) (not-true _ (c .if2 .taken)) (c .before .read .ensures)
+    let s = c .before .before .before .before .before in
+    open-refused (s .args .area .now) (s .pre .0) _ _ (c .before .before .before .catalog-of .ensures) (sym (c .before .is-accepted .ensures) ∙ not-true _ (c .if1 .taken))
 
 part-good-requires : tie.Need-part-good-requires
-part-good-requires c κs = search needs
+part-good-requires c κs =
+    let s = c .before .before .before .before .before .before .before in
+    (catalog-accepted (s .args .area .now) (s .pre .0) _ [] (c .before .before .before .before .before .catalog-of .ensures) (sym (c .before .before .before .is-accepted .ensures) ∙ not-false _ (c .before .before .if1 .left)), search needs)
 
 same-length : tie.Need-same-length
 same-length c = search needs
 
-returns-3 : tie.Need-returns-3
-returns-3 c =
-    let e = c .before .before .before .before .before in
-    let r = e .before in
-    let t = r .before .before .before .before in
-    let s = t .before .before in
+returns-2 : tie.Need-returns-2
+returns-2 c =
+    let s = c .before .before .before .before .before .before .before .before .before .before in
     let a = s .args .area .now in
-    open-bad a (s .pre .0) _ _ (octets a (λ i. t .before .shared-slice-known .given i .fits)) _ (text-is a (t .text-length .result) (t .text-length .ensures)) (r .read .result) (not-false _ (e .if2 .left)) (r .read .ensures)
-    (sym (not-true _ (c .if3 .taken)) ∙ c .before .before .part-good .ensures .good)
+    open-bad a (s .pre .0) _ _ (c .before .before .before .before .before .before .before .before .catalog-of .ensures) (octets a (λ i. c .before .before .before .before .before .before .before .before .before .shared-slice-known .given i .fits))
+    (sym (c .before .before .before .before .before .before .is-accepted .ensures) ∙ not-false _ (c .before .before .before .before .before .if1 .left)) (sym (not-true _ (c .if2 .taken)) ∙ c .before .before .part-good .ensures .good)
 
 mirror-part-requires : tie.Need-mirror-part-requires
 mirror-part-requires c κs = search needs
@@ -60,32 +40,23 @@ mirror-part-requires c κs = search needs
 same-length-2 : tie.Need-same-length-2
 same-length-2 c = search needs
 
-returns-4 : tie.Need-returns-4
-returns-4 c =
-    let g = c .before .before .before in
-    let e = g .before .before .before in
-    let r = e .before in
-    let t = r .before .before .before .before in
-    let s = t .before .before in
+returns-3 : tie.Need-returns-3
+returns-3 c =
+    let s = c .before .before .before .before .before .before .before .before .before .before .before in
     let a = s .args .area .now in
-    open-good a (s .pre .0) _ _ (octets a (λ i. t .before .shared-slice-known .given i .fits)) _ (text-is a (t .text-length .result) (t .text-length .ensures)) (r .read .result) (not-false _ (e .if2 .left)) (r .read .ensures)
-    (g .part-good .result) (not-false _ (c .before .if3 .left)) (g .part-good .ensures) (c .mirror-part .result) (c .mirror-part .ensures)
+    open-good a (s .pre .0) _ _ (c .before .before .before .before .before .before .before .before .before .catalog-of .ensures) (octets a (λ i. c .before .before .before .before .before .before .before .before .before .before .shared-slice-known .given i .fits))
+    (sym (c .before .before .before .before .before .before .before .is-accepted .ensures) ∙ not-false _ (c .before .before .before .before .before .before .if1 .left)) (c .before .before .before .part-good .result) (not-false _ (c .before .if2 .left)) (c .before .before .before .part-good .ensures) (c .mirror-part .result) (c .mirror-part .ensures)
 
 pub opened-spec : {M : Type 1} → statement M
 opened-spec =
     tie.close
     (tie.spec
-    text-length-requires
+    catalog-of-requires
+    is-accepted-requires
     returns
-    add-read
-    sub-read
-    part-read-start
-    part-read-end
-    read-requires
-    returns-2
     part-good-requires
     same-length
-    returns-3
+    returns-2
     mirror-part-requires
     same-length-2
-    returns-4)
+    returns-3)

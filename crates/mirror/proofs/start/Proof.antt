@@ -1,12 +1,7 @@
 -- `mirror::start` meets its contract. Assumes nothing.
 use mathlib.Core.Path.{_≡_, sym, _∙_}
-use mathlib.Core.Bool.{true}
-use mathlib.Core.List.{[]}
 use native.Mathlib.Omega.{arith}
 use borrow.Author.Tests.{not-true, not-false}
-use Rattle.model.specs.Base.{isSome}
-use Rattle.model.specs.SchemaText.{readSchema}
-use Rattle.model.proofs.Accepted.{text-short}
 use Rattle.mirror.proofs.Starting.{start-other, start-refused, start-is}
 use Rattle.mirror.proofs.Numbered.{start-numbered}
 use borrow.Author.Needs.{needs}
@@ -25,19 +20,13 @@ returns-2 : tie.Need-returns-2
 returns-2 c =
     let e = c .before .before .before in
     let a = e .before .before .before .args in
-    start-numbered (a .area .now) (a .schema .now) (a .run) (start-refused (a .area .now) (a .schema .now) (a .run) (e .if1 .left) (sym (c .before .read .ensures .accepted) ∙ not-true _ (c .if2 .taken)))
+    start-numbered (a .area .now) (a .schema .now) (a .run) (start-refused (a .area .now) (a .schema .now) (a .run) (e .if1 .left) (c .before .read .ensures .refused (not-true _ (c .if2 .taken))))
 
 slice-aggregate-write-store : tie.Need-slice-aggregate-write-store
 slice-aggregate-write-store c = search needs
 
--- the schema was accepted
-accepted : (c : tie.Else2) → isSome (readSchema (c .before .before .before .before .before .before .args .schema .now)) ≡ true
-accepted c = sym (c .before .read .ensures .accepted) ∙ not-false _ (c .if2 .left)
-
 write-store-requires : tie.Need-write-store-requires
-write-store-requires c κs =
-    let e = c .before .before in
-    ((search needs, text-short (e .before .before .before .before .before .before .args .schema .now) (accepted e)), (omega arith, omega arith))
+write-store-requires c κs = (search needs, (omega arith, omega arith))
 
 write-tail-requires : tie.Need-write-tail-requires
 write-tail-requires c κs = search needs
@@ -49,11 +38,11 @@ returns-3 : tie.Need-returns-3
 returns-3 c =
     let t = c .before .before in
     let w = t .before .before .before .before in
-    let e = w .before .before .before in
+    let e = w .before .before .before .before in
     let f = e .before .before .before in
     let s = f .before .before .before in
     let a = s .args in
-    start-numbered (a .area .now) (a .schema .now) (a .run) (start-is (a .area .now) (a .schema .now) (a .run) (f .if1 .left) _ _ _ (accepted e) (omega (arith, s .fits .run)) (w .write-store .ensures [] tt) (t .write-tail .ensures))
+    start-numbered (a .area .now) (a .schema .now) (a .run) (start-is (a .area .now) (a .schema .now) (a .run) (f .if1 .left) _ _ _ _ (e .before .read .ensures .database (not-false _ (e .if2 .left))) (omega (arith, s .fits .run)) (w .write-store .ensures _ (e .before .read .ensures .accepted (not-false _ (e .if2 .left)) .same) tt) (t .write-tail .ensures))
 
 pub start-spec : {M : Type 1} → statement M
 start-spec =

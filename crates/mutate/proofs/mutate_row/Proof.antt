@@ -7,7 +7,7 @@ use borrow.Author.Tests.{not-true, not-false}
 use Rattle.inner.specs.Positions.{nextItem, itemsFine, left}
 use Rattle.model.specs.Faults.{isFine, Judged}
 use Rattle.model.specs.Mutations.{Mutation}
-use Rattle.inner.specs.Packed.{columnFrom}
+use Rattle.model.specs.Catalog.{columnFrom}
 use Rattle.model.proofs.FaultLaws.{earlier-fine}
 use Rattle.nav.proofs.Walk.{walk-fine, walk-less}
 use Rattle.mutations.specs.Mutating.{mutationAt, mutationsAt}

@@ -6,7 +6,7 @@ use Prim.Native.Nat.{_-_}
 use native.Mathlib.Omega.{arith}
 use borrow.Author.Tests.{not-true, not-false}
 use lib.ListN.{length-set}
-use Rattle.inner.specs.Packed.{columnFrom}
+use Rattle.model.specs.Catalog.{columnFrom}
 use Rattle.conditions.specs.Tests.{testsAt}
 use Rattle.mutations.specs.Mutating.{mutationsAt}
 use Rattle.mutate.proofs.Rowwise.{Mutating, mutating-none, mutating-by, mutating-on, mutating-stop, mutating-end}

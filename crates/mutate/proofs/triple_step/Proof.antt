@@ -6,7 +6,7 @@ use Prim.Native.Nat.{_<_}
 use native.Mathlib.Omega.{arith}
 use lib.ListN.{length}
 use Rattle.inner.specs.Positions.{treeAt}
-use Rattle.inner.specs.Packed.{columnFrom}
+use Rattle.model.specs.Catalog.{columnFrom}
 use Rattle.uuids.specs.Named.{namesAt}
 use Rattle.mutations.specs.Mutating.{chosen, mutatorIn, mutationAs}
 use Rattle.mutations.proofs.Naming.{column-some, column-none, column-place}

@@ -7,7 +7,7 @@ use native.Mathlib.Omega.{arith}
 use borrow.Author.Needs.{needs}
 use lib.ListN.{length, drop}
 use Rattle.model.specs.Value.{atomInLimits, allInLimits}
-use Rattle.inner.specs.Packed.{columnFrom}
+use Rattle.model.specs.Catalog.{columnFrom}
 use Rattle.atom.proofs.Cells.{all-on, all-end}
 use Rattle.mutation_step.proofs.all_within.Statement.{statement}
 use Rattle.mutation_step.proofs.all_within.Tie as tie

@@ -8,7 +8,7 @@ use lib.ListN.{length, take, length-take}
 use lib.Seq.{length-take-le}
 use Rattle.model.specs.Value.{intOf}
 use Rattle.model.specs.Faults.{Judged}
-use Rattle.inner.specs.Packed.{columnFrom}
+use Rattle.model.specs.Catalog.{columnFrom}
 use Rattle.inner.specs.Working.{valueIn}
 use Rattle.number.specs.Ints.{intIn}
 use Rattle.references.proofs.Links.{elements-few}

@@ -9,10 +9,11 @@ use Rattle.model.specs.Base.{member}
 use Rattle.model.specs.Json.{Json}
 use Rattle.inner.specs.Positions.{treeAt}
 use Rattle.model.specs.Value.{without}
-use Rattle.inner.specs.Packed.{columnFrom}
+use Rattle.model.specs.Catalog.{baseNumbered, columnFrom}
 use Rattle.inner.specs.Working.{valueIn}
 use Rattle.model.specs.declared.Fault.the-variants.{Fine, Constraint}
 use Rattle.model.proofs.Lists.{length-keep}
+use Rattle.elements.specs.Elements.{elementsFrom}
 use Rattle.uuids.specs.Named.{namesAt}
 use Rattle.written.specs.Atoms.{atomsOf}
 use Rattle.judged.specs.Weights.{atomsAs}
@@ -43,7 +44,8 @@ left k =
     let n = namesAt (a .text .now) (a .ops) (a .fresh .now) in
     let b = columnFrom (a .column .now) .base in
     let x = take (k .before .before .before .before .size .result) (k .before .before .atoms-of .result) in
-    kept-as (ap (λ (y : List Json). without (atomsOf n b y) x) (sym (k .before .before .before .before .before .before .before .elements-at .ensures .all)) ∙ ap (without (atomsAs n b (treeAt (a .text .now) (a .at)))) (same k)) (k .delete-from .ensures)
+    let e = k .before .before .before .before .before .before .before .elements-at .result in
+    kept-as (ap (λ (q : ℕ). without (atomsOf n (baseNumbered q) (elementsFrom (a .text .now) (e .set) (e .first))) x) (k .before .before .before .before .before .before .before .before .before .before .kind .ensures) ∙ ap (λ (y : List Json). without (atomsOf n b y) x) (sym (k .before .before .before .before .before .before .before .elements-at .ensures .all)) ∙ ap (without (atomsAs n b (treeAt (a .text .now) (a .at)))) (same k)) (k .delete-from .ensures)
 
 few : (k : tie.After-delete-from) → k .delete-from .last .1 .1 .1 .1 .1 .1 .1 .1 .0 ≤ 4
 few k =
@@ -51,11 +53,11 @@ few k =
     let l = atomsAs (namesAt (a .text .now) (a .ops) (a .fresh .now)) (columnFrom (a .column .now) .base) (treeAt (a .text .now) (a .at)) in
     omega (arith, left k .size, length-keep (λ (y : List ℕ). not (member y l)) (elementsOf (a .c) (a .row .now)), ap length (same k), length-take (k .before .before .before .before .size .result) (k .before .before .atoms-of .result), k .before .before .before .before .size .ensures)
 
-element-copy-out-kind : tie.Need-element-copy-out-kind
-element-copy-out-kind c = search needs
+kind-requires : tie.Need-kind-requires
+kind-requires c κs = search needs
 
-element-copy-out-wide : tie.Need-element-copy-out-wide
-element-copy-out-wide c = search needs
+minimum-requires : tie.Need-minimum-requires
+minimum-requires c κs = search needs
 
 wide-requires : tie.Need-wide-requires
 wide-requires c κs = search needs
@@ -82,7 +84,7 @@ returns c =
     let z = columnFrom (a .column .now) in
     let l = atomsAs (namesAt (a .text .now) (a .ops) (a .fresh .now)) (z .base) (treeAt (a .text .now) (a .at)) in
     let x = elementsOf (a .c) (a .row .now) in
-    stepped-stop (deletedOn z l x) (a .c) Constraint (a .row .now) (delete-least z l x (k .delete-from .last .1 .1 .1 .1 .1 .1 .1 .1 .0) (left k .size) (omega (arith, c .if1 .taken, k .before .before .before .before .before .before .before .before .wide .ensures))) refl
+    stepped-stop (deletedOn z l x) (a .c) Constraint (a .row .now) (delete-least z l x (k .delete-from .last .1 .1 .1 .1 .1 .1 .1 .1 .0) (left k .size) (omega (arith, c .if1 .taken, k .before .before .before .before .before .before .before .before .wide .ensures, k .before .before .before .before .before .before .before .before .before .minimum .ensures))) refl
 
 cast-set-column : tie.Need-cast-set-column
 cast-set-column c = omega (arith, few (c .before .before .before))
@@ -99,7 +101,7 @@ returns-2 c =
     let x = elementsOf (a .c) (a .row .now) in
     let m = k .delete-from .last .1 .1 .1 .1 .1 .1 .1 .1 .0 in
     stepped-set (deletedOn z l x) (a .c) Fine (a .row .now) (c .set-column .last .0)
-    (delete-good z l x m (left k .size) (omega (arith, c .before .before .before .before .if1 .left, k .before .before .before .before .before .before .before .before .wide .ensures)))
+    (delete-good z l x m (left k .size) (omega (arith, c .before .before .before .before .if1 .left, k .before .before .before .before .before .before .before .before .wide .ensures, k .before .before .before .before .before .before .before .before .before .minimum .ensures)))
     (record { count = m; atoms = k .delete-from .result })
     (λ h. delete-value z l x m (left k .size) (k .delete-from .result) (left k .cells))
     (c .set-column .ensures)
@@ -108,8 +110,8 @@ pub delete-spec : {M : Type 1} → statement M
 delete-spec =
     tie.close
     (tie.spec
-    element-copy-out-kind
-    element-copy-out-wide
+    kind-requires
+    minimum-requires
     wide-requires
     elements-at-requires
     count-of-requires

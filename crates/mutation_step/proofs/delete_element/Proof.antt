@@ -5,7 +5,7 @@ use Prim.Native.Nat.{ℕ}
 use native.Mathlib.Omega.{arith}
 use lib.ListN.{take}
 use Rattle.inner.specs.Positions.{treeAt}
-use Rattle.inner.specs.Packed.{baseNumbered}
+use Rattle.model.specs.Catalog.{baseNumbered}
 use Rattle.model.specs.Value.{without}
 use Rattle.uuids.specs.Named.{namesAt}
 use Rattle.written.specs.Atoms.{Reads}

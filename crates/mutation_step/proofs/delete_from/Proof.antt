@@ -4,7 +4,7 @@ use mathlib.Core.List.{List}
 use Prim.Native.Nat.{ℕ}
 use lib.ListN.{length, take}
 use Rattle.inner.specs.Positions.{left}
-use Rattle.inner.specs.Packed.{baseNumbered}
+use Rattle.model.specs.Catalog.{baseNumbered}
 use Rattle.model.specs.Value.{without}
 use Rattle.value.proofs.Fours.{padded}
 use Rattle.elements.specs.Elements.{elementsFrom}

@@ -5,9 +5,9 @@ use Prim.Native.Nat.{ℕ, min}
 use native.Mathlib.Omega.{arith}
 use lib.ListN.{length, take, getD}
 use lib.Seq.{length-take-le}
-use Rattle.inner.specs.Packed.{baseNumbered}
+use Rattle.model.specs.Catalog.{baseNumbered}
 use Rattle.model.specs.Value.{union}
-use Rattle.inner.specs.Packed.{columnFrom}
+use Rattle.model.specs.Catalog.{columnFrom}
 use Rattle.inner.specs.Working.{valueIn}
 use Rattle.model.specs.declared.Fault.the-variants.{Fine, Resources, Constraint}
 use Rattle.references.proofs.Links.{elements-few}
@@ -36,11 +36,11 @@ count k =
     let z = columnFrom (a .column .now) in
     k .union-count .ensures (z .base) ∙ ap (λ (l : List (List ℕ)). length (union (z .base) l (a .more .now))) (same k)
 
-element-copy-out-kind : tie.Need-element-copy-out-kind
-element-copy-out-kind c = search needs
+kind-requires : tie.Need-kind-requires
+kind-requires c κs = search needs
 
-element-copy-out-wide : tie.Need-element-copy-out-wide
-element-copy-out-wide c = search needs
+maximum-requires : tie.Need-maximum-requires
+maximum-requires c κs = search needs
 
 wide-requires : tie.Need-wide-requires
 wide-requires c κs = search needs
@@ -75,13 +75,13 @@ returns-2 c =
     let k = c .before .before in
     let a = k .before .before .before .before .before .before .before .before .before .before .args in
     let z = columnFrom (a .column .now) in
-    stepped-stop (insertedOn z (a .more .now) (elementsOf (a .c) (a .row .now))) (a .c) Constraint (a .row .now) (insert-most z (a .more .now) (elementsOf (a .c) (a .row .now)) (k .union-count .result) (count k) (c .before .if1 .left) (omega (arith, c .if2 .taken, k .before .before .before .before .before .before .before .wide .ensures))) refl
+    stepped-stop (insertedOn z (a .more .now) (elementsOf (a .c) (a .row .now))) (a .c) Constraint (a .row .now) (insert-most z (a .more .now) (elementsOf (a .c) (a .row .now)) (k .union-count .result) (count k) (c .before .if1 .left) (omega (arith, c .if2 .taken, k .before .before .before .before .before .before .before .wide .ensures, k .before .before .before .before .before .before .before .before .maximum .ensures))) refl
 
 unite-requires : tie.Need-unite-requires
 unite-requires c κs =
     let k = c .before .before in
     let a = k .before .before .before .before .before .before .before .before .before .before .args in
-    (omega (arith, k .before .before .before .before .size .ensures), omega (arith, k .union-count .ensures (baseNumbered (getD (a .column .now) 25 0)), c .before .if1 .left))
+    (omega (arith, k .before .before .before .before .size .ensures), omega (arith, k .union-count .ensures (baseNumbered (k .before .before .before .before .before .before .before .before .before .kind .result)), c .before .if1 .left))
 
 cast-set-column : tie.Need-cast-set-column
 cast-set-column c = search needs
@@ -97,17 +97,17 @@ returns-3 c =
     let z = columnFrom (a .column .now) in
     let x = elementsOf (a .c) (a .row .now) in
     stepped-set (insertedOn z (a .more .now) x) (a .c) Fine (a .row .now) (c .set-column .last .0)
-    (insert-good z (a .more .now) x (k .union-count .result) (count k) (u .before .before .if1 .left) (omega (arith, u .before .if2 .left, k .before .before .before .before .before .before .before .wide .ensures)))
+    (insert-good z (a .more .now) x (k .union-count .result) (count k) (u .before .before .if1 .left) (omega (arith, u .before .if2 .left, k .before .before .before .before .before .before .before .wide .ensures, k .before .before .before .before .before .before .before .before .maximum .ensures)))
     (record { count = k .union-count .result; atoms = u .unite .result })
-    (λ h. insert-value z (a .more .now) x (k .union-count .result) (count k) (u .unite .result) (u .unite .ensures ∙ ap (λ (l : List (List ℕ)). padded (union (z .base) l (a .more .now))) (same k)))
+    (λ h. insert-value z (a .more .now) x (k .union-count .result) (count k) (u .unite .result) (u .unite .ensures ∙ ap (λ (l : List (List ℕ)). padded (union (baseNumbered (k .before .before .before .before .before .before .before .before .before .kind .result)) l (a .more .now))) (same k) ∙ ap (λ (b : ℕ). padded (union (baseNumbered b) x (a .more .now))) (k .before .before .before .before .before .before .before .before .before .kind .ensures)))
     (c .set-column .ensures)
 
 pub insert-spec : {M : Type 1} → statement M
 insert-spec =
     tie.close
     (tie.spec
-    element-copy-out-kind
-    element-copy-out-wide
+    kind-requires
+    maximum-requires
     wide-requires
     count-of-requires
     size-requires

@@ -4,7 +4,7 @@ use native.Mathlib.Omega.{arith}
 use borrow.Author.Tests.{not-true, not-false}
 use lib.ListN.{length}
 use lib.Seq.{length-take-le}
-use Rattle.inner.specs.Packed.{columnFrom}
+use Rattle.model.specs.Catalog.{columnFrom}
 use Rattle.number.specs.Ints.{intIn}
 use Rattle.mutation_step.proofs.Calculating.{reckon-stop, reckon-yes, reckon-no}
 use borrow.Author.Needs.{needs}

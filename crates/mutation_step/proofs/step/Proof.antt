@@ -5,7 +5,7 @@ use native.Mathlib.Omega.{arith}
 use lib.ListN.{take}
 use lib.Seq.{length-take-le}
 use Rattle.inner.specs.Positions.{treeAt}
-use Rattle.inner.specs.Packed.{columnFrom}
+use Rattle.model.specs.Catalog.{columnFrom}
 use Rattle.uuids.specs.Named.{namesAt}
 use Rattle.mutation_step.specs.Steps.{elementsOf}
 use Rattle.mutation_step.proofs.Stepping.{stepped-as, insert-fine, insert-few, insert-front, insert-arm, delete-arm, arithmetic-fine, arithmetic-arm}

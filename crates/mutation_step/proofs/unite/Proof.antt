@@ -6,7 +6,7 @@ use native.Mathlib.Omega.{arith}
 use borrow.Author.Needs.{needs}
 use lib.ListN.{length, take}
 use lib.Seq.{length-take-le}
-use Rattle.inner.specs.Packed.{baseNumbered}
+use Rattle.model.specs.Catalog.{baseNumbered}
 use Rattle.model.specs.Value.{union}
 use Rattle.value.proofs.Fours.{padded}
 use Rattle.mutation_step.proofs.Uniting.{first-front, United, united-none, united-few, united-length, united-on, united-end}

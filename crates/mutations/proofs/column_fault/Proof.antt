@@ -2,7 +2,7 @@
 use mathlib.Core.Path.{sym, ap, _∙_}
 use Rattle.inner.specs.Positions.{treeAt}
 use Rattle.model.specs.Faults.{earlier}
-use Rattle.inner.specs.Packed.{columnFrom}
+use Rattle.model.specs.Catalog.{columnFrom}
 use Rattle.uuids.specs.Named.{namesAt}
 use Rattle.mutation_step.specs.Steps.{operandOf}
 use Rattle.mutations.proofs.Faulty.{fault-suited, fault-not}

@@ -3,7 +3,7 @@ use mathlib.Core.Path.{sym, ap, _∙_}
 use mathlib.Core.List.{map}
 use native.Mathlib.Omega.{arith}
 use Rattle.inner.specs.Positions.{treeAt}
-use Rattle.inner.specs.Packed.{columnFrom}
+use Rattle.model.specs.Catalog.{columnFrom}
 use Rattle.uuids.specs.Named.{namesAt}
 use Rattle.mutations.specs.Mutating.{chosen, mutatorIn, mutationAs}
 use Rattle.mutations.proofs.Naming.{column-some, column-none, column-place}

@@ -1,7 +1,7 @@
 -- `mutations::value_fault` meets its contract. Assumes nothing.
 use mathlib.Core.Path.{sym, ap, _∙_}
 use Rattle.inner.specs.Positions.{treeAt}
-use Rattle.inner.specs.Packed.{columnFrom}
+use Rattle.model.specs.Catalog.{columnFrom}
 use Rattle.uuids.specs.Named.{namesAt}
 use Rattle.mutation_step.specs.Steps.{operandOf}
 use Rattle.mutation_step.proofs.Stepping.{five-operand}

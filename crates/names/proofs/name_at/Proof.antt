@@ -10,8 +10,8 @@ use Rattle.names.proofs.name_at.Tie as tie
 kind-at-requires : tie.Need-kind-at-requires
 kind-at-requires c κs = search needs
 
-is-text-requires : tie.Need-is-text-requires
-is-text-requires c κs = search needs
+is-kind-requires : tie.Need-is-kind-requires
+is-kind-requires c κs = search needs
 
 spaces-requires : tie.Need-spaces-requires
 spaces-requires c κs = search needs
@@ -20,7 +20,7 @@ add-decode : tie.Need-add-decode
 add-decode c =
     let k = c .before .before .before in
     let st = k .before .before in
-    let t = ap isText (sym (k .kind-at .ensures)) ∙ sym (c .before .before .is-text .ensures) ∙ c .before .if1 .taken in
+    let t = ap isText (sym (k .kind-at .ensures)) ∙ sym (c .before .before .is-kind .ensures) ∙ c .before .if1 .taken in
     omega (arith, spaces-fit (st .args .text .now) (st .args .at) t (c .spaces .ensures))
 
 sub-decode : tie.Need-sub-decode
@@ -44,7 +44,7 @@ cast-cell c =
     let sp = d .before .before in
     let k = sp .before .before .before in
     let st = k .before .before in
-    let t = ap isText (sym (k .kind-at .ensures)) ∙ sym (sp .before .before .is-text .ensures) ∙ sp .before .if1 .taken in
+    let t = ap isText (sym (k .kind-at .ensures)) ∙ sym (sp .before .before .is-kind .ensures) ∙ sp .before .if1 .taken in
     omega (arith, name-short (st .args .text .now) (st .args .at) t (sp .spaces .ensures) (d .decode .ensures) (c .before .w .given .1) .0)
 
 array-write-cell : tie.Need-array-write-cell
@@ -56,7 +56,7 @@ returns c =
     let sp = d .before .before in
     let k = sp .before .before .before in
     let st = k .before .before in
-    let t = ap isText (sym (k .kind-at .ensures)) ∙ sym (sp .before .before .is-text .ensures) ∙ sp .before .if1 .taken in
+    let t = ap isText (sym (k .kind-at .ensures)) ∙ sym (sp .before .before .is-kind .ensures) ∙ sp .before .if1 .taken in
     name-short (st .args .text .now) (st .args .at) t (sp .spaces .ensures) (d .decode .ensures) (c .before .w .given .1) .1
 
 enum-told : tie.Need-enum-told
@@ -68,21 +68,21 @@ returns-2 c =
     let sp = d .before .before in
     let k = sp .before .before .before in
     let st = k .before .before in
-    let t = ap isText (sym (k .kind-at .ensures)) ∙ sym (sp .before .before .is-text .ensures) ∙ sp .before .if1 .taken in
+    let t = ap isText (sym (k .kind-at .ensures)) ∙ sym (sp .before .before .is-kind .ensures) ∙ sp .before .if1 .taken in
     name-long (st .args .text .now) (st .args .at) t (sp .spaces .ensures) (d .decode .ensures) (c .enum-told .given .1)
 
 returns-3 : tie.Need-returns-3
 returns-3 c =
     let k = c .before .before in
     let st = k .before .before in
-    name-none _ (ap isText (sym (k .kind-at .ensures)) ∙ sym (c .before .is-text .ensures) ∙ c .if1 .left)
+    name-none _ (ap isText (sym (k .kind-at .ensures)) ∙ sym (c .before .is-kind .ensures) ∙ c .if1 .left)
 
 pub name-at-spec : {M : Type 1} → statement M
 name-at-spec =
     tie.close
     (tie.spec
     kind-at-requires
-    is-text-requires
+    is-kind-requires
     spaces-requires
     add-decode
     sub-decode

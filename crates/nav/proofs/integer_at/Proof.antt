@@ -14,8 +14,8 @@ use Rattle.nav.proofs.integer_at.Tie as tie
 kind-at-requires : tie.Need-kind-at-requires
 kind-at-requires c κs = search needs
 
-is-number-requires : tie.Need-is-number-requires
-is-number-requires c κs = search needs
+is-kind-requires : tie.Need-is-kind-requires
+is-kind-requires c κs = search needs
 
 spaces-requires : tie.Need-spaces-requires
 spaces-requires c κs = search needs
@@ -33,7 +33,7 @@ returns c =
     let n = e .before .before .before in
     let st = n .before .before .before .before in
     let s = st .args .text .now in
-    let k : kindOf (treeAt s (st .args .at)) ≡ Number = number-kind _ (ap isNumber (sym (n .before .kind-at .ensures)) ∙ sym (n .is-number .ensures) ∙ e .before .before .if1 .taken) in
+    let k : kindOf (treeAt s (st .args .at)) ≡ Number = number-kind _ (ap isNumber (sym (n .before .kind-at .ensures)) ∙ sym (n .is-kind .ensures) ∙ e .before .before .if1 .taken) in
     let z : isRead (e .end-of .result) ≡ false = no-end (λ r. isRead r ≡ false) (λ x. refl) (λ x. refl) (e .end-of .result) (c .match .keys2) in
     whole-none (number-not s (st .args .at) k (ap isRead (sym (e .end-of .ensures)) ∙ z))
 
@@ -49,7 +49,7 @@ returns-2 c =
     let n = e .before .before .before in
     let st = n .before .before .before .before in
     let s = st .args .text .now in
-    let k : kindOf (treeAt s (st .args .at)) ≡ Number = number-kind _ (ap isNumber (sym (n .before .kind-at .ensures)) ∙ sym (n .is-number .ensures) ∙ e .before .before .if1 .taken) in
+    let k : kindOf (treeAt s (st .args .at)) ≡ Number = number-kind _ (ap isNumber (sym (n .before .kind-at .ensures)) ∙ sym (n .is-kind .ensures) ∙ e .before .before .if1 .taken) in
     let z = number-is s (st .args .at) k _ (sym (e .end-of .ensures) ∙ c .before .before .r .given .1) in
     c .whole-text .ensures ∙ rw (e .before .spaces .ensures) (whole-num z)
 
@@ -57,14 +57,14 @@ returns-3 : tie.Need-returns-3
 returns-3 c =
     let n = c .before in
     let st = n .before .before .before .before in
-    whole-not (treeAt (st .args .text .now) (st .args .at)) (ap isNumber (sym (n .before .kind-at .ensures)) ∙ sym (n .is-number .ensures) ∙ c .if1 .left)
+    whole-not (treeAt (st .args .text .now) (st .args .at)) (ap isNumber (sym (n .before .kind-at .ensures)) ∙ sym (n .is-kind .ensures) ∙ c .if1 .left)
 
 pub integer-at-spec : {M : Type 1} → statement M
 integer-at-spec =
     tie.close
     (tie.spec
     kind-at-requires
-    is-number-requires
+    is-kind-requires
     spaces-requires
     end-of-requires
     enum-known-r

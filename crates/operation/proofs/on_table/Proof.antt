@@ -1,6 +1,7 @@
 -- `operation::on_table` meets its contract. Assumes nothing.
 use native.Mathlib.Omega.{arith}
-use Rattle.inner.specs.Packed.{packedTables}
+use Rattle.catalog.proofs.Laws.{few-tables, few-columns}
+use Rattle.model.specs.Catalog.{packedTables}
 use Rattle.operation.proofs.Choosing.{columns-same, on-insert, on-select, on-update, on-mutate, on-delete}
 use borrow.Author.Needs.{needs}
 use Rattle.operation.proofs.on_table.Statement.{statement}
@@ -10,14 +11,14 @@ columns-of-requires : tie.Need-columns-of-requires
 columns-of-requires c κs =
     let st = c .before .before .before .before in
     let x = st .pre .1 .0 in
-    let y = st .pre .0 .sized .tables in
-    (omega arith, st .pre .0 .sized .columns (st .args .t) (omega arith))
+    let y = few-tables _ (st .pre .0 .accepted) in
+    (omega arith, few-columns _ (st .pre .0 .accepted) (st .args .t) (omega arith))
 
 cast-table : tie.Need-cast-table
 cast-table c =
     let st = c .before .before .before .before .before in
     let x = st .pre .1 .0 in
-    let y = st .pre .0 .sized .tables in
+    let y = few-tables _ (st .pre .0 .accepted) in
     omega arith
 
 run-insert-requires : tie.Need-run-insert-requires
@@ -53,7 +54,7 @@ run-select-requires c κs =
     let co = th .before .before in
     let st = co .before .before .before .before .before in
     let b = st .pre .0 in
-    (record { running = b .running; well = b .well; few = co .columns-of .ensures .1; count = b .count; room = b .room; space = b .space }, record { accepted = b .accepted; sized = b .sized; here = st .pre .1 .0; cells = co .columns-of .ensures .0 })
+    (record { running = b .running; well = b .well; few = co .columns-of .ensures .1; count = b .count; room = b .room; space = b .space }, record { accepted = b .accepted; here = st .pre .1 .0; cells = co .columns-of .ensures .0 })
 
 same-length-3 : tie.Need-same-length-3
 same-length-3 c = search needs

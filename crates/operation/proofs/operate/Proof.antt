@@ -4,7 +4,7 @@ use lib.ListN.{getD}
 use Rattle.inner.specs.Positions.{treeAt}
 use Rattle.model.specs.Members.{membersIn}
 use Rattle.model.specs.Transact.{freshIds}
-use Rattle.inner.specs.Packed.{packedTables}
+use Rattle.model.specs.Catalog.{packedTables}
 use Rattle.inner.specs.Working.{working}
 use Rattle.fields.specs.Fields.{wordsFrom, wordsOf}
 use Rattle.uuids.specs.Named.{namesAt}
@@ -20,7 +20,7 @@ slice-aggregate-find c = search needs
 find-requires : tie.Need-find-requires
 find-requires c κs =
     let st = c .before .before .before .before .before in
-    (st .pre .0 .says, st .pre .1 .1 .1 .0)
+    (st .pre .0 .says, st .pre .1 .1 .0)
 
 enum-known-f : tie.Need-enum-known-f
 enum-known-f c = search needs
@@ -39,7 +39,7 @@ returns c =
     let names = namesAt (a .text .now) (a .ops) (a .fresh .now) in
     let id = getD (freshIds (a .fresh .now)) (a .i) 0 in
     let ms = membersIn (treeAt (a .text .now) (a .op)) in
-    λ given e. ran-as (operate-missing s names given id work ms (a .text .now) (fd .find .ensures) (c .enum-told .given .1)) (ran-failed (b .1 .1 .1 .1 .1 .0 .0) refl refl)
+    λ given e. ran-as (operate-missing s names given id work ms (a .text .now) (fd .find .ensures) (c .enum-told .given .1)) (ran-failed (b .1 .1 .1 .1 .0 .0) refl refl)
 
 slice-aggregate-choose : tie.Need-slice-aggregate-choose
 slice-aggregate-choose c = search needs
@@ -53,7 +53,7 @@ perform-requires c κs =
     let fd = ch .before .before .before .before .before in
     let st = fd .before .before .before .before .before .before in
     let b = st .pre in
-    record { running = b .0; accepted = b .1 .0; sized = b .1 .1 .0; well = b .1 .1 .1 .0; early = b .1 .1 .1 .1 .0; count = b .1 .1 .1 .1 .1 .0 .0; room = b .1 .1 .1 .1 .1 .0 .1; space = b .1 .1 .1 .1 .1 .1 }
+    record { running = b .0; accepted = b .1 .0; well = b .1 .1 .0; early = b .1 .1 .1 .0; count = b .1 .1 .1 .1 .0 .0; room = b .1 .1 .1 .1 .0 .1; space = b .1 .1 .1 .1 .1 }
 
 same-length : tie.Need-same-length
 same-length c = search needs

@@ -1,10 +1,11 @@
 -- `operation::perform` meets its contract. Assumes nothing.
 use mathlib.Core.Path.{refl}
 use lib.ListN.{getD}
+use Rattle.catalog.proofs.Laws.{few-tables}
 use Rattle.inner.specs.Positions.{treeAt}
 use Rattle.model.specs.Members.{membersIn}
 use Rattle.model.specs.Transact.{freshIds}
-use Rattle.inner.specs.Packed.{packedTables}
+use Rattle.model.specs.Catalog.{packedTables}
 use Rattle.inner.specs.Working.{working}
 use Rattle.uuids.specs.Named.{namesAt}
 use Rattle.table_operations.proofs.Doing.{ran-failed}
@@ -67,7 +68,7 @@ table-in-requires c κs =
     let sk = c .before .before .before in
     let st = sk .before .before .before .before in
     let b = st .pre in
-    (b .running .says, (b .well, b .sized .tables))
+    (b .running .says, (b .well, few-tables _ (b .accepted)))
 
 enum-known-f : tie.Need-enum-known-f
 enum-known-f c = search needs

@@ -23,8 +23,8 @@ array-read-kind-in c = search needs
 kind-in-requires : tie.Need-kind-in-requires
 kind-in-requires c κs = search needs
 
-is-text-requires : tie.Need-is-text-requires
-is-text-requires c κs = search needs
+is-kind-requires : tie.Need-is-kind-requires
+is-kind-requires c κs = search needs
 
 array-read-if1 : tie.Need-array-read-if1
 array-read-if1 c = search needs
@@ -49,7 +49,7 @@ returns c =
     let fs = ki .before in
     let st = fs .before .before .before .before .before in
     let a = st .args in
-    λ s rows. comment-done (a .text .now) (a .op) (fs .fields .ensures) (it .is-text .ensures ∙ ap isText (ki .kind-in .ensures)) s rows (st .pre .1 .1 .0) (t1 .if1 .taken) (t2 .if2 .taken) (pb .put-bytes .ensures)
+    λ s rows. comment-done (a .text .now) (a .op) (fs .fields .ensures) (it .is-kind .ensures ∙ ap isText (ki .kind-in .ensures)) s rows (st .pre .1 .1 .0) (t1 .if1 .taken) (t2 .if2 .taken) (pb .put-bytes .ensures)
 
 returns-2 : tie.Need-returns-2
 unfolding wordsOf wordsFrom
@@ -60,7 +60,7 @@ returns-2 c =
     let fs = ki .before in
     let st = fs .before .before .before .before .before in
     let a = st .args in
-    λ s rows. comment-untold (a .text .now) (a .op) (fs .fields .ensures) (it .is-text .ensures ∙ ap isText (ki .kind-in .ensures)) s rows (st .pre .1 .1 .0) (c .if2 .left)
+    λ s rows. comment-untold (a .text .now) (a .op) (fs .fields .ensures) (it .is-kind .ensures ∙ ap isText (ki .kind-in .ensures)) s rows (st .pre .1 .1 .0) (c .if2 .left)
 
 returns-3 : tie.Need-returns-3
 unfolding wordsOf wordsFrom
@@ -70,7 +70,7 @@ returns-3 c =
     let fs = ki .before in
     let st = fs .before .before .before .before .before in
     let a = st .args in
-    λ s rows. comment-extra (a .text .now) (a .op) (fs .fields .ensures) (it .is-text .ensures ∙ ap isText (ki .kind-in .ensures)) s rows (st .pre .1 .1 .0) (c .if1 .left)
+    λ s rows. comment-extra (a .text .now) (a .op) (fs .fields .ensures) (it .is-kind .ensures ∙ ap isText (ki .kind-in .ensures)) s rows (st .pre .1 .1 .0) (c .if1 .left)
 
 pub run-comment-spec : {M : Type 1} → statement M
 run-comment-spec =
@@ -80,7 +80,7 @@ run-comment-spec =
     fields-requires
     array-read-kind-in
     kind-in-requires
-    is-text-requires
+    is-kind-requires
     array-read-if1
     slice-aggregate-put-bytes
     put-bytes-requires

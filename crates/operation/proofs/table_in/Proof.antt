@@ -1,7 +1,7 @@
 -- `operation::table_in` meets its contract. Assumes nothing.
 use Rattle.inner.specs.Positions.{treeAt}
 use Rattle.model.specs.Members.{membersIn}
-use Rattle.inner.specs.Packed.{packedTables}
+use Rattle.model.specs.Catalog.{packedTables}
 use Rattle.operation.proofs.Choosing.{table-there, table-missing}
 use borrow.Author.Needs.{needs}
 use Rattle.operation.proofs.table_in.Statement.{statement}

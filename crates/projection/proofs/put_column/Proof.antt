@@ -1,6 +1,12 @@
 -- `projection::put_column` meets its contract. Assumes nothing.
+use Prim.Native.Nat.{ℕ}
+use mathlib.Core.Path.{ap, _∙_}
+use mathlib.Core.List.{_++_}
 use native.Mathlib.Omega.{arith}
 use Rattle.answer.proofs.Putting.{put-then, put-is}
+use Rattle.model.specs.Catalog.{cellName}
+use Rattle.answer.specs.Texts.{setText}
+use Rattle.projection.specs.Shown.{nameText}
 use Rattle.projection.proofs.Columns.{column-is}
 use borrow.Author.Needs.{needs}
 use Rattle.projection.proofs.put_column.Statement.{statement}
@@ -15,8 +21,8 @@ count-of-requires c κs = search needs
 atoms-in-requires : tie.Need-atoms-in-requires
 atoms-in-requires c κs = search needs
 
-element-copy-out-put-value : tie.Need-element-copy-out-put-value
-element-copy-out-put-value c = search needs
+kind-requires : tie.Need-kind-requires
+kind-requires c κs = search needs
 
 put-value-requires : tie.Need-put-value-requires
 put-value-requires c κs = search needs
@@ -29,7 +35,7 @@ returns c =
     let s = c .before .before .before .before .before .before .before .before .before .before .before .before .args in
     put-is
     (put-then (c .before .before .before .before .before .before .before .before .before .put-name .ensures) (c .before .before .put-value .ensures))
-    (column-is (s .cell .now) (s .row .now) (s .c) _ _ (c .before .before .before .before .before .before .count-of .ensures) (c .before .before .before .before .before .atoms-in .ensures .0))
+    (ap (λ (k : ℕ). nameText (cellName (s .cell .now)) ++ setText k (c .before .before .before .before .before .before .count-of .result) (c .before .before .before .before .before .atoms-in .result .now)) (c .before .before .before .kind .ensures) ∙ column-is (s .cell .now) (s .row .now) (s .c) _ _ (c .before .before .before .before .before .before .count-of .ensures) (c .before .before .before .before .before .atoms-in .ensures .0))
     (omega arith)
 
 pub put-column-spec : {M : Type 1} → statement M
@@ -39,7 +45,7 @@ put-column-spec =
     put-name-requires
     count-of-requires
     atoms-in-requires
-    element-copy-out-put-value
+    kind-requires
     put-value-requires
     same-length
     returns)

@@ -1,27 +1,36 @@
 -- `projection::put_row` meets its contract. Assumes nothing.
 use Prim.Native.Nat.{_≤_}
+use mathlib.Core.Path.{_∙_}
 use native.Mathlib.Omega.{arith}
 use Rattle.answer.proofs.Putting.{put-then, put-is}
-use Rattle.projection.specs.Shown.{columnsIn}
 use Rattle.projection.proofs.Columns.{row-is}
 use borrow.Author.Needs.{needs}
 use Rattle.projection.proofs.put_row.Statement.{statement}
 use Rattle.projection.proofs.put_row.Tie as tie
 
-add-wide : tie.Need-add-wide
-add-wide c = search needs
+add-width : tie.Need-add-width
+add-width c = search needs
 
-mul-wide : tie.Need-mul-wide
-mul-wide c = search needs
+mul-width : tie.Need-mul-width
+mul-width c = search needs
 
-index-1-wide : tie.Need-index-1-wide
-index-1-wide c = search needs
+index-1-width : tie.Need-index-1-width
+index-1-width c = search needs
 
-index-2-wide : tie.Need-index-2-wide
-index-2-wide c = search needs
+width-requires : tie.Need-width-requires
+width-requires c κs = search needs
 
 wide-requires : tie.Need-wide-requires
 wide-requires c κs = search needs
+
+add-from : tie.Need-add-from
+add-from c = search needs
+
+mul-from : tie.Need-mul-from
+mul-from c = search needs
+
+add-from-2 : tie.Need-add-from-2
+add-from-2 c = search needs
 
 element-copy-out-show : tie.Need-element-copy-out-show
 element-copy-out-show c = search needs
@@ -32,18 +41,11 @@ put-byte-requires c κs = search needs
 put-row-id-requires : tie.Need-put-row-id-requires
 put-row-id-requires c κs = search needs
 
-mul-put-columns : tie.Need-mul-put-columns
-mul-put-columns c = search needs
-
-add-put-columns : tie.Need-add-put-columns
-add-put-columns c = search needs
-
 put-columns-requires : tie.Need-put-columns-requires
-unfolding columnsIn
 put-columns-requires c κs =
-    let s = c .before .before .before .before .before .before .before .before .before .before .before .before .before in
+    let s = c .before .before .before .before .before .before .before .before .before .before .before .before .before .before in
     let n = c .before .before .before .before .before .before .before .before .before .before .wide in
-    let six : n .result ≤ 6 = omega (arith, n .ensures, s .pre .2) in
+    let six : n .result ≤ 6 = omega (arith, n .ensures, c .before .before .before .before .before .before .before .before .before .before .before .width .ensures, s .pre .2) in
     (omega (arith, c .before .before .before .put-row-id .ensures .short, c .before .before .before .before .before .before .before .put-byte .ensures .short), six, omega (arith, six))
 
 put-byte-requires-2 : tie.Need-put-byte-requires-2
@@ -53,28 +55,28 @@ same-length : tie.Need-same-length
 same-length c = search needs
 
 returns : tie.Need-returns
-unfolding columnsIn
 returns c =
-    let s = c .before .before .before .before .before .before .before .before .before .before .before .before .before .before .before .before .before .before .before .before .args in
+    let s = c .before .before .before .before .before .before .before .before .before .before .before .before .before .before .before .before .before .before .before .before .before .args in
     put-is
     (put-then (c .before .before .before .before .before .before .before .before .before .before .before .before .before .before .put-byte .ensures) (put-then (c .before .before .before .before .before .before .before .before .before .before .put-row-id .ensures) (put-then (c .before .before .before .before .before .before .put-columns .ensures) (c .before .before .put-byte2 .ensures))))
-    (row-is (s .schema .now) (s .table) (s .row .now) (s .shown .now) (c .before .before .before .before .before .before .before .before .before .before .before .before .before .before .before .before .before .wide .result) (c .before .before .before .before .before .before .before .before .before .before .before .before .before .before .before .before .before .wide .ensures))
+    (row-is (s .schema .now) (s .table) (s .row .now) (s .shown .now) (c .before .before .before .before .before .before .before .before .before .before .before .before .before .before .before .before .before .wide .result) (c .before .before .before .before .before .before .before .before .before .before .before .before .before .before .before .before .before .wide .ensures ∙ c .before .before .before .before .before .before .before .before .before .before .before .before .before .before .before .before .before .before .width .ensures))
     (omega arith)
 
 pub put-row-spec : {M : Type 1} → statement M
 put-row-spec =
     tie.close
     (tie.spec
-    add-wide
-    mul-wide
-    index-1-wide
-    index-2-wide
+    add-width
+    mul-width
+    index-1-width
+    width-requires
     wide-requires
+    add-from
+    mul-from
+    add-from-2
     element-copy-out-show
     put-byte-requires
     put-row-id-requires
-    mul-put-columns
-    add-put-columns
     put-columns-requires
     put-byte-requires-2
     same-length

@@ -1,8 +1,10 @@
 -- `readings::line` meets its contract. Assumes nothing.
 use mathlib.Core.Path.{sym}
+use Prim.Native.Nat.{_-_}
 use native.Mathlib.Omega.{arith}
 use lib.Seq.{length-take-le}
 use borrow.Author.Needs.{needs}
+use Rattle.model.specs.Limits.{storeBytes}
 use Rattle.readings.proofs.line.Statement.{statement}
 use Rattle.readings.proofs.line.Tie as tie
 
@@ -24,13 +26,16 @@ same-length c = search needs
 returns-2 : tie.Need-returns-2
 returns-2 c = search needs
 
+sub-one : tie.Need-sub-one
+sub-one c = search needs
+
 slice-relend-prefix-one : tie.Need-slice-relend-prefix-one
 slice-relend-prefix-one c = search needs
 
 slice-aggregate-one : tie.Need-slice-aggregate-one
 slice-aggregate-one c =
     let s = c .before .before .before .before .before .before .before in
-    sym (length-take-le 24106 (s .args .area .now) (omega (arith, s .pre)))
+    sym (length-take-le (storeBytes - 1) (s .args .area .now) (omega (arith, s .pre)))
 
 rest-requires-2 : tie.Need-rest-requires-2
 rest-requires-2 c κs = search needs
@@ -63,6 +68,7 @@ line-spec =
     put-at-requires
     same-length
     returns-2
+    sub-one
     slice-relend-prefix-one
     slice-aggregate-one
     rest-requires-2

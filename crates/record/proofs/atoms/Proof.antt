@@ -9,11 +9,20 @@ use Rattle.record.proofs.atoms.Tie as tie
 atom-at-requires : tie.Need-atom-at-requires
 atom-at-requires c κs = search needs
 
+add-atom-at : tie.Need-add-atom-at
+add-atom-at c = search needs
+
 atom-at-requires-2 : tie.Need-atom-at-requires-2
 atom-at-requires-2 c κs = search needs
 
+add-atom-at-2 : tie.Need-add-atom-at-2
+add-atom-at-2 c = search needs
+
 atom-at-requires-3 : tie.Need-atom-at-requires-3
 atom-at-requires-3 c κs = search needs
+
+add-atom-at-3 : tie.Need-add-atom-at-3
+add-atom-at-3 c = search needs
 
 atom-at-requires-4 : tie.Need-atom-at-requires-4
 atom-at-requires-4 c κs = search needs
@@ -26,4 +35,12 @@ returns c =
 pub atoms-spec : {M : Type 1} → statement M
 atoms-spec =
     tie.close
-    (tie.spec atom-at-requires atom-at-requires-2 atom-at-requires-3 atom-at-requires-4 returns)
+    (tie.spec
+    atom-at-requires
+    add-atom-at
+    atom-at-requires-2
+    add-atom-at-2
+    atom-at-requires-3
+    add-atom-at-3
+    atom-at-requires-4
+    returns)

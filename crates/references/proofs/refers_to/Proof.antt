@@ -9,7 +9,7 @@ use Rattle.model.specs.Base.{any}
 use Rattle.model.specs.Schema.{columnsOf}
 use Rattle.model.specs.Commit.{strongly, strongOf}
 use Rattle.model.specs.Areas.{rowFrom}
-use Rattle.inner.specs.Packed.{packedTables}
+use Rattle.model.specs.Catalog.{packedTables}
 use Rattle.inner.specs.Working.{keyIn, tableIn}
 use Rattle.references.specs.Links.{pick, told}
 use Rattle.references.proofs.Packs.{few-columns}

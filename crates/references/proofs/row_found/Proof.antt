@@ -11,7 +11,7 @@ use Rattle.model.specs.Base.{all}
 use Rattle.model.specs.Rows.{has}
 use Rattle.model.specs.Schema.{columnsOf}
 use Rattle.model.specs.Areas.{rowFrom}
-use Rattle.inner.specs.Packed.{packedTables}
+use Rattle.model.specs.Catalog.{packedTables}
 use Rattle.inner.specs.Working.{working, tableIn}
 use Rattle.references.specs.Links.{pick, told, referred}
 use Rattle.references.proofs.Packs.{few-columns}

@@ -14,17 +14,17 @@ abbrev μ-loop : tie.MeasureT-loop
 put-id-requires : tie.Need-put-id-requires Inv-loop μ-loop
 put-id-requires c κs = search needs
 
-add-at-most : tie.Need-add-at-most Inv-loop μ-loop
-add-at-most c = search needs
+add-width : tie.Need-add-width Inv-loop μ-loop
+add-width c = search needs
 
-mul-at-most : tie.Need-mul-at-most Inv-loop μ-loop
-mul-at-most c = search needs
+mul-width : tie.Need-mul-width Inv-loop μ-loop
+mul-width c = search needs
 
-index-1-at-most : tie.Need-index-1-at-most Inv-loop μ-loop
-index-1-at-most c = search needs
+index-1-width : tie.Need-index-1-width Inv-loop μ-loop
+index-1-width c = search needs
 
-index-2-at-most : tie.Need-index-2-at-most Inv-loop μ-loop
-index-2-at-most c = search needs
+width-requires : tie.Need-width-requires Inv-loop μ-loop
+width-requires c κs = search needs
 
 at-most-requires : tie.Need-at-most-requires Inv-loop μ-loop
 at-most-requires c κs = search needs
@@ -81,10 +81,10 @@ put-row-spec =
     Inv-loop
     μ-loop
     put-id-requires
-    add-at-most
-    mul-at-most
-    index-1-at-most
-    index-2-at-most
+    add-width
+    mul-width
+    index-1-width
+    width-requires
     at-most-requires
     loop-holds
     mul-put-column

@@ -38,11 +38,11 @@ slice-aggregate-put-3 c = search needs
 put-requires-3 : tie.Need-put-requires-3 Inv-loop μ-loop
 put-requires-3 c κs = search needs
 
-index-1-at-most : tie.Need-index-1-at-most Inv-loop μ-loop
-index-1-at-most c = search needs
+index-1-table-count : tie.Need-index-1-table-count Inv-loop μ-loop
+index-1-table-count c = search needs
 
-index-2-at-most : tie.Need-index-2-at-most Inv-loop μ-loop
-index-2-at-most c = search needs
+table-count-requires : tie.Need-table-count-requires Inv-loop μ-loop
+table-count-requires c κs = search needs
 
 at-most-requires : tie.Need-at-most-requires Inv-loop μ-loop
 at-most-requires c κs = search needs
@@ -80,8 +80,8 @@ show-spec =
     put-requires-2
     slice-aggregate-put-3
     put-requires-3
-    index-1-at-most
-    index-2-at-most
+    index-1-table-count
+    table-count-requires
     at-most-requires
     loop-holds
     show-table-requires

@@ -21,7 +21,7 @@ same-length-2 : tie.Need-same-length-2
 same-length-2 c = search needs
 
 returns : tie.Need-returns
-returns c = closed-fine (c .before .before .before .before .before .before .before .commit .ensures) (c .before .before .before .before .before .before .before .before .before .before .before .args .first) (sym (c .before .before .before .before .before .is-fine .ensures) ∙ c .before .before .before .before .if1 .taken) (c .before .before .put-byte .ensures)
+returns c = closed-fine (c .before .before .before .before .before .before .before .commit .ensures) (c .before .before .before .before .before .before .before .before .before .before .args .first) (sym (c .before .before .before .before .before .is-fine .ensures) ∙ c .before .before .before .before .if1 .taken) (c .before .before .put-byte .ensures)
 
 put-comma-requires : tie.Need-put-comma-requires
 put-comma-requires c κs = search needs
@@ -39,7 +39,7 @@ same-length-4 : tie.Need-same-length-4
 same-length-4 c = search needs
 
 returns-2 : tie.Need-returns-2
-returns-2 c = closed-failed (c .before .before .before .before .before .before .before .before .before .before .before .before .before .before .before .commit .ensures) (c .before .before .before .before .before .before .before .before .before .before .before .before .before .before .before .before .before .before .before .args .first) (sym (c .before .before .before .before .before .before .before .before .before .before .before .before .before .is-fine .ensures) ∙ c .before .before .before .before .before .before .before .before .before .before .before .before .if1 .left) (c .before .before .before .before .before .before .before .before .before .before .put-comma .ensures) (c .before .before .before .before .before .before .put-error .ensures) (c .before .before .put-byte2 .ensures)
+returns-2 c = closed-failed (c .before .before .before .before .before .before .before .before .before .before .before .before .before .before .before .commit .ensures) (c .before .before .before .before .before .before .before .before .before .before .before .before .before .before .before .before .before .before .args .first) (sym (c .before .before .before .before .before .before .before .before .before .before .before .before .before .is-fine .ensures) ∙ c .before .before .before .before .before .before .before .before .before .before .before .before .if1 .left) (c .before .before .before .before .before .before .before .before .before .before .put-comma .ensures) (c .before .before .before .before .before .before .put-error .ensures) (c .before .before .put-byte2 .ensures)
 
 pub at-commit-spec : {M : Type 1} → statement M
 at-commit-spec =

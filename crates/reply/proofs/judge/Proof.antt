@@ -5,7 +5,7 @@ use Prim.Native.Nat.{ℕ}
 use borrow.Author.Tests.{not-true, not-false}
 use Rattle.inner.specs.Positions.{treeAt}
 use Rattle.model.specs.Text.{isWord}
-use Rattle.inner.specs.Packed.{packedTables}
+use Rattle.model.specs.Catalog.{packedTables}
 use Rattle.reply.proofs.Asking.{asked-bad, asked-other, asked-fresh, asked-runs}
 use borrow.Author.Needs.{needs}
 use Rattle.reply.proofs.judge.Statement.{statement}
@@ -23,11 +23,11 @@ returns c =
     let r = c .before .before .before .before .read in
     asked-bad (a .args .schema .now) (a .args .n) (a .args .before .now) (a .args .request .now) (a .args .fresh .now) (r .last .1 .0) (r .ensures) (not-true _ (c .if1 .taken))
 
-index-1-cell-name : tie.Need-index-1-cell-name
-index-1-cell-name c = search needs
+index-1-name-of : tie.Need-index-1-name-of
+index-1-name-of c = search needs
 
-cell-name-requires : tie.Need-cell-name-requires
-cell-name-requires c κs = search needs
+name-of-requires : tie.Need-name-of-requires
+name-of-requires c κs = search needs
 
 is-word-requires : tie.Need-is-word-requires
 is-word-requires c κs = search needs
@@ -40,7 +40,7 @@ returns-2 c =
     let a = c .before .before .before .before .before .before .before .before .before .before .before .before .before in
     let r = c .before .before .before .before .before .before .before .before .read in
     asked-other (a .args .schema .now) (a .args .n) (a .args .before .now) (a .args .request .now) (a .args .fresh .now) (r .last .1 .0) (r .ensures) (not-false _ (c .before .before .before .before .if1 .left))
-    (ap (λ (w : List ℕ). isWord w (treeAt (a .args .request .now) (r .result .name))) (sym (c .before .before .cell-name .ensures)) ∙ sym (c .before .is-word .ensures) ∙ not-true _ (c .if2 .taken))
+    (ap (λ (w : List ℕ). isWord w (treeAt (a .args .request .now) (r .result .name))) (sym (c .before .before .name-of .ensures)) ∙ sym (c .before .is-word .ensures) ∙ not-true _ (c .if2 .taken))
 
 ids-good-requires : tie.Need-ids-good-requires
 ids-good-requires c κs = search needs
@@ -53,7 +53,7 @@ returns-3 c =
     let a = c .before .before .before .before .before .before .before .before .before .before .before .before .before .before .before in
     let r = c .before .before .before .before .before .before .before .before .before .before .read in
     asked-fresh (a .args .schema .now) (a .args .n) (a .args .before .now) (a .args .request .now) (a .args .fresh .now) (r .last .1 .0) (r .ensures) (not-false _ (c .before .before .before .before .before .before .if1 .left))
-    (ap (λ (w : List ℕ). isWord w (treeAt (a .args .request .now) (r .result .name))) (sym (c .before .before .before .before .cell-name .ensures)) ∙ sym (c .before .before .before .is-word .ensures) ∙ not-false _ (c .before .before .if2 .left))
+    (ap (λ (w : List ℕ). isWord w (treeAt (a .args .request .now) (r .result .name))) (sym (c .before .before .before .before .name-of .ensures)) ∙ sym (c .before .before .before .is-word .ensures) ∙ not-false _ (c .before .before .if2 .left))
     (sym (c .before .ids-good .ensures (packedTables (a .args .schema .now))) ∙ not-true _ (c .if3 .taken))
 
 same-length-4 : tie.Need-same-length-4
@@ -64,7 +64,7 @@ returns-4 c =
     let a = c .before .before .before .before .before .before .before .before .before .before .before .before .before .before .before in
     let r = c .before .before .before .before .before .before .before .before .before .before .read in
     asked-runs (a .args .schema .now) (a .args .n) (a .args .before .now) (a .args .request .now) (a .args .fresh .now) (r .last .1 .0) (r .ensures) (not-false _ (c .before .before .before .before .before .before .if1 .left))
-    (ap (λ (w : List ℕ). isWord w (treeAt (a .args .request .now) (r .result .name))) (sym (c .before .before .before .before .cell-name .ensures)) ∙ sym (c .before .before .before .is-word .ensures) ∙ not-false _ (c .before .before .if2 .left))
+    (ap (λ (w : List ℕ). isWord w (treeAt (a .args .request .now) (r .result .name))) (sym (c .before .before .before .before .name-of .ensures)) ∙ sym (c .before .before .before .is-word .ensures) ∙ not-false _ (c .before .before .if2 .left))
     (sym (c .before .ids-good .ensures (packedTables (a .args .schema .now))) ∙ not-false _ (c .if3 .left)) (a .pre .0)
 
 pub judge-spec : {M : Type 1} → statement M
@@ -74,8 +74,8 @@ judge-spec =
     read-requires
     same-length
     returns
-    index-1-cell-name
-    cell-name-requires
+    index-1-name-of
+    name-of-requires
     is-word-requires
     same-length-2
     returns-2

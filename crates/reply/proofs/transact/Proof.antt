@@ -1,7 +1,7 @@
 -- `reply::transact` meets its contract. Assumes nothing.
 use mathlib.Core.Path.{sym, _∙_}
 use native.Mathlib.Omega.{arith}
-use Rattle.inner.specs.Packed.{packedTables}
+use Rattle.model.specs.Catalog.{packedTables}
 use Rattle.reply.proofs.Commits.{ended-commit, ended-stopped}
 use borrow.Author.Needs.{needs}
 use Rattle.reply.proofs.transact.Statement.{statement}
@@ -20,7 +20,7 @@ at-commit-requires : tie.Need-at-commit-requires
 at-commit-requires c κs =
     let a = c .before .before .before .before .before .before .before .before .before .before .before .before .before .before .before in
     let r = c .before .before .before .before .before .before .before .before .run in
-    (a .pre .1 .0, (omega (arith, r .ensures .few, r .kept .1 .1 .1 .1 .1 .0, a .pre .1 .1 .1 .1 .1), omega (arith, r .ensures .answer .short)))
+    (a .pre .1 .0, (omega (arith, r .ensures .few, r .kept .1 .1 .1 .1 .1 .0, a .pre .1 .1 .1 .1), omega (arith, r .ensures .answer .short)))
 
 same-length : tie.Need-same-length
 same-length c = search needs
@@ -45,7 +45,7 @@ same-length-4 c = search needs
 returns-2 : tie.Need-returns-2
 returns-2 c =
     let a = c .before .before .before .before .before .before .before .before .before .before .before .before .before .before .before .before in
-    ended-stopped (packedTables (a .args .schema .now)) (a .args .text .now) (a .args .ops) (a .args .fresh .now) (a .args .n) (a .args .rows .now) (c .before .before .before .before .before .before .before .before .before .run .ensures) (sym (c .before .before .before .before .before .is-fine .ensures) ∙ c .before .before .before .before .if1 .left) (a .pre .1 .1 .1 .1 .0) (c .before .before .put-byte .ensures)
+    ended-stopped (packedTables (a .args .schema .now)) (a .args .text .now) (a .args .ops) (a .args .fresh .now) (a .args .n) (a .args .rows .now) (c .before .before .before .before .before .before .before .before .before .run .ensures) (sym (c .before .before .before .before .before .is-fine .ensures) ∙ c .before .before .before .before .if1 .left) (a .pre .1 .1 .1 .0) (c .before .before .put-byte .ensures)
 
 pub transact-spec : {M : Type 1} → statement M
 transact-spec =

@@ -34,8 +34,8 @@ returns c =
 kind-at-requires : tie.Need-kind-at-requires Inv-loop μ-loop
 kind-at-requires c κs = tt
 
-is-object-requires : tie.Need-is-object-requires Inv-loop μ-loop
-is-object-requires c κs = tt
+is-kind-requires : tie.Need-is-kind-requires Inv-loop μ-loop
+is-kind-requires c κs = tt
 
 add-n : tie.Need-add-n Inv-loop μ-loop
 add-n c = omega (arith, c .before .before .before .if1 .left)
@@ -54,7 +54,7 @@ loop-again c =
     let g = o .before .before .before .before in
     let l = g .before .before in
     let a = l .before .before .before .args in
-    let e = sym (o .is-object .ensures ∙ ap isObject (o .before .kind-at .ensures)) ∙ c .before .if2 .taken in
+    let e = sym (o .is-kind .ensures ∙ ap isObject (o .before .kind-at .ensures)) ∙ c .before .if2 .taken in
     (omega (arith, o .before .before .if1 .left), passed-on (a .text .now) object (l .loop .inv .1) (g .g .given .1) e refl (c .next-item .ensures))
 
 returns-2 : tie.Need-returns-2 Inv-loop μ-loop
@@ -63,7 +63,7 @@ returns-2 c =
     let g = o .before .before .before .before in
     let l = g .before .before in
     let a = l .before .before .before .args in
-    let e = sym (o .is-object .ensures ∙ ap isObject (o .before .kind-at .ensures)) ∙ c .if2 .left in
+    let e = sym (o .is-kind .ensures ∙ ap isObject (o .before .kind-at .ensures)) ∙ c .if2 .left in
     few-bad (itemsFrom (a .text .now) (a .f)) (passed-bad (a .text .now) object (l .loop .inv .1) (g .g .given .1) e)
 
 enum-told : tie.Need-enum-told Inv-loop μ-loop
@@ -85,7 +85,7 @@ few-objects-spec =
     enum-known-g
     returns
     kind-at-requires
-    is-object-requires
+    is-kind-requires
     add-n
     next-item-requires
     loop-less

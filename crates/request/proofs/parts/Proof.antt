@@ -14,7 +14,6 @@ use Rattle.request.proofs.parts.Tie as tie
 use Rattle.request.proofs.parts.Reads as reads
 use Rattle.request.proofs.parts.Lts as lts
 use Rattle.nav.proofs.first.Reads as first-reads
-use Rattle.nav.proofs.is_text.Reads as is-text-reads
 use Rattle.nav.proofs.kind_at.Reads as kind-at-reads
 use Rattle.nav.proofs.next_item.Reads as next-item-reads
 use Rattle.request.proofs.few_objects.Reads as few-objects-reads
@@ -47,8 +46,8 @@ kind-at-requires : tie.Need-kind-at-requires
 kind-at-requires c κs = search needs
 
 -- src/lib.rt:70:9
-is-text-requires : tie.Need-is-text-requires
-is-text-requires c κs = search needs
+is-kind-requires : tie.Need-is-kind-requires
+is-kind-requires c κs = search needs
 
 -- src/lib.rt:71:9
 next-item-requires : tie.Need-next-item-requires
@@ -68,7 +67,7 @@ returns-2 c =
     let s = a .args .text .now in
     let n = c .before .next-item .ensures in
     parted-some s (sym (c .before .before .before .before .before .before .before .first .ensures) ∙ c .before .before .before .before .before .f .given .1) (a .pre .1) _ refl n
-    (λ j. (c .before .before .is-text .ensures ∙ ap isText (c .before .before .before .kind-at .ensures)) j && (c .few-objects .ensures ∙ ap (λ g. fewObjects (itemsFrom s g)) n) j)
+    (λ j. (c .before .before .is-kind .ensures ∙ ap isText (c .before .before .before .kind-at .ensures)) j && (c .few-objects .ensures ∙ ap (λ g. fewObjects (itemsFrom s g)) n) j)
 
 pub parts-spec : {M : Type 1} → statement M
 parts-spec =
@@ -80,7 +79,7 @@ parts-spec =
     refused-requires
     returns
     kind-at-requires
-    is-text-requires
+    is-kind-requires
     next-item-requires
     few-objects-requires
     returns-2)

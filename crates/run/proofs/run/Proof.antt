@@ -4,7 +4,7 @@ use mathlib.Core.Path.{_≡_, refl, sym, ap, _∙_}
 use native.Mathlib.Omega.{arith}
 use lib.ListN.{length}
 use Rattle.inner.specs.Positions.{left}
-use Rattle.inner.specs.Packed.{packedTables}
+use Rattle.model.specs.Catalog.{packedTables}
 use mathlib.Core.Bool.{false}
 use Rattle.answer.specs.Texts.{joined}
 use Rattle.answer.proofs.Putting.{put-is}
@@ -28,7 +28,7 @@ put-byte-requires c κs = search needs
 loop-holds : tie.Need-loop-holds Inv-loop μ-loop
 loop-holds c =
     let a = c .before .before .before .before .before .before .before .before in
-    (refl, refl, going-start _ _ _ _ _ _ _ _ (a .pre .0 .fine) (a .pre .1 .1 .1 .0) (a .pre .1 .1 .1 .1 .0))
+    (refl, refl, going-start _ _ _ _ _ _ _ _ (a .pre .0 .fine) (a .pre .1 .1 .0) (a .pre .1 .1 .1 .0))
 
 enum-known-g : tie.Need-enum-known-g Inv-loop μ-loop
 enum-known-g c = search needs
@@ -41,7 +41,7 @@ operate-requires c κs =
     let a = c .before .before .before .before .before .before .before .before .before .before .before .before .before .before .before .before .before .before in
     let l = c .before .before .before .before .before .before .before .before .before .loop .inv in
     let h = c .before .before .before .before .before .before .before .g .given .1 in
-    (a .pre .0, (a .pre .1 .0, (a .pre .1 .1 .0, (walk-fine (a .args .text .now) h (l .2 .fine) .0, (going-more _ _ _ _ _ _ _ _ (l .2) h, ((l .2 .few, omega (arith, l .0, a .pre .1 .1 .1 .1 .1)), omega (arith, l .2 .short, l .2 .size, c .before .before .before .before .put-comma .ensures .short, c .before .before .before .before .before .before .before .before .before .before .before .before .put-byte .ensures .short)))))))
+    (a .pre .0, (a .pre .1 .0, (walk-fine (a .args .text .now) h (l .2 .fine) .0, (going-more _ _ _ _ _ _ _ _ (l .2) h, ((l .2 .few, omega (arith, l .0, a .pre .1 .1 .1 .1)), omega (arith, l .2 .short, l .2 .size, c .before .before .before .before .put-comma .ensures .short, c .before .before .before .before .before .before .before .before .before .before .before .before .put-byte .ensures .short))))))
 
 next-item-requires : tie.Need-next-item-requires Inv-loop μ-loop
 next-item-requires c κs = c .before .before .before .before .before .before .before .before .before .before .before .before .before .before .before .before .before .before .before .before .before .before .pre .0 .says

@@ -50,11 +50,11 @@ tables-in-requires c κs =
     let st = f .before .before .before .before in
     (st .pre .0, (f .fields .ensures .well 2 (omega arith), ap length (st .pre .1 .1 .1)))
 
-cast-database-cell : tie.Need-cast-database-cell
-cast-database-cell c = search needs
+cast-database-entry : tie.Need-cast-database-entry
+cast-database-entry c = search needs
 
-database-cell-requires : tie.Need-database-cell-requires
-database-cell-requires c κs = search needs
+database-entry-requires : tie.Need-database-entry-requires
+database-entry-requires c κs = search needs
 
 slice-set-from-cells : tie.Need-slice-set-from-cells
 slice-set-from-cells c =
@@ -86,7 +86,7 @@ returns c =
     let mid = ti .tables-in .last .1 .1 .1 .0 in
     let tr = subst (λ (x : List (List ℕ)). TablesRead (slotTree s (getD (f .fields .result) 2 0)) (ti .tables-in .result) x mid) blank (ti .tables-in .ensures) in
     let size : length mid ≡ 29 = ti .tables-in .kept .1 .1 .1 .0 ∙ z in
-    fill-good s (treeAt s 0) (f .fields .result) (f .fields .ensures) ei (sym (rf .rest-fits .ensures) ∙ t1 .if1 .taken) tr (t2 .if2 .taken) size (c .database-cell .ensures .0) (ni .name-in .ensures) (c .database-cell .ensures .1)
+    fill-good s (treeAt s 0) (f .fields .result) (f .fields .ensures) ei (sym (rf .rest-fits .ensures) ∙ t1 .if1 .taken) tr (t2 .if2 .taken) size (c .database-entry .ensures .0) (ni .name-in .ensures) (c .database-entry .ensures .1)
 
 same-length-2 : tie.Need-same-length-2
 same-length-2 c = search needs
@@ -134,8 +134,8 @@ fill-spec =
     rest-fits-requires
     array-read-tables-in
     tables-in-requires
-    cast-database-cell
-    database-cell-requires
+    cast-database-entry
+    database-entry-requires
     slice-set-from-cells
     same-length
     returns

@@ -18,8 +18,8 @@ array-read-kind-in c = search needs
 kind-in-requires : tie.Need-kind-in-requires
 kind-in-requires c κs = search needs
 
-is-text-requires : tie.Need-is-text-requires
-is-text-requires c κs = search needs
+is-kind-requires : tie.Need-is-kind-requires
+is-kind-requires c κs = search needs
 
 array-read-result : tie.Need-array-read-result
 array-read-result c = search needs
@@ -32,7 +32,7 @@ returns c =
     let k = c .before in
     let v = k .before in
     let st = v .before .before in
-    rest-told (st .args .text .now) (st .args .t2) (st .args .id) (v .version-in .result) (c .is-text .result) (v .version-in .ensures) (c .is-text .ensures ∙ ap isText (k .kind-in .ensures))
+    rest-told (st .args .text .now) (st .args .t2) (st .args .id) (v .version-in .result) (c .is-kind .result) (v .version-in .ensures) (c .is-kind .ensures ∙ ap isText (k .kind-in .ensures))
 
 pub rest-fits-spec : {M : Type 1} → statement M
 rest-fits-spec =
@@ -42,7 +42,7 @@ rest-fits-spec =
     version-in-requires
     array-read-kind-in
     kind-in-requires
-    is-text-requires
+    is-kind-requires
     array-read-result
     array-read-result-2
     returns)

@@ -13,17 +13,17 @@ Inv-loop cells t n i₀ t5 i = length t5 ≡ 9
 abbrev μ-loop : tie.MeasureT-loop
 μ-loop cells t n i₀ t5 i = n - i
 
-add-wide : tie.Need-add-wide Inv-loop μ-loop
-add-wide c = search needs
+add-width : tie.Need-add-width Inv-loop μ-loop
+add-width c = search needs
 
-mul-wide : tie.Need-mul-wide Inv-loop μ-loop
-mul-wide c = search needs
+mul-width : tie.Need-mul-width Inv-loop μ-loop
+mul-width c = search needs
 
-index-1-wide : tie.Need-index-1-wide Inv-loop μ-loop
-index-1-wide c = search needs
+index-1-width : tie.Need-index-1-width Inv-loop μ-loop
+index-1-width c = search needs
 
-index-2-wide : tie.Need-index-2-wide Inv-loop μ-loop
-index-2-wide c = search needs
+width-requires : tie.Need-width-requires Inv-loop μ-loop
+width-requires c κs = search needs
 
 wide-requires : tie.Need-wide-requires Inv-loop μ-loop
 wide-requires c κs = tt
@@ -37,20 +37,8 @@ returns c = tt
 slice-aggregate-put-cell : tie.Need-slice-aggregate-put-cell Inv-loop μ-loop
 slice-aggregate-put-cell c = search needs
 
-mul-put-cell : tie.Need-mul-put-cell Inv-loop μ-loop
-mul-put-cell c = omega arith
-
-add-put-cell : tie.Need-add-put-cell Inv-loop μ-loop
-add-put-cell c = omega arith
-
-add-put-cell-2 : tie.Need-add-put-cell-2 Inv-loop μ-loop
-add-put-cell-2 c = omega arith
-
-mul-put-cell-2 : tie.Need-mul-put-cell-2 Inv-loop μ-loop
-mul-put-cell-2 c = omega arith
-
-index-1-put-cell : tie.Need-index-1-put-cell Inv-loop μ-loop
-index-1-put-cell c = omega arith
+column-requires : tie.Need-column-requires Inv-loop μ-loop
+column-requires c κs = search needs
 
 put-cell-requires : tie.Need-put-cell-requires Inv-loop μ-loop
 put-cell-requires c κs = tt
@@ -73,19 +61,15 @@ put-columns-spec =
     (tie.spec
     Inv-loop
     μ-loop
-    add-wide
-    mul-wide
-    index-1-wide
-    index-2-wide
+    add-width
+    mul-width
+    index-1-width
+    width-requires
     wide-requires
     loop-holds
     returns
     slice-aggregate-put-cell
-    mul-put-cell
-    add-put-cell
-    add-put-cell-2
-    mul-put-cell-2
-    index-1-put-cell
+    column-requires
     put-cell-requires
     add-i
     loop-less

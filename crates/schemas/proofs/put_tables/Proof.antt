@@ -13,11 +13,11 @@ Inv-loop cells n t₀ t4 t = length t4 ≡ 7
 abbrev μ-loop : tie.MeasureT-loop
 μ-loop cells n t₀ t4 t = n - t
 
-index-1-wide : tie.Need-index-1-wide Inv-loop μ-loop
-index-1-wide c = search needs
+index-1-table-count : tie.Need-index-1-table-count Inv-loop μ-loop
+index-1-table-count c = search needs
 
-index-2-wide : tie.Need-index-2-wide Inv-loop μ-loop
-index-2-wide c = search needs
+table-count-requires : tie.Need-table-count-requires Inv-loop μ-loop
+table-count-requires c κs = search needs
 
 wide-requires : tie.Need-wide-requires Inv-loop μ-loop
 wide-requires c κs = tt
@@ -64,8 +64,8 @@ put-tables-spec =
     (tie.spec
     Inv-loop
     μ-loop
-    index-1-wide
-    index-2-wide
+    index-1-table-count
+    table-count-requires
     wide-requires
     loop-holds
     returns

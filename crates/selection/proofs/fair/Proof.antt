@@ -3,7 +3,7 @@ use mathlib.Core.Path.{sym, _∙_}
 use mathlib.Core.List.{map}
 use native.Mathlib.Omega.{arith}
 use Rattle.inner.specs.Positions.{treeAt, itemsFrom}
-use Rattle.inner.specs.Packed.{columnFrom}
+use Rattle.model.specs.Catalog.{columnFrom}
 use Rattle.selection.proofs.Names.{fair-id, fair-column, fair-unknown, named-small}
 use borrow.Author.Needs.{needs}
 use Rattle.selection.proofs.fair.Statement.{statement}
@@ -35,24 +35,24 @@ column-at-requires c κs = search needs
 enum-known-f : tie.Need-enum-known-f
 enum-known-f c = search needs
 
-mul-cell-name : tie.Need-mul-cell-name
-mul-cell-name c =
+mul-name-of : tie.Need-mul-name-of
+mul-name-of c =
     let s = c .before .before .before .before .before .before .before .before .before in
     let a = s .args in
     let j = treeAt (a .text .now) (a .p) in
     let js = itemsFrom (a .text .now) (a .next) in
     omega (arith, s .good, named-small (a .columns .now) j (c .before .before .before .column-at .ensures) (c .before .f .given .1))
 
-shared-slice-element-cell-name : tie.Need-shared-slice-element-cell-name
-shared-slice-element-cell-name c =
+shared-slice-element-name-of : tie.Need-shared-slice-element-name-of
+shared-slice-element-name-of c =
     let s = c .before .before .before .before .before .before .before .before .before in
     let a = s .args in
     let j = treeAt (a .text .now) (a .p) in
     let js = itemsFrom (a .text .now) (a .next) in
     named-small (a .columns .now) j (c .before .before .before .column-at .ensures) (c .before .f .given .1)
 
-cell-name-requires : tie.Need-cell-name-requires
-cell-name-requires c κs = search needs
+name-of-requires : tie.Need-name-of-requires
+name-of-requires c κs = search needs
 
 includes-requires-2 : tie.Need-includes-requires-2
 includes-requires-2 c κs = search needs
@@ -66,7 +66,7 @@ returns-2 c =
     let a = s .args in
     let j = treeAt (a .text .now) (a .p) in
     let js = itemsFrom (a .text .now) (a .next) in
-    fair-column (a .columns .now) j (c .before .before .before .before .before .before .column-at .ensures) (c .before .before .before .before .f .given .1) js (sym (c .before .before .before .before .before .before .before .before .is-word .ensures) ∙ c .before .before .before .before .before .before .before .if1 .left) (c .before .cell-name .ensures) (c .includes2 .ensures)
+    fair-column (a .columns .now) j (c .before .before .before .before .before .before .column-at .ensures) (c .before .before .before .before .f .given .1) js (sym (c .before .before .before .before .before .before .before .before .is-word .ensures) ∙ c .before .before .before .before .before .before .before .if1 .left) (c .before .name-of .ensures) (c .includes2 .ensures)
 
 returns-3 : tie.Need-returns-3
 returns-3 c =
@@ -87,9 +87,9 @@ fair-spec =
     returns
     column-at-requires
     enum-known-f
-    mul-cell-name
-    shared-slice-element-cell-name
-    cell-name-requires
+    mul-name-of
+    shared-slice-element-name-of
+    name-of-requires
     includes-requires-2
     enum-told
     returns-2

@@ -30,18 +30,18 @@ array-write-flags c = omega arith
 loop-holds : tie.Need-loop-holds Inv-loop μ-loop
 loop-holds c = (omega arith, record { size = refl; id = c .is-shown .ensures; column = λ j h. absurd (omega arith) })
 
-mul-cell-name : tie.Need-mul-cell-name Inv-loop μ-loop
-mul-cell-name c =
+mul-name-of : tie.Need-mul-name-of Inv-loop μ-loop
+mul-name-of c =
     let l = c .before in
     let s = l .before .before .before .before .before in
     let a = s .args in
     omega (arith, c .loop-test .taken, s .pre .1 .1 .1)
 
-shared-slice-element-cell-name : tie.Need-shared-slice-element-cell-name Inv-loop μ-loop
-shared-slice-element-cell-name c = omega arith
+shared-slice-element-name-of : tie.Need-shared-slice-element-name-of Inv-loop μ-loop
+shared-slice-element-name-of c = omega arith
 
-cell-name-requires : tie.Need-cell-name-requires Inv-loop μ-loop
-cell-name-requires c κs = tt
+name-of-requires : tie.Need-name-of-requires Inv-loop μ-loop
+name-of-requires c κs = tt
 
 is-shown-requires-2 : tie.Need-is-shown-requires-2 Inv-loop μ-loop
 is-shown-requires-2 c κs =
@@ -80,7 +80,7 @@ loop-again c =
     let s = l .before .before .before .before .before in
     let a = s .args in
     let h = c .before .before .before .loop-test .taken in
-    (omega arith, flagging-on (shows (slotted (a .text .now) (a .p))) (a .columns .now) (l .loop .c) (omega (arith, h, s .pre .1 .1 .1)) (l .loop .inv .1) (c .is-shown2 .ensures ∙ ap (shows (slotted (a .text .now) (a .p))) (c .before .cell-name .ensures)))
+    (omega arith, flagging-on (shows (slotted (a .text .now) (a .p))) (a .columns .now) (l .loop .c) (omega (arith, h, s .pre .1 .1 .1)) (l .loop .inv .1) (c .is-shown2 .ensures ∙ ap (shows (slotted (a .text .now) (a .p))) (c .before .name-of .ensures)))
 
 returns : tie.Need-returns Inv-loop μ-loop
 returns c =
@@ -100,9 +100,9 @@ flags-of-spec =
     is-shown-requires
     array-write-flags
     loop-holds
-    mul-cell-name
-    shared-slice-element-cell-name
-    cell-name-requires
+    mul-name-of
+    shared-slice-element-name-of
+    name-of-requires
     is-shown-requires-2
     add-flags
     array-write-flags-2

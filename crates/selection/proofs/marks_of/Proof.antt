@@ -3,7 +3,7 @@ use mathlib.Core.Path.{refl}
 use mathlib.Core.List.{map}
 use Prim.Native.Nat.{_-_, _≤_}
 use native.Mathlib.Omega.{arith}
-use Rattle.inner.specs.Packed.{columnFrom}
+use Rattle.model.specs.Catalog.{columnFrom}
 use Rattle.conditions.specs.Tests.{testsAt}
 use Rattle.selection.specs.Picks.{Marked}
 use Rattle.selection.proofs.Picks.{Marking, marking-on}

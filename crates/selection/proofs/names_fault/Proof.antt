@@ -3,7 +3,7 @@ use borrow.Author.Needs.{needs}
 use mathlib.Core.Path.{refl}
 use mathlib.Core.List.{map}
 use Rattle.inner.specs.Positions.{left}
-use Rattle.inner.specs.Packed.{columnFrom}
+use Rattle.model.specs.Catalog.{columnFrom}
 use Rattle.nav.proofs.Walk.{walk-less}
 use Rattle.selection.proofs.Names.{Fairly, fairly-on, fairly-not, fairly-end}
 use Rattle.selection.proofs.names_fault.Statement.{statement}

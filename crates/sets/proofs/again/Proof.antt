@@ -2,7 +2,7 @@
 use mathlib.Core.Path.{sym, ap, subst, _∙_}
 use Rattle.model.specs.Base.{member}
 use Rattle.inner.specs.Positions.{treeAt}
-use Rattle.inner.specs.Packed.{baseNumbered}
+use Rattle.model.specs.Catalog.{baseNumbered}
 use Rattle.elements.specs.Elements.{elementsFrom}
 use Rattle.uuids.specs.Named.{namesAt}
 use Rattle.written.specs.Atoms.{Reads, atomsOf}

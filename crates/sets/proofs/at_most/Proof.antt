@@ -2,7 +2,7 @@
 use mathlib.Core.Path.{ap, _∙_}
 use mathlib.Core.Bool.{not}
 use lib.Dec.{ltb}
-use Rattle.atom.specs.Bytes.{halves}
+use Rattle.leaf.specs.Bytes.{halves}
 use Rattle.sets.proofs.Limiting.{at-most-is}
 use borrow.Author.Needs.{needs}
 use Rattle.sets.proofs.at_most.Statement.{statement}

@@ -1,7 +1,7 @@
 -- `sets::cell_at` meets its contract. Assumes nothing.
 use mathlib.Core.Path.{sym}
 use Rattle.inner.specs.Positions.{treeAt}
-use Rattle.inner.specs.Packed.{baseNumbered}
+use Rattle.model.specs.Catalog.{baseNumbered}
 use Rattle.uuids.specs.Named.{namesAt}
 use Rattle.sets.proofs.Tallying.{reads-cell}
 use borrow.Author.Needs.{needs}

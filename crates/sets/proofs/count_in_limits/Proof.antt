@@ -5,24 +5,24 @@ use lib.Dec.{ltb, leb}
 use lib.IntN.{pos}
 use lib.Signed.{leZ}
 use Rattle.model.specs.Value.{fromTwos}
-use Rattle.inner.specs.Packed.{columnFrom}
+use Rattle.model.specs.Catalog.{columnFrom}
 use Rattle.sets.proofs.Limiting.{above-is, below-is}
 use borrow.Author.Needs.{needs}
 use Rattle.sets.proofs.count_in_limits.Statement.{statement}
 use Rattle.sets.proofs.count_in_limits.Tie as tie
 
-limit-requires : tie.Need-limit-requires
-limit-requires c κs = search needs
+low-requires : tie.Need-low-requires
+low-requires c κs = search needs
 
-limit-requires-2 : tie.Need-limit-requires-2
-limit-requires-2 c κs = search needs
+high-requires : tie.Need-high-requires
+high-requires c κs = search needs
 
 returns : tie.Need-returns
 returns c =
     let a = c .before .before .args in
     let z = columnFrom (a .column .now) in
-    let l = c .before .limit in
-    let h = c .limit2 in
+    let l = c .before .low in
+    let h = c .high in
     ap (λ b. b && (ltb (h .result) 9223372036854775808 && leb (a .n) (h .result))) (above-is (l .result) (a .n) ∙ ap (λ v. leZ (fromTwos v) (pos (a .n))) (l .ensures))
     ∙ ap (λ b. leZ (z .low) (pos (a .n)) && b) (below-is (h .result) (a .n) ∙ ap (λ v. leZ (pos (a .n)) (fromTwos v)) (h .ensures))
 
@@ -30,6 +30,6 @@ pub count-in-limits-spec : {M : Type 1} → statement M
 count-in-limits-spec =
     tie.close
     (tie.spec
-    limit-requires
-    limit-requires-2
+    low-requires
+    high-requires
     returns)

@@ -3,7 +3,7 @@ use mathlib.Core.Path.{_≡_, refl, sym, ap, _∙_}
 use mathlib.Core.Bool.{true, not, _&&_}
 use Rattle.model.specs.Base.{member, distinct}
 use Rattle.inner.specs.Positions.{left, treeAt}
-use Rattle.inner.specs.Packed.{baseNumbered}
+use Rattle.model.specs.Catalog.{baseNumbered}
 use Rattle.elements.specs.Elements.{elementsFrom, elementsFine}
 use Rattle.elements.proofs.Walk.{walk-fine, walk-less}
 use Rattle.uuids.specs.Named.{namesAt}

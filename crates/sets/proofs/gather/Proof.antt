@@ -3,7 +3,7 @@ use Prim.Native.Nat.{_-_}
 use mathlib.Core.Path.{_≡_, sym, ap, _∙_}
 use native.Mathlib.Omega.{arith}
 use Rattle.inner.specs.Positions.{treeAt}
-use Rattle.inner.specs.Packed.{baseNumbered}
+use Rattle.model.specs.Catalog.{baseNumbered}
 use Rattle.elements.proofs.Walk.{walk-fine}
 use Rattle.uuids.specs.Named.{namesAt}
 use Rattle.sets.proofs.Gathering.{Gathered, gathered-start, gathered-on, gathered-end, gathered-full, gathered-short}

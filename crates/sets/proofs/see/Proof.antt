@@ -1,8 +1,8 @@
 -- `sets::see` meets its contract. Assumes nothing.
 use mathlib.Core.Path.{subst}
-use lib.ListN.{getD}
+use Prim.Native.Nat.{ℕ}
 use Rattle.inner.specs.Positions.{treeAt}
-use Rattle.inner.specs.Packed.{columnFrom}
+use Rattle.model.specs.Catalog.{baseNumbered, columnFrom}
 use Rattle.uuids.specs.Named.{namesAt}
 use Rattle.written.specs.Atoms.{Reads}
 use Rattle.sets.proofs.Tallying.{sees-wrong, sees-fits, sees-long}
@@ -10,8 +10,8 @@ use borrow.Author.Needs.{needs}
 use Rattle.sets.proofs.see.Statement.{statement}
 use Rattle.sets.proofs.see.Tie as tie
 
-element-copy-out-kind : tie.Need-element-copy-out-kind
-element-copy-out-kind c = search needs
+kind-requires : tie.Need-kind-requires
+kind-requires c κs = search needs
 
 atom-at-requires : tie.Need-atom-at-requires
 atom-at-requires c κs = (c .before .before .before .before .before .pre .0, c .before .before .before .before .before .pre .1)
@@ -45,7 +45,9 @@ returns c =
     let z = columnFrom (a .column .now) in
     let i = c .before .before .before .before .atom-at in
     let cell = i .last .1 .1 .1 .1 .1 .1 .0 in
-    sees-wrong n z j cell (subst (λ r. Reads n (z .base) j r cell) (c .before .before .enum-told .given .1) (i .ensures)) (c .within .ensures)
+    let k = c .before .before .before .before .before .before .kind in
+    let read = subst (λ (b : ℕ). Reads n (baseNumbered b) j (i .result) cell) (k .ensures) (i .ensures) in
+    sees-wrong n z j cell (subst (λ r. Reads n (z .base) j r cell) (c .before .before .enum-told .given .1) read) (c .within .ensures)
 
 returns-2 : tie.Need-returns-2
 returns-2 c =
@@ -55,7 +57,9 @@ returns-2 c =
     let z = columnFrom (a .column .now) in
     let i = c .before .before .before .before .atom-at in
     let cell = i .last .1 .1 .1 .1 .1 .1 .0 in
-    sees-long n z j cell (subst (λ r. Reads n (z .base) j r cell) (c .before .before .enum-told2 .given .1) (i .ensures)) (c .before .long-chars .ensures) (c .count-in-limits .ensures)
+    let k = c .before .before .before .before .before .before .kind in
+    let read = subst (λ (b : ℕ). Reads n (baseNumbered b) j (i .result) cell) (k .ensures) (i .ensures) in
+    sees-long n z j cell (subst (λ r. Reads n (z .base) j r cell) (c .before .before .enum-told2 .given .1) read) (c .before .long-chars .ensures) (c .count-in-limits .ensures)
 
 returns-3 : tie.Need-returns-3
 returns-3 c =
@@ -65,13 +69,15 @@ returns-3 c =
     let z = columnFrom (a .column .now) in
     let i = c .before .before .before .before .atom-at in
     let cell = i .last .1 .1 .1 .1 .1 .1 .0 in
-    sees-fits n z j cell (subst (λ r. Reads n (z .base) j r cell) (c .before .before .enum-told3 .given .1) (i .ensures)) (c .within2 .ensures)
+    let k = c .before .before .before .before .before .before .kind in
+    let read = subst (λ (b : ℕ). Reads n (baseNumbered b) j (i .result) cell) (k .ensures) (i .ensures) in
+    sees-fits n z j cell (subst (λ r. Reads n (z .base) j r cell) (c .before .before .enum-told3 .given .1) read) (c .within2 .ensures)
 
 pub see-spec : {M : Type 1} → statement M
 see-spec =
     tie.close
     (tie.spec
-    element-copy-out-kind
+    kind-requires
     atom-at-requires
     enum-told
     within-requires

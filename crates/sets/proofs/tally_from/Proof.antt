@@ -4,7 +4,7 @@ use mathlib.Core.Path.{_≡_, sym, ap, subst, _∙_}
 use mathlib.Core.Bool.{true, _&&_}
 use native.Mathlib.Omega.{arith}
 use Rattle.inner.specs.Positions.{left, treeAt}
-use Rattle.inner.specs.Packed.{columnFrom}
+use Rattle.model.specs.Catalog.{columnFrom}
 use Rattle.elements.specs.Elements.{elementsFrom, elementsFine, nextElement}
 use Rattle.elements.proofs.Walk.{walk-rest, walk-end, walk-fine, walk-less, left-le}
 use Rattle.uuids.specs.Named.{namesAt}

@@ -5,7 +5,7 @@ use Prim.Native.Nat.{_-_, _≤_}
 use native.Mathlib.Omega.{arith}
 use lib.ListN.{drop, getD}
 use Rattle.model.specs.Commit.{firstLoose}
-use Rattle.inner.specs.Packed.{packedTables}
+use Rattle.model.specs.Catalog.{packedTables}
 use Rattle.inner.specs.Working.{working, keyIn}
 use Rattle.settle.proofs.Loosely.{loose-on, loose-here, loose-end, loose-found, loose-nothing}
 use Rattle.settle.proofs.first_loose.Statement.{statement}
@@ -29,23 +29,23 @@ shared-slice-element-is-loose c = omega (arith, c .before .before .pre .1)
 is-loose-requires : tie.Need-is-loose-requires Inv-loop μ-loop
 is-loose-requires c κs = c .before .before .before .pre
 
-mul-place-of : tie.Need-mul-place-of Inv-loop μ-loop
-mul-place-of c = omega (arith, c .before .before .before .before .before .good)
+mul-find-row : tie.Need-mul-find-row Inv-loop μ-loop
+mul-find-row c = omega (arith, c .before .before .before .before .before .good)
 
-shared-slice-element-place-of : tie.Need-shared-slice-element-place-of Inv-loop μ-loop
-shared-slice-element-place-of c = omega (arith, c .before .before .before .before .before .pre .1)
+shared-slice-element-find-row : tie.Need-shared-slice-element-find-row Inv-loop μ-loop
+shared-slice-element-find-row c = omega (arith, c .before .before .before .before .before .pre .1)
 
-place-of-requires : tie.Need-place-of-requires Inv-loop μ-loop
-place-of-requires c κs = c .before .before .before .before .before .before .pre .1
+find-row-requires : tie.Need-find-row-requires Inv-loop μ-loop
+find-row-requires c κs = c .before .before .before .before .before .before .pre .1
 
 returns : tie.Need-returns Inv-loop μ-loop
 returns c =
     let s = c .before .before .before .before .before .before .before in
     let l = c .before .before .before .before .before .before .loop in
     let sc = packedTables (s .args .schema .now) in
-    loose-found sc (working sc (s .args .n) (s .args .rows .now)) (keyIn (getD (s .args .rows .now) (l .i) [])) (c .place-of .result)
+    loose-found sc (working sc (s .args .n) (s .args .rows .now)) (keyIn (getD (s .args .rows .now) (l .i) [])) (c .find-row .result)
     (l .inv .1 ∙ loose-here sc (s .args .rows .now) (s .args .n) (s .pre .1) (l .i) (c .before .before .before .before .before .loop-test .taken) (sym (c .before .before .before .is-loose .ensures) ∙ c .before .before .if1 .taken))
-    (c .place-of .ensures sc)
+    (c .find-row .ensures sc)
 
 add-i : tie.Need-add-i Inv-loop μ-loop
 add-i c = omega arith
@@ -77,9 +77,9 @@ first-loose-spec =
     mul-is-loose
     shared-slice-element-is-loose
     is-loose-requires
-    mul-place-of
-    shared-slice-element-place-of
-    place-of-requires
+    mul-find-row
+    shared-slice-element-find-row
+    find-row-requires
     returns
     add-i
     loop-less

@@ -1,6 +1,6 @@
 -- `settle::holds_row` meets its contract. Assumes nothing.
 use mathlib.Core.Path.{sym, _∙_}
-use Rattle.inner.specs.Packed.{packedTables}
+use Rattle.model.specs.Catalog.{packedTables}
 use Rattle.inner.proofs.Working.{row-key}
 use Rattle.settle.specs.Loose.{holds}
 use borrow.Author.Needs.{needs}

@@ -4,7 +4,7 @@ use Prim.Native.Nat.{_-_, _≤_}
 use native.Mathlib.Omega.{arith}
 use lib.ListN.{drop}
 use Rattle.model.specs.Base.{any}
-use Rattle.inner.specs.Packed.{packedTables}
+use Rattle.model.specs.Catalog.{packedTables}
 use Rattle.inner.specs.Working.{working, keyIn}
 use Rattle.references.proofs.Walks.{any-row-here, any-row-on, any-row-end}
 use Rattle.settle.specs.Loose.{holds}

@@ -4,7 +4,7 @@ use mathlib.Core.Bool.{not}
 use Prim.Native.Nat.{ℕ}
 use Rattle.model.specs.Base.{any}
 use Rattle.model.specs.Schema.{isRoot}
-use Rattle.inner.specs.Packed.{packedTables}
+use Rattle.model.specs.Catalog.{packedTables}
 use Rattle.inner.specs.Working.{working}
 use Rattle.inner.proofs.Working.{row-key, row-table}
 use Rattle.settle.specs.Loose.{holds}

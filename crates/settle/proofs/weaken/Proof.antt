@@ -2,7 +2,7 @@
 use Prim.Native.Nat.{_-_, _≤_}
 use native.Mathlib.Omega.{arith}
 use lib.ListN.{length}
-use Rattle.inner.specs.Packed.{packedTables}
+use Rattle.model.specs.Catalog.{packedTables}
 use Rattle.settle.proofs.Partly.{Going, going-none, going-on, going-end}
 use Rattle.settle.proofs.weaken.Statement.{statement}
 use Rattle.settle.proofs.weaken.Tie as tie

@@ -5,9 +5,10 @@ use native.Mathlib.Omega.{arith}
 use borrow.Author.Needs.{needs}
 use lib.ListN.{length}
 use Rattle.model.specs.Schema.{columnsOf}
-use Rattle.inner.specs.Packed.{packedTables}
+use Rattle.model.specs.Catalog.{packedTables}
 use Rattle.inner.specs.Working.{tableIn}
-use Rattle.references.specs.Links.{Accepted, told}
+use Rattle.references.specs.Links.{told}
+use Rattle.catalog.specs.Accepted.{Accepted}
 use Rattle.references.proofs.Packs.{few-columns}
 use Rattle.settle.proofs.Weakly.{Weakening, weakening-none, weakening-on, weakening-end}
 use Rattle.settle.proofs.weaken_row.Statement.{statement}

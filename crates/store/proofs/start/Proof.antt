@@ -1,10 +1,8 @@
 -- `store::start` meets its contract. Assumes nothing.
 use mathlib.Core.Path.{_≡_, sym, _∙_}
-use mathlib.Core.List.{[]}
 use native.Mathlib.Omega.{arith}
 use borrow.Author.Needs.{needs}
 use borrow.Author.Tests.{not-true, not-false}
-use Rattle.model.proofs.Accepted.{text-short}
 use Rattle.store.proofs.Laws.{start-numbered, start-length, start-schema, start-made}
 use Rattle.store.proofs.start.Statement.{statement}
 use Rattle.store.proofs.start.Tie as tie
@@ -20,25 +18,23 @@ read-requires c κs = search needs
 returns-2 : tie.Need-returns-2
 returns-2 c =
     let a = c .before .before .before .before .before .before .args in
-    start-numbered (a .area .now) (a .schema .now) (a .run) (start-schema (a .area .now) (a .schema .now) (a .run) (c .before .before .before .if1 .left) (sym (c .before .read .ensures .accepted) ∙ not-true _ (c .if2 .taken)))
+    start-numbered (a .area .now) (a .schema .now) (a .run) (start-schema (a .area .now) (a .schema .now) (a .run) (c .before .before .before .if1 .left) (c .before .read .ensures .refused (not-true _ (c .if2 .taken))))
 
 slice-aggregate-write-store : tie.Need-slice-aggregate-write-store
 slice-aggregate-write-store c = search needs
 
 write-store-requires : tie.Need-write-store-requires
-write-store-requires c κs =
-    let a = c .before .before .before .before .before .before .before .before .args in
-    let e = sym (c .before .before .before .read .ensures .accepted) ∙ not-false _ (c .before .before .if2 .left) in
-    ((omega (arith, c .before .before .before .before .before .if1 .left), text-short (a .schema .now) e), (omega arith, omega arith))
+write-store-requires c κs = (omega (arith, c .before .before .before .before .before .before .if1 .left), (omega arith, omega arith))
 
 same-length : tie.Need-same-length
 same-length c = search needs
 
 returns-3 : tie.Need-returns-3
 returns-3 c =
-    let a = c .before .before .before .before .before .before .before .before .before .before .before .args in
-    let e = sym (c .before .before .before .before .before .before .read .ensures .accepted) ∙ not-false _ (c .before .before .before .before .before .if2 .left) in
-    start-numbered (a .area .now) (a .schema .now) (a .run) (start-made (a .area .now) (a .schema .now) (a .run) (c .before .before .before .before .before .before .before .before .if1 .left) [] _ (c .before .before .write-store .last .0) e (c .before .before .write-store .ensures [] tt))
+    let a = c .before .before .before .before .before .before .before .before .before .before .before .before .args in
+    let r = c .before .before .before .before .before .before .before .read in
+    let e = not-false _ (c .before .before .before .before .before .before .if2 .left) in
+    start-numbered (a .area .now) (a .schema .now) (a .run) (start-made (a .area .now) (a .schema .now) (a .run) (c .before .before .before .before .before .before .before .before .before .if1 .left) _ _ (c .before .before .write-store .last .0) (r .ensures .database e) (c .before .before .write-store .ensures _ (r .ensures .accepted e .same) tt))
 
 pub start-spec : {M : Type 1} → statement M
 start-spec =

@@ -1,7 +1,7 @@
 -- `table_operations::run_select` meets its contract. Assumes nothing.
 use mathlib.Core.Path.{refl, sym, _∙_}
 use native.Mathlib.Omega.{arith}
-use Rattle.inner.specs.Packed.{packedTables}
+use Rattle.model.specs.Catalog.{packedTables}
 use Rattle.inner.specs.Working.{working}
 use Rattle.fields.specs.Fields.{wordsFrom, wordsOf}
 use Rattle.table_operations.proofs.Doing.{ran-failed}
@@ -76,7 +76,7 @@ select-rows-requires c κs =
     let w = select-where (a .text .now) (a .ops) (a .fresh .now) (a .schema .now) (a .columns .now) (a .op) (a .table) (st .pre .1) (fs .fields .ensures) (li .listed .ensures) (wf .where-fault .ensures) (vf .columns-fault .ensures) (e1 .earlier .ensures) (e2 .earlier2 .ensures) (sym (fi .is-fine .ensures) ∙ th .if1 .taken) (ft .first .ensures) in
     let x = st .pre .0 .count in
     let y = st .pre .0 .room in
-    (st .pre .0 .running, (w .0, (select-columns-slot (a .text .now) (a .ops) (a .fresh .now) (a .schema .now) (a .columns .now) (a .op) (a .table) (st .pre .1) (fs .fields .ensures), (st .pre .1 .accepted, (st .pre .1 .sized, (st .pre .1 .here, (w .1, (select-columns (a .text .now) (a .ops) (a .fresh .now) (a .schema .now) (a .columns .now) (a .op) (a .table) (st .pre .1) (fs .fields .ensures) (li .listed .ensures) (wf .where-fault .ensures) (vf .columns-fault .ensures) (e1 .earlier .ensures) (e2 .earlier2 .ensures) (sym (fi .is-fine .ensures) ∙ th .if1 .taken) (ft .first .ensures), (x, omega arith, st .pre .0 .space)))))))))
+    (st .pre .0 .running, (w .0, (select-columns-slot (a .text .now) (a .ops) (a .fresh .now) (a .schema .now) (a .columns .now) (a .op) (a .table) (st .pre .1) (fs .fields .ensures), (st .pre .1 .accepted, (st .pre .1 .here, (w .1, (select-columns (a .text .now) (a .ops) (a .fresh .now) (a .schema .now) (a .columns .now) (a .op) (a .table) (st .pre .1) (fs .fields .ensures) (li .listed .ensures) (wf .where-fault .ensures) (vf .columns-fault .ensures) (e1 .earlier .ensures) (e2 .earlier2 .ensures) (sym (fi .is-fine .ensures) ∙ th .if1 .taken) (ft .first .ensures), (x, omega arith, st .pre .0 .space))))))))
 
 same-length : tie.Need-same-length
 same-length c = search needs

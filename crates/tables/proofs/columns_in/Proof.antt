@@ -1,7 +1,7 @@
 -- `tables::columns_in` meets its contract. Assumes nothing.
 use mathlib.Core.List.{map}
 use borrow.Author.Tests.{ne-eqb}
-use Rattle.inner.specs.Packed.{cellName}
+use Rattle.model.specs.Catalog.{cellName}
 use Rattle.tables.proofs.Shapes.{columns-none, columns-some}
 use borrow.Author.Needs.{needs}
 use Rattle.tables.proofs.columns_in.Statement.{statement}

@@ -5,7 +5,7 @@ use native.Mathlib.Omega.{arith}
 use borrow.Author.Tests.{ne-eqb}
 use Rattle.inner.specs.Positions.{treeAt}
 use Rattle.model.specs.Members.{membersIn}
-use Rattle.inner.specs.Packed.{cellName}
+use Rattle.model.specs.Catalog.{cellName}
 use Rattle.indexes.proofs.Numbers.{fits-short}
 use Rattle.tables.proofs.Shapes.{indexes-none, indexes-bad, indexes-put}
 use Rattle.tables.proofs.indexes_in.Statement.{statement}

@@ -36,8 +36,8 @@ shared-slice-read-name-at c =
 name-at-requires : tie.Need-name-at-requires Inv-loop μ-loop
 name-at-requires c κs = tt
 
-name-cell-requires : tie.Need-name-cell-requires Inv-loop μ-loop
-name-cell-requires c κs = tt
+name-entry-requires : tie.Need-name-entry-requires Inv-loop μ-loop
+name-entry-requires c κs = tt
 
 mul-cells : tie.Need-mul-cells Inv-loop μ-loop
 mul-cells c =
@@ -77,7 +77,7 @@ loop-again c =
     let i = na .before .before in
     let l = i .before in
     let st = l .before .before .before in
-    naming-more (st .args .text .now) (st .args .places .now) (st .args .n) (st .pre .0) (st .pre .1) (l .loop .inv) (i .loop-test .taken) (c .name-cell .ensures ∙ ap (λ (x : List ℕ). x ++ replicate 23 0) (na .name-at .ensures))
+    naming-more (st .args .text .now) (st .args .places .now) (st .args .n) (st .pre .0) (st .pre .1) (l .loop .inv) (i .loop-test .taken) (c .name-entry .ensures ∙ ap (λ (x : List ℕ). x ++ replicate 23 0) (na .name-at .ensures))
 
 returns : tie.Need-returns Inv-loop μ-loop
 returns c =
@@ -99,7 +99,7 @@ name-cells-spec =
     mul-name-at
     shared-slice-read-name-at
     name-at-requires
-    name-cell-requires
+    name-entry-requires
     mul-cells
     array-set-from-cells
     add-i

@@ -5,7 +5,7 @@ use mathlib.Core.List.{List, [], map}
 use lib.ListN.{length, getD, set, drop, length-drop}
 use borrow.Rule.Slice.PartMut.{same-len-mid}
 use Rattle.inner.specs.Positions.{treeAt}
-use Rattle.inner.specs.Packed.{cellName}
+use Rattle.model.specs.Catalog.{cellName}
 use Rattle.tables.specs.Tables.{TableRead, EachRead}
 use Prim.Native.Nat.{ℕ, _+_, _*_, _-_}
 use native.Mathlib.Omega.{arith}

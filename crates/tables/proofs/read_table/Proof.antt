@@ -10,7 +10,7 @@ use Rattle.model.specs.Members.{membersIn}
 use Rattle.model.specs.SchemaText.{sizeOr}
 use Rattle.tables.specs.Tables.{restTold, IndexesIn}
 use native.Mathlib.Omega.{arith}
-use Rattle.inner.specs.Packed.{cellName}
+use Rattle.model.specs.Catalog.{cellName}
 use Rattle.inner.specs.Positions.{treeAt}
 use Rattle.fields.specs.Fields.{wordsFrom, wordsOf}
 use Rattle.tables.proofs.Shapes.{table-none, columns-well, columns-named, table-read}

@@ -15,8 +15,8 @@ array-read-kind-in c = search needs
 kind-in-requires : tie.Need-kind-in-requires
 kind-in-requires c κs = search needs
 
-is-truth-requires : tie.Need-is-truth-requires
-is-truth-requires c κs = search needs
+is-kind-requires : tie.Need-is-kind-requires
+is-kind-requires c κs = search needs
 
 array-read-result : tie.Need-array-read-result
 array-read-result c = search needs
@@ -32,7 +32,7 @@ returns c =
     let k = c .before in
     let w = k .before in
     let st = w .before .before in
-    rest-told (st .args .text .now) (st .args .t2) (st .args .w) (w .is-within .result) (c .is-truth .result) (w .is-within .ensures) (c .is-truth .ensures ∙ ap isTruth (k .kind-in .ensures))
+    rest-told (st .args .text .now) (st .args .t2) (st .args .w) (w .is-within .result) (c .is-kind .result) (w .is-within .ensures) (c .is-kind .ensures ∙ ap isTruth (k .kind-in .ensures))
 
 pub rest-fits-spec : {M : Type 1} → statement M
 rest-fits-spec =
@@ -41,7 +41,7 @@ rest-fits-spec =
     is-within-requires
     array-read-kind-in
     kind-in-requires
-    is-truth-requires
+    is-kind-requires
     array-read-result
     array-read-result-2
     array-read-result-3

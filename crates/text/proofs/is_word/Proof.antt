@@ -14,8 +14,8 @@ use Rattle.text.proofs.is_word.Tie as tie
 kind-at-requires : tie.Need-kind-at-requires
 kind-at-requires c κs = search needs
 
-is-text-requires : tie.Need-is-text-requires
-is-text-requires c κs = search needs
+is-kind-requires : tie.Need-is-kind-requires
+is-kind-requires c κs = search needs
 
 spaces-requires : tie.Need-spaces-requires
 spaces-requires c κs = search needs
@@ -24,7 +24,7 @@ add-body-is : tie.Need-add-body-is
 add-body-is c =
     let k = c .before .before .before in
     let st = k .before .before .before in
-    let t = ap isText (sym (k .kind-at .ensures)) ∙ sym (c .before .before .is-text .ensures) ∙ c .before .if1 .taken in
+    let t = ap isText (sym (k .kind-at .ensures)) ∙ sym (c .before .before .is-kind .ensures) ∙ c .before .if1 .taken in
     omega (arith, c .spaces .ensures, text-tree (st .args .text .now) (st .args .at) t .0)
 
 body-is-requires : tie.Need-body-is-requires
@@ -36,7 +36,7 @@ returns c =
     let k = sp .before .before .before in
     let st = k .before .before .before in
     let s = st .args .text .now in
-    let t = ap isText (sym (k .kind-at .ensures)) ∙ sym (sp .before .before .is-text .ensures) ∙ sp .before .if1 .taken in
+    let t = ap isText (sym (k .kind-at .ensures)) ∙ sym (sp .before .before .is-kind .ensures) ∙ sp .before .if1 .taken in
     let tree : treeAt s (st .args .at) ≡ str (bodyAt s (sp .spaces .result + 1) .tree) = rw (sp .spaces .ensures) (text-tree s (st .args .at) t .1) in
     c .body-is .ensures ∙ word-text (st .args .word .now) _ tree
 
@@ -44,14 +44,14 @@ returns-2 : tie.Need-returns-2
 returns-2 c =
     let k = c .before .before in
     let st = k .before .before .before in
-    word-not (st .args .word .now) (treeAt (st .args .text .now) (st .args .at)) (ap isText (sym (k .kind-at .ensures)) ∙ sym (c .before .is-text .ensures) ∙ c .if1 .left)
+    word-not (st .args .word .now) (treeAt (st .args .text .now) (st .args .at)) (ap isText (sym (k .kind-at .ensures)) ∙ sym (c .before .is-kind .ensures) ∙ c .if1 .left)
 
 pub is-word-spec : {M : Type 1} → statement M
 is-word-spec =
     tie.close
     (tie.spec
     kind-at-requires
-    is-text-requires
+    is-kind-requires
     spaces-requires
     add-body-is
     body-is-requires

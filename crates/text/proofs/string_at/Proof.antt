@@ -10,8 +10,8 @@ use Rattle.text.proofs.string_at.Tie as tie
 kind-at-requires : tie.Need-kind-at-requires
 kind-at-requires c κs = search needs
 
-is-text-requires : tie.Need-is-text-requires
-is-text-requires c κs = search needs
+is-kind-requires : tie.Need-is-kind-requires
+is-kind-requires c κs = search needs
 
 spaces-requires : tie.Need-spaces-requires
 spaces-requires c κs = search needs
@@ -20,7 +20,7 @@ add-j : tie.Need-add-j
 add-j c =
     let k = c .before .before .before in
     let st = k .before .before .before in
-    let t = ap isText (sym (k .kind-at .ensures)) ∙ sym (c .before .before .is-text .ensures) ∙ c .before .if1 .taken in
+    let t = ap isText (sym (k .kind-at .ensures)) ∙ sym (c .before .before .is-kind .ensures) ∙ c .before .if1 .taken in
     omega (arith, c .spaces .ensures, text-tree (st .args .text .now) (st .args .at) t .0)
 
 quote-requires : tie.Need-quote-requires
@@ -35,7 +35,7 @@ sub-n c =
     let sp = q .before in
     let k = sp .before .before .before in
     let st = k .before .before .before in
-    let t = ap isText (sym (k .kind-at .ensures)) ∙ sym (sp .before .before .is-text .ensures) ∙ sp .before .if1 .taken in
+    let t = ap isText (sym (k .kind-at .ensures)) ∙ sym (sp .before .before .is-kind .ensures) ∙ sp .before .if1 .taken in
     plain-from (st .args .text .now) (st .args .at) t (sp .spaces .ensures) (sym (q .quote .ensures) ∙ c .before .q .given .1)
 
 returns : tie.Need-returns
@@ -44,7 +44,7 @@ returns c =
     let sp = q .before in
     let k = sp .before .before .before in
     let st = k .before .before .before in
-    let t = ap isText (sym (k .kind-at .ensures)) ∙ sym (sp .before .before .is-text .ensures) ∙ sp .before .if1 .taken in
+    let t = ap isText (sym (k .kind-at .ensures)) ∙ sym (sp .before .before .is-kind .ensures) ∙ sp .before .if1 .taken in
     plain-held (st .args .text .now) (st .args .at) t (sp .spaces .ensures) _ (sym (q .quote .ensures) ∙ c .before .q .given .1)
 
 enum-told : tie.Need-enum-told
@@ -66,21 +66,21 @@ returns-2 c =
     let sp = q .before in
     let k = sp .before .before .before in
     let st = k .before .before .before in
-    let t = ap isText (sym (k .kind-at .ensures)) ∙ sym (sp .before .before .is-text .ensures) ∙ sp .before .if1 .taken in
+    let t = ap isText (sym (k .kind-at .ensures)) ∙ sym (sp .before .before .is-kind .ensures) ∙ sp .before .if1 .taken in
     decoded-held (st .args .text .now) (st .args .at) t (sp .spaces .ensures) (sym (q .quote .ensures) ∙ d .before .before .enum-told .given .1) (st .pre) (d .decode .ensures) (c .count .ensures)
 
 returns-3 : tie.Need-returns-3
 returns-3 c =
     let k = c .before .before in
     let st = k .before .before .before in
-    none-held (st .args .text .now) (st .args .at) _ (ap isText (sym (k .kind-at .ensures)) ∙ sym (c .before .is-text .ensures) ∙ c .if1 .left)
+    none-held (st .args .text .now) (st .args .at) _ (ap isText (sym (k .kind-at .ensures)) ∙ sym (c .before .is-kind .ensures) ∙ c .if1 .left)
 
 pub string-at-spec : {M : Type 1} → statement M
 string-at-spec =
     tie.close
     (tie.spec
     kind-at-requires
-    is-text-requires
+    is-kind-requires
     spaces-requires
     add-j
     quote-requires

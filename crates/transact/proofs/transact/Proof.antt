@@ -82,7 +82,7 @@ reply-requires c κs =
     let a = c .before .before .before .before .before .before .before .before .before .before .before .before .before .before .before .before .before .before .before .before .before .before .before .before .before .before .before .args in
     let l = lengths (a .area .now) (a .fresh .now) (a .records .now) (a .answer .now) (sym (c .before .before .before .before .before .before .before .before .before .before .before .before .before .before .before .before .before .before .lengths-good .ensures) ∙ not-false _ (c .before .before .before .before .before .before .before .before .before .before .before .before .before .before .before .before .before .if1 .left)) in
     let k = c .before .before .before .before .before .before .before .before .before .before .before .before .before .held .ensures .good (not-false _ (c .before .before .before .before .before .before .before .before .before .before .before .if2 .left)) in
-    (k .accepted, (k .sized, ((omega (arith, k .few, c .before .before .before .before .before .row-count .ensures), search needs, search needs), (refl, (l .1, l .2)))))
+    (k .accepted, ((omega (arith, k .few, c .before .before .before .before .before .row-count .ensures), search needs, search needs), (refl, (l .1, l .2))))
 
 cast-next : tie.Need-cast-next
 cast-next c = omega (arith, c .before .before .before .before .before .before .before .reply .ensures .last)

@@ -1,5 +1,5 @@
 use mathlib.Core.List.{map}
-use Rattle.inner.specs.Packed.{cellName}
+use Rattle.model.specs.Catalog.{cellName}
 use mathlib.Core.Path.{refl}
 use native.Mathlib.Omega.{arith}
 use Rattle.fields.specs.Fields.{wordsFrom, wordsOf}

@@ -2,7 +2,7 @@
 use Rattle.names.specs.Names.{nameCell}
 use mathlib.Core.Path.{sym, ap, _∙_}
 use borrow.Author.Tests.{eq-eqb, ne-eqb}
-use Rattle.names.specs.Names.{cellNamed}
+use Rattle.catalog.specs.Entries.{cellNamed}
 use Rattle.model.specs.Value.{textOf}
 use Rattle.types.specs.Types.{tableIn}
 use Rattle.fields.proofs.Slotted.{at-some}
@@ -20,8 +20,8 @@ name-at-requires c κs = search needs
 text-of-requires : tie.Need-text-of-requires
 text-of-requires c κs = search needs
 
-cell-named-requires : tie.Need-cell-named-requires
-cell-named-requires c κs = search needs
+named-requires : tie.Need-named-requires
+named-requires c κs = search needs
 
 returns-2 : tie.Need-returns-2
 unfolding tableIn
@@ -31,8 +31,8 @@ returns-2 c =
     let n = c .before .before .before .name-at .ensures ∙ ap nameCell (sym (at-some (st .args .text .now) (e .if1 .left))) in
     rw
     (tableIn, ne-eqb (st .args .p) 0 (e .if1 .left))
-    (c .cell-named .ensures ∙ ap (cellNamed (st .args .tables .now)) (c .before .text-of .ensures ∙ ap textOf n))
+    (c .named .ensures ∙ ap (cellNamed (st .args .tables .now)) (c .before .text-of .ensures ∙ ap textOf n))
 
 pub table-in-spec : {M : Type 1} → statement M
 table-in-spec =
-    tie.close (tie.spec returns name-at-requires text-of-requires cell-named-requires returns-2)
+    tie.close (tie.spec returns name-at-requires text-of-requires named-requires returns-2)

@@ -20,8 +20,8 @@ use Rattle.uuids.proofs.id_at.Tie as tie
 kind-at-requires : tie.Need-kind-at-requires
 kind-at-requires c κs = search needs
 
-is-text-requires : tie.Need-is-text-requires
-is-text-requires c κs = search needs
+is-kind-requires : tie.Need-is-kind-requires
+is-kind-requires c κs = search needs
 
 spaces-requires : tie.Need-spaces-requires
 spaces-requires c κs = search needs
@@ -29,7 +29,7 @@ spaces-requires c κs = search needs
 add-decode : tie.Need-add-decode
 add-decode c =
     let a = c .before .before .before .before .before .args in
-    let t = ap isText (sym (c .before .before .before .kind-at .ensures)) ∙ sym (c .before .before .is-text .ensures) ∙ c .before .if1 .taken in
+    let t = ap isText (sym (c .before .before .before .kind-at .ensures)) ∙ sym (c .before .before .is-kind .ensures) ∙ c .before .if1 .taken in
     omega (arith, c .spaces .ensures, text-tree (a .text .now) (a .at) t .0)
 
 slice-aggregate-decode : tie.Need-slice-aggregate-decode
@@ -59,7 +59,7 @@ returns : tie.Need-returns
 returns c =
     let a = c .before .before .before .before .before .before .before .before .before .before .before .before .before .args in
     let s = a .text .now in
-    let t = ap isText (sym (c .before .before .before .before .before .before .before .before .before .before .before .kind-at .ensures)) ∙ sym (c .before .before .before .before .before .before .before .before .before .before .is-text .ensures) ∙ c .before .before .before .before .before .before .before .before .before .if1 .taken in
+    let t = ap isText (sym (c .before .before .before .before .before .before .before .before .before .before .before .kind-at .ensures)) ∙ sym (c .before .before .before .before .before .before .before .before .before .before .is-kind .ensures) ∙ c .before .before .before .before .before .before .before .before .before .if1 .taken in
     let f = fitted {before = replicate 36 0} (c .before .before .before .before .before .before .decode .ensures) (c .before .before .before .w .given .1) in
     let q = ap (uuidFrom 0 0) (f .2) ∙ ap (λ i. uuidFrom 0 0 (bodyAt s (i + 1) .tree)) (c .before .before .before .before .before .before .before .before .spaces .ensures) ∙ sym (id-string (text-tree s (a .at) t .1)) in
     subst (Spells (c .id-of .result)) q (c .id-of .ensures)
@@ -72,7 +72,7 @@ unfolding Spells
 returns-2 c =
     let a = c .before .before .before .before .before .before .before .before .before .before .args in
     let s = a .text .now in
-    let t = ap isText (sym (c .before .before .before .before .before .before .before .before .kind-at .ensures)) ∙ sym (c .before .before .before .before .before .before .before .is-text .ensures) ∙ c .before .before .before .before .before .before .if1 .taken in
+    let t = ap isText (sym (c .before .before .before .before .before .before .before .before .kind-at .ensures)) ∙ sym (c .before .before .before .before .before .before .before .is-kind .ensures) ∙ c .before .before .before .before .before .before .if1 .taken in
     let g = over {before = replicate 36 0} (c .before .before .before .decode .ensures) (c .enum-told .given .1) in
     let bs = bodyAt s (spacesAt s (a .at) + 1) .tree in
     let h : 36 < length bs = subst (λ i. 36 < length (bodyAt s (i + 1) .tree)) (c .before .before .before .before .before .spaces .ensures) g in
@@ -82,14 +82,14 @@ returns-3 : tie.Need-returns-3
 unfolding Spells
 returns-3 c =
     let a = c .before .before .before .before .args in
-    no-id (treeAt (a .text .now) (a .at)) (ap isText (sym (c .before .before .kind-at .ensures)) ∙ sym (c .before .is-text .ensures) ∙ c .if1 .left)
+    no-id (treeAt (a .text .now) (a .at)) (ap isText (sym (c .before .before .kind-at .ensures)) ∙ sym (c .before .is-kind .ensures) ∙ c .if1 .left)
 
 pub id-at-spec : {M : Type 1} → statement M
 id-at-spec =
     tie.close
     (tie.spec
     kind-at-requires
-    is-text-requires
+    is-kind-requires
     spaces-requires
     add-decode
     slice-aggregate-decode

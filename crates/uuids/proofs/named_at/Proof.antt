@@ -12,8 +12,8 @@ use Rattle.uuids.proofs.named_at.Tie as tie
 kind-at-requires : tie.Need-kind-at-requires
 kind-at-requires c κs = search needs
 
-is-text-requires : tie.Need-is-text-requires
-is-text-requires c κs = search needs
+is-kind-requires : tie.Need-is-kind-requires
+is-kind-requires c κs = search needs
 
 slice-aggregate-string-at : tie.Need-slice-aggregate-string-at
 slice-aggregate-string-at c = search needs
@@ -41,7 +41,7 @@ unfolding answered
 returns c =
     let a = c .before .before .before .before .before .before .before .before .before .before .before .before .before .before .before .before .before .args in
     let j = treeAt (a .text .now) (a .at) in
-    let h = ap isText (sym (c .before .before .before .before .before .before .before .before .before .before .before .before .before .kind-at .ensures)) ∙ sym (c .before .before .before .before .before .before .before .before .before .before .before .before .is-text .ensures) ∙ c .before .before .before .before .before .before .before .before .before .before .before .if1 .taken in
+    let h = ap isText (sym (c .before .before .before .before .before .before .before .before .before .before .before .before .before .kind-at .ensures)) ∙ sym (c .before .before .before .before .before .before .before .before .before .before .before .before .is-kind .ensures) ∙ c .before .before .before .before .before .before .before .before .before .before .before .if1 .taken in
     named-some (a .text .now) (a .ops) (a .fresh .now) j h (c .before .before .before .before .before .before .bytes .ensures ∙ c .before .before .before .before .before .before .before .before .before .string-at .ensures .bytes) (c .before .before .before .before .before .place-of .ensures) (c .before .before .before .f .given .1) ∙ ap some (sym (c .put-fresh .ensures))
 
 enum-told : tie.Need-enum-told
@@ -52,21 +52,21 @@ unfolding answered
 returns-2 c =
     let a = c .before .before .before .before .before .before .before .before .before .before .before .before .before .before .args in
     let j = treeAt (a .text .now) (a .at) in
-    let h = ap isText (sym (c .before .before .before .before .before .before .before .before .before .before .kind-at .ensures)) ∙ sym (c .before .before .before .before .before .before .before .before .before .is-text .ensures) ∙ c .before .before .before .before .before .before .before .before .if1 .taken in
+    let h = ap isText (sym (c .before .before .before .before .before .before .before .before .before .before .kind-at .ensures)) ∙ sym (c .before .before .before .before .before .before .before .before .before .is-kind .ensures) ∙ c .before .before .before .before .before .before .before .before .if1 .taken in
     named-none (a .text .now) (a .ops) (a .fresh .now) j h (c .before .before .before .bytes .ensures ∙ c .before .before .before .before .before .before .string-at .ensures .bytes) (c .before .before .place-of .ensures) (c .enum-told .given .1)
 
 returns-3 : tie.Need-returns-3
 unfolding answered
 returns-3 c =
     let a = c .before .before .before .before .before .before .args in
-    named-not (a .text .now) (a .ops) (a .fresh .now) (treeAt (a .text .now) (a .at)) (ap isText (sym (c .before .before .kind-at .ensures)) ∙ sym (c .before .is-text .ensures) ∙ c .if1 .left)
+    named-not (a .text .now) (a .ops) (a .fresh .now) (treeAt (a .text .now) (a .at)) (ap isText (sym (c .before .before .kind-at .ensures)) ∙ sym (c .before .is-kind .ensures) ∙ c .if1 .left)
 
 pub named-at-spec : {M : Type 1} → statement M
 named-at-spec =
     tie.close
     (tie.spec
     kind-at-requires
-    is-text-requires
+    is-kind-requires
     slice-aggregate-string-at
     string-at-requires
     slice-aggregate-bytes

@@ -8,7 +8,7 @@ use borrow.Author.Needs.{needs}
 use lib.ListN.{length, take, drop}
 use lib.Seq.{take-all}
 use Rattle.model.specs.Base.{all}
-use Rattle.inner.specs.Packed.{baseNumbered}
+use Rattle.model.specs.Catalog.{baseNumbered}
 use Rattle.model.specs.Value.{wellAtom, byteAtom}
 use Rattle.model.proofs.Tests.{and-l, and-r}
 use Rattle.atom.proofs.Cells.{all-on, all-end}

@@ -5,7 +5,7 @@ use Prim.Native.Nat.{_+_, _-_, _<_}
 use native.Mathlib.Omega.{arith}
 use borrow.Author.Needs.{needs}
 use lib.ListN.{length, drop}
-use Rattle.inner.specs.Packed.{baseNumbered}
+use Rattle.model.specs.Catalog.{baseNumbered}
 use Rattle.value.proofs.Order.{chain, chain-ascending, chain-on, chain-end}
 use Rattle.value.proofs.ascending.Statement.{statement}
 use Rattle.value.proofs.ascending.Tie as tie

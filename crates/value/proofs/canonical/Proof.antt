@@ -5,7 +5,7 @@ use Prim.Native.Nat.{ℕ}
 use native.Mathlib.Omega.{arith}
 use lib.ListN.{length, take, drop, length-take}
 use Rattle.model.specs.Base.{all}
-use Rattle.inner.specs.Packed.{baseNumbered}
+use Rattle.model.specs.Catalog.{baseNumbered}
 use Rattle.model.specs.Value.{zeros, wellAtom, byteAtom, ascending}
 use Rattle.octets.proofs.Rests.{mid-rest}
 use Rattle.value.proofs.Forms.{not-four, too-many, not-one, judged}

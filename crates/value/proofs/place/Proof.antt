@@ -4,7 +4,7 @@ use Prim.Native.Nat.{_+_, _-_, _≤_}
 use native.Mathlib.Omega.{arith}
 use borrow.Author.Needs.{needs}
 use lib.ListN.{length, drop}
-use Rattle.inner.specs.Packed.{baseNumbered}
+use Rattle.model.specs.Catalog.{baseNumbered}
 use Rattle.value.specs.Places.{placeIn}
 use Rattle.value.proofs.Order.{place-on, place-off, place-end}
 use Rattle.value.proofs.place.Statement.{statement}

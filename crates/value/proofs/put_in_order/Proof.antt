@@ -2,7 +2,7 @@
 use mathlib.Core.Path.{_∙_}
 use native.Mathlib.Omega.{arith}
 use lib.ListN.{length-take}
-use Rattle.inner.specs.Packed.{baseNumbered}
+use Rattle.model.specs.Catalog.{baseNumbered}
 use Rattle.value.proofs.Fours.{put-placed}
 use borrow.Author.Needs.{needs}
 use Rattle.value.proofs.put_in_order.Statement.{statement}

@@ -2,7 +2,7 @@
 use mathlib.Core.Path.{_≡_, refl, sym, subst, _∙_}
 use Rattle.inner.specs.Positions.{treeAt}
 use Rattle.model.specs.Schema.{integer, boolean, text, uuid}
-use Rattle.inner.specs.Packed.{baseNumbered}
+use Rattle.model.specs.Catalog.{baseNumbered}
 use Rattle.uuids.specs.Named.{namesAt, answered}
 use Rattle.atom.proofs.Types.{base-integer, base-boolean, base-text, base-uuid}
 use Rattle.written.specs.Atoms.{integerIn, booleanIn, TextReads, Reads}

@@ -13,11 +13,11 @@ use Rattle.written.proofs.put_text.Tie as tie
 clear-requires : tie.Need-clear-requires
 clear-requires c κs = search needs
 
-cast-put-first : tie.Need-cast-put-first
-cast-put-first c = search needs
+cast-put-byte : tie.Need-cast-put-byte
+cast-put-byte c = search needs
 
-put-first-requires : tie.Need-put-first-requires
-put-first-requires c κs = search needs
+put-byte-requires : tie.Need-put-byte-requires
+put-byte-requires c κs = search needs
 
 sub-put-bytes : tie.Need-sub-put-bytes
 sub-put-bytes c = search needs
@@ -39,7 +39,7 @@ returns c =
     let s = c .before .before .before .before .before .before .before .before .before .before .before .before .before .before in
     let t = s .args .t .now in
     let xs = c .before .before .before .before .before .before .before .before .before .before .clear .last .0 in
-    let e = write-next (length t ∷ []) t xs _ _ 1 (length t) refl (c .before .before .before .before .before .before .put-first .ensures) (c .before .before .put-bytes .ensures) in
+    let e = write-next (length t ∷ []) t xs _ _ 1 (length t) refl (c .before .before .before .before .before .before .put-byte .ensures) (c .before .before .put-bytes .ensures) in
     let z : 1 + length t ≡ suc (length t) = omega arith in
     e ∙ ap (λ (l : List ℕ). (length t ∷ t) ++ drop (1 + length t) l) (c .before .before .before .before .before .before .before .before .before .before .clear .ensures ∙ ap (λ (n : ℕ). replicate {A = ℕ} n 0) (s .pre .0))
     ∙ ap (λ (n : ℕ). (length t ∷ t) ++ drop n (replicate {A = ℕ} 25 0)) z ∙ ap (λ (l : List ℕ). (length t ∷ t) ++ l) (zeros-from (suc (length t)) 25)
@@ -49,8 +49,8 @@ put-text-spec =
     tie.close
     (tie.spec
     clear-requires
-    cast-put-first
-    put-first-requires
+    cast-put-byte
+    put-byte-requires
     sub-put-bytes
     part-put-bytes-start
     part-put-bytes-end

@@ -20,8 +20,8 @@ use Rattle.written.proofs.text_at.Tie as tie
 kind-at-requires : tie.Need-kind-at-requires
 kind-at-requires c κs = search needs
 
-is-text-requires : tie.Need-is-text-requires
-is-text-requires c κs = search needs
+is-kind-requires : tie.Need-is-kind-requires
+is-kind-requires c κs = search needs
 
 spaces-requires : tie.Need-spaces-requires
 spaces-requires c κs = search needs
@@ -29,7 +29,7 @@ spaces-requires c κs = search needs
 add-decode : tie.Need-add-decode
 add-decode c =
     let a = c .before .before .before .before .before .args in
-    let t = ap isText (sym (c .before .before .before .kind-at .ensures)) ∙ sym (c .before .before .is-text .ensures) ∙ c .before .if1 .taken in
+    let t = ap isText (sym (c .before .before .before .kind-at .ensures)) ∙ sym (c .before .before .is-kind .ensures) ∙ c .before .if1 .taken in
     omega (arith, c .spaces .ensures, text-tree (a .text .now) (a .at) t .0)
 
 slice-aggregate-decode : tie.Need-slice-aggregate-decode
@@ -61,7 +61,7 @@ unfolding TextReads
 returns c =
     let a = c .before .before .before .before .before .before .before .before .before .before .before .before .before .before .args in
     let s = a .text .now in
-    let t = ap isText (sym (c .before .before .before .before .before .before .before .before .before .before .before .before .kind-at .ensures)) ∙ sym (c .before .before .before .before .before .before .before .before .before .before .before .is-text .ensures) ∙ c .before .before .before .before .before .before .before .before .before .before .if1 .taken in
+    let t = ap isText (sym (c .before .before .before .before .before .before .before .before .before .before .before .before .kind-at .ensures)) ∙ sym (c .before .before .before .before .before .before .before .before .before .before .before .is-kind .ensures) ∙ c .before .before .before .before .before .before .before .before .before .before .if1 .taken in
     let f = fitted {before = replicate 24 0} (c .before .before .before .before .before .before .before .decode .ensures) (c .before .before .before .before .w .given .1) in
     let q = ap (λ i. bodyAt s (i + 1) .tree) (c .before .before .before .before .before .before .before .before .before .spaces .ensures) ∙ sym (string-str (text-tree s (a .at) t .1)) in
     (t, c .put-text .ensures ∙ ap textAtom (f .2 ∙ q), omega (arith, ap length q, f .1))
@@ -74,21 +74,21 @@ unfolding TextReads
 returns-2 c =
     let a = c .before .before .before .before .before .before .before .before .before .before .args in
     let s = a .text .now in
-    let t = ap isText (sym (c .before .before .before .before .before .before .before .before .kind-at .ensures)) ∙ sym (c .before .before .before .before .before .before .before .is-text .ensures) ∙ c .before .before .before .before .before .before .if1 .taken in
+    let t = ap isText (sym (c .before .before .before .before .before .before .before .before .kind-at .ensures)) ∙ sym (c .before .before .before .before .before .before .before .is-kind .ensures) ∙ c .before .before .before .before .before .before .if1 .taken in
     let g = over {before = replicate 24 0} (c .before .before .before .decode .ensures) (c .enum-told .given .1) in
     let q = ap (λ i. bodyAt s (i + 1) .tree) (c .before .before .before .before .before .spaces .ensures) ∙ sym (string-str (text-tree s (a .at) t .1)) in
     (t, omega (arith, ap length q, g))
 
 returns-3 : tie.Need-returns-3
 unfolding TextReads
-returns-3 c = ap isText (sym (c .before .before .kind-at .ensures)) ∙ sym (c .before .is-text .ensures) ∙ c .if1 .left
+returns-3 c = ap isText (sym (c .before .before .kind-at .ensures)) ∙ sym (c .before .is-kind .ensures) ∙ c .if1 .left
 
 pub text-at-spec : {M : Type 1} → statement M
 text-at-spec =
     tie.close
     (tie.spec
     kind-at-requires
-    is-text-requires
+    is-kind-requires
     spaces-requires
     add-decode
     slice-aggregate-decode

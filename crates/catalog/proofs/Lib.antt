@@ -1,0 +1,16 @@
+pub mod Lookups
+pub mod Minimums
+pub mod Laws
+pub mod Writing
+pub mod Ids
+pub mod Twos
+pub mod Names
+pub mod Distinct
+pub mod Columns
+pub mod Heads
+pub mod Tables
+pub mod Judged
+pub mod Anew
+pub mod Renewed
+pub mod Slots
+pub mod Copied

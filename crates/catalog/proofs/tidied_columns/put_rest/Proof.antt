@@ -1,0 +1,78 @@
+-- `catalog::tidied_columns::put_rest` meets its contract. Assumes nothing.
+use mathlib.Core.Path.{refl, _∙_}
+use mathlib.Core.List.{_++_}
+use lib.ListN.{drop}
+use Rattle.octets.proofs.Rests.{write-next}
+use Rattle.catalog.specs.Renewed.{knownBytes, twosBytes, restBytes}
+use borrow.Author.Needs.{needs}
+use Rattle.catalog.proofs.tidied_columns.put_rest.Statement.{statement}
+use Rattle.catalog.proofs.tidied_columns.put_rest.Tie as tie
+
+put-known-requires : tie.Need-put-known-requires
+put-known-requires c κs = search needs
+
+sub-put-limit : tie.Need-sub-put-limit
+sub-put-limit c = search needs
+
+part-put-limit-start : tie.Need-part-put-limit-start
+part-put-limit-start c = search needs
+
+part-put-limit-end : tie.Need-part-put-limit-end
+part-put-limit-end c = search needs
+
+low-requires : tie.Need-low-requires
+low-requires c κs = search needs
+
+put-limit-requires : tie.Need-put-limit-requires
+put-limit-requires c κs = search needs
+
+sub-put-limit-2 : tie.Need-sub-put-limit-2
+sub-put-limit-2 c = search needs
+
+part-put-limit-start-2 : tie.Need-part-put-limit-start-2
+part-put-limit-start-2 c = search needs
+
+part-put-limit-end-2 : tie.Need-part-put-limit-end-2
+part-put-limit-end-2 c = search needs
+
+high-requires : tie.Need-high-requires
+high-requires c κs = search needs
+
+put-limit-requires-2 : tie.Need-put-limit-requires-2
+put-limit-requires-2 c κs = search needs
+
+same-length : tie.Need-same-length
+same-length c = search needs
+
+returns : tie.Need-returns
+unfolding knownBytes restBytes
+returns c =
+    let p2 = c .before .before in
+    let h = p2 .before in
+    let p1 = h .before .before .before .before in
+    let l = p1 .before in
+    let p0 = l .before .before .before .before in
+    let s = p0 .before .before .before in
+    let e = s .args .e .now in
+    let xs = s .args .out .now in
+    let e1 = write-next (knownBytes e) (twosBytes (l .low .result)) xs _ _ 6 8 refl (p0 .put-known .ensures) (p1 .put-limit .ensures) in
+    let e2 = write-next (knownBytes e ++ twosBytes (l .low .result)) (twosBytes (h .high .result)) xs _ _ 14 8 refl e1 (p2 .put-limit2 .ensures) in
+    e2 ∙ (λ i. ((knownBytes e ++ twosBytes (l .low .ensures i)) ++ twosBytes (h .high .ensures i)) ++ drop 22 xs)
+
+pub put-rest-spec : {M : Type 1} → statement M
+put-rest-spec =
+    tie.close
+    (tie.spec
+    put-known-requires
+    sub-put-limit
+    part-put-limit-start
+    part-put-limit-end
+    low-requires
+    put-limit-requires
+    sub-put-limit-2
+    part-put-limit-start-2
+    part-put-limit-end-2
+    high-requires
+    put-limit-requires-2
+    same-length
+    returns)

@@ -1,0 +1,20 @@
+-- `leaf::second_low` meets its contract. Assumes nothing.
+use borrow.Author.Tests.{ne-eqb}
+use Rattle.leaf.specs.Bytes.{secondLow}
+use Rattle.leaf.proofs.second_low.Statement.{statement}
+use Rattle.leaf.proofs.second_low.Tie as tie
+
+returns : tie.Need-returns
+unfolding secondLow
+returns c = rw (c .if1 .taken)
+
+returns-2 : tie.Need-returns-2
+unfolding secondLow
+returns-2 c = rw (c .if2 .taken)
+
+returns-3 : tie.Need-returns-3
+unfolding secondLow
+returns-3 c = rw (secondLow, ne-eqb _ _ (c .before .if1 .left), ne-eqb _ _ (c .if2 .left))
+
+pub second-low-spec : {M : Type 1} → statement M
+second-low-spec = tie.close (tie.spec returns returns-2 returns-3)
