@@ -137,7 +137,7 @@ static void arrivals(int rows, int count) {
     maq_mirror_start(mirror, sizeof mirror, (const uint8_t *)schema, schema_len, 1);
     for (int turn = 0; taken < (size_t)count; turn++) {
         int i = turn % rows;
-        if (turn < rows) snprintf(request, sizeof request, "[\"plating\",{\"op\":\"insert\",\"table\":\"Tank\",\"row\":{\"name\":\"tank %d\"}}]", i);
+        if (turn < rows) snprintf(request, sizeof request, "[\"plating\",{\"op\":\"insert\",\"table\":\"Tank\",\"row\":{\"name\":\"tank %d\",\"acid\":%d}}]", i, i);
         else snprintf(request, sizeof request, "[\"plating\",{\"op\":\"update\",\"table\":\"Tank\",\"where\":[[\"name\",\"==\",\"tank %d\"]],\"row\":{\"acid\":%d}}]", i, turn);
         ask(request);
         for (size_t at = 0; at < sizeof records && length_of(records[at]) != 0; at += length_of(records[at])) {
@@ -177,8 +177,8 @@ static void by(const char *text, size_t len, int rounds) {
 
 int main(int argc, char **argv) {
     int rounds = argc > 1 ? atoi(argv[1]) : 1000;
-    if (rounds < 1 || rounds > 20000) {
-        fprintf(stderr, "usage: bench [ROUNDS], 1 to 20000\n");
+    if (rounds < 1 || rounds > 10000) {
+        fprintf(stderr, "usage: bench [ROUNDS], 1 to 10000\n");
         return 2;
     }
     printf("%-48s %8s %10s %10s %8s %8s\n", "", "calls", "median us", "99% us", "copies", "99%");
