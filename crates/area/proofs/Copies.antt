@@ -10,7 +10,10 @@ use lib.Seq.{drop-cons, drop-drop, take-add, take-suc, take-all, take-at, set-at
 use Rattle.model.specs.Octets.{part, chunks}
 use Rattle.model.specs.Base.{flat}
 use Rattle.model.specs.Records.{cut}
-use Rattle.area.specs.Layout.{rowsIn, bytesOf}
+use Rattle.model.specs.Limits.{rowsOffset}
+use Rattle.model.specs.Value.{Value}
+use Rattle.inner.specs.Working.{valueIn}
+use Rattle.area.specs.Layout.{rowsIn, rowAt, rowsAt, bytesOf}
 
 -- parts of one width, the cells of bytes among them, and the rows
 module _ (w : ℕ) where
@@ -68,6 +71,42 @@ module _ (a : List ℕ) (at : ℕ) where
 
   pub part-length : at + 25 ≤ length a → length (part at 25 a) ≡ 25
   part-length h = part-size 25 a at h
+
+-- ── a column of a row in an area ──
+cut-take : (n k : ℕ) (b : List ℕ) → n ≤ k → take n (cut k b) ≡ cut n b
+cut-take zero k b h = refl
+cut-take (suc n) zero b h = absurd (omega arith)
+cut-take (suc n) (suc k) b h = ap (λ (l : List (List ℕ)). take 25 b ∷ l) (cut-take n k (drop 25 b) (omega arith))
+
+cut-drop : (n m k : ℕ) (b : List ℕ) → m + n ≤ k → take n (drop m (cut k b)) ≡ cut n (drop (25 * m) b)
+cut-drop n zero k b h = cut-take n k b (omega arith)
+cut-drop n (suc m) zero b h = absurd (omega arith)
+cut-drop n (suc m) (suc k) b h =
+    let e : 25 + 25 * m ≡ 25 * suc m = omega arith in
+    cut-drop n m k (drop 25 b) (omega arith) ∙ ap (cut n) (drop-drop (25 * m) 25 b ∙ ap (λ (j : ℕ). drop j b) e)
+
+module _ (a : List ℕ) (at c : ℕ) (h : c < 6) where
+  count-at : getD (getD (cut 25 (drop at a)) 0 []) (17 + c) 0 ≡ getD a (at + 17 + c) 0
+  count-at = let e : at + (17 + c) ≡ at + 17 + c = omega arith in byte-at a at (17 + c) (omega arith) ∙ ap (λ (j : ℕ). getD a j 0) e
+
+  atoms-of : take 4 (drop (1 + 4 * c) (cut 25 (drop at a))) ≡ cut 4 (drop (at + 25 * (1 + 4 * c)) a)
+  atoms-of = cut-drop 4 (1 + 4 * c) 25 (drop at a) (omega arith) ∙ ap (cut 4) (drop-drop (25 * (1 + 4 * c)) at a)
+
+module _ (a : List ℕ) (i : ℕ) where
+  abbrev from : ℕ
+  from = rowsOffset + 625 * i
+
+  pub value-at : (c : ℕ) → c < 6 → valueIn c (rowAt a i) ≡ record { count = getD a (from + 17 + c) 0; atoms = cut 4 (drop (from + 25 * (1 + 4 * c)) a) }
+  unfolding valueIn rowAt
+  value-at c h = λ j. record { count = count-at a from c h j; atoms = atoms-of a from c h j }
+
+  pub head-at : getD (rowAt a i) 0 [] ≡ part from 25 a
+  unfolding rowAt
+  head-at = refl
+
+  pub rows-are : (n : ℕ) → i < n → getD (rowsAt n a) i [] ≡ rowAt a i
+  unfolding rowAt
+  rows-are n h = row-from a rowsOffset n i h
 
 -- the front of a list that is filled beyond it
 pub take-copied : {A : Type 0} (out src : List A) (n : ℕ) → length src ≡ n → take n (src ++ drop n out) ≡ src

@@ -16,11 +16,13 @@ use Rattle.model.specs.Catalog.{columnFrom, tableFrom, tablesFrom, packedTables
 use Rattle.model.specs.Value.{Value, canonicalFor}
 use Rattle.model.specs.Records.{known}
 use Rattle.model.specs.Areas.{columnsFrom, rowFrom, valuesPass, rowPasses, ascends, distinctIds}
-use Rattle.inner.specs.Working.{working, tableIn, idIn, valueIn}
-use Rattle.model.proofs.Tests.{clash}
+use Rattle.inner.specs.Working.{working, tableIn, idIn, valueIn, Ordered}
+use Rattle.inner.proofs.Ordering.{sorted-ordered}
+use Rattle.model.proofs.Tests.{clash, and-l, and-r}
+use Rattle.model.proofs.GoodOrder.{ascends-sorted}
 use Rattle.area.proofs.Walks.{and-true}
 use Rattle.area.specs.Layout.{rowsIn, tidyFrom, canonicalFrom, rowGood, rowsGood, rowCount, restZero, partGood, Judged}
-use Rattle.catalog.specs.Entries.{columnCells}
+use Rattle.catalog.specs.Entries.{columnsAt}
 
 pub tables-count : (cells : List (List ℕ)) (t n : ℕ) → length (tablesFrom cells t n) ≡ n
 tables-count cells t zero = refl
@@ -34,7 +36,7 @@ columns-from cells u (suc n) (suc t) h =
     columns-from cells (suc u) n t (omega arith) ∙ ap (λ (k : ℕ). tableFrom cells k .columns) e
 
 -- the columns of a table are in the cells of the schema from 5 + 6 t on
-pub columns-in : (cells : List (List ℕ)) (t : ℕ) → t < getD (getD cells 0 []) 25 0 → columnsOf (packedTables cells) t ≡ map columnFrom (columnCells cells t)
+pub columns-in : (cells : List (List ℕ)) (t : ℕ) → t < getD (getD cells 0 []) 25 0 → columnsOf (packedTables cells) t ≡ map columnFrom (columnsAt cells t)
 unfolding tableFrom
 columns-in cells t h =
     let e : 0 + t ≡ t = omega arith in
@@ -96,26 +98,26 @@ module _ (schema row : List (List ℕ)) where
       ∙ ap (λ (b : Bool). (b && values) && tidyFrom (length (columnsOf s (tableIn row))) row) (and-false (ltb (tableIn row) (getD (getD schema 0 []) 25 0)))
 
   module _ (here : tableIn row < getD (getD schema 0 []) 25 0) where
-    count : length (columnsOf s (tableIn row)) ≡ length (columnCells schema (tableIn row))
-    count = ap length (columns-in schema (tableIn row) here) ∙ length-map (columnCells schema (tableIn row)) columnFrom
+    count : length (columnsOf s (tableIn row)) ≡ length (columnsAt schema (tableIn row))
+    count = ap length (columns-in schema (tableIn row) here) ∙ length-map (columnsAt schema (tableIn row)) columnFrom
 
-    values-are : values ≡ canonicalFrom 0 (columnCells schema (tableIn row)) row
+    values-are : values ≡ canonicalFrom 0 (columnsAt schema (tableIn row)) row
     unfolding rowFrom tableIn
     values-are =
         (λ j. valuesPass canonicalFor (columns-in schema (tableIn row) here j) (columnsFrom (count j) (drop 17 (getD row 0 [])) (drop 1 row)))
-        ∙ values-from (columnCells schema (tableIn row)) 0 row
+        ∙ values-from (columnsAt schema (tableIn row)) 0 row
 
-    pub not-tidy : tidyFrom (length (columnCells schema (tableIn row))) row ≡ false → rowGood schema row ≡ false
+    pub not-tidy : tidyFrom (length (columnsAt schema (tableIn row))) row ≡ false → rowGood schema row ≡ false
     not-tidy h =
         good-is
         ∙ ap (λ (b : Bool). ((ltb (tableIn row) (getD (getD schema 0 []) 25 0) && id-test) && values) && b) (ap (λ (k : ℕ). tidyFrom k row) count ∙ h)
         ∙ and-false ((ltb (tableIn row) (getD (getD schema 0 []) 25 0) && id-test) && values)
 
-    pub all-good : id-test ≡ true → tidyFrom (length (columnCells schema (tableIn row))) row ≡ true → rowGood schema row ≡ canonicalFrom 0 (columnCells schema (tableIn row)) row
+    pub all-good : id-test ≡ true → tidyFrom (length (columnsAt schema (tableIn row))) row ≡ true → rowGood schema row ≡ canonicalFrom 0 (columnsAt schema (tableIn row)) row
     all-good h g =
         good-is
         ∙ (λ j. ((lt-ltb (tableIn row) (getD (getD schema 0 []) 25 0) here j && h j) && values-are j) && (ap (λ (k : ℕ). tidyFrom k row) count ∙ g) j)
-        ∙ and-true (canonicalFrom 0 (columnCells schema (tableIn row)) row)
+        ∙ and-true (canonicalFrom 0 (columnsAt schema (tableIn row)) row)
 
 -- the loop over the columns
 module _ (cells : List (List ℕ)) (row : List (List ℕ)) (c : ℕ) where
@@ -154,6 +156,10 @@ module _ (schema : List (List ℕ)) (n : ℕ) (rows : List (List (List ℕ))) wh
   unfolding rowsGood
   rows-all h g = λ j. h j && (g j && apart)
 
+  pub rows-ordered : n ≤ length rows → rowsGood schema n rows ≡ true → Ordered n rows
+  unfolding rowsGood
+  rows-ordered h g = sorted-ordered (packedTables schema) n rows h (ascends-sorted (working (packedTables schema) n rows) (and-l in-order apart (and-r each (in-order && apart) g)))
+
 -- only the first n rows matter
 pub rows-same : (schema : List (List ℕ)) (n : ℕ) (x y : List (List (List ℕ))) → take n x ≡ y → length y ≡ n → rowsGood schema n x ≡ rowsGood schema n y
 unfolding rowsGood working
@@ -179,4 +185,4 @@ module _ (schema : List (List ℕ)) (a : List ℕ) where
   part-rows g z = λ j. le-leb (rowCount a) 32 g j && (z j && rows-test)
 
   pub judged-no : (cells : List (List (List ℕ))) → partGood schema a ≡ false → Judged a schema cells false
-  judged-no cells e = record { good = sym e; rows = λ q. absurd (clash false q refl) }
+  judged-no cells e = record { good = sym e; rows = λ q. absurd (clash false q refl); ordered = λ q. absurd (clash false q refl) }

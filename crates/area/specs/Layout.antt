@@ -13,12 +13,19 @@ use Rattle.model.specs.Catalog.{columnFrom, packedTables}
 use Rattle.model.specs.Value.{zeros, canonicalFor}
 use Rattle.model.specs.Records.{cut}
 use Rattle.model.specs.Areas.{rowFrom, rowPasses, ascends, distinctIds}
-use Rattle.inner.specs.Working.{working, tableIn, valueIn}
+use Rattle.inner.specs.Working.{working, tableIn, valueIn, Ordered}
 
 -- n rows, one after another
 abbrev pub rowsIn : ℕ → List ℕ → List (List (List ℕ))
 rowsIn zero b = []
 rowsIn (suc n) b = cut rowCellCount b ∷ rowsIn n (drop rowBytes b)
+
+-- row i of an area, and its first n rows
+unfoldable pub rowAt : List ℕ → ℕ → List (List ℕ)
+rowAt a i = cut rowCellCount (drop (rowsOffset + rowBytes * i) a)
+
+abbrev pub rowsAt : ℕ → List ℕ → List (List (List ℕ))
+rowsAt n a = rowsIn n (drop rowsOffset a)
 
 -- the bytes of rows in cells
 abbrev pub bytesOf : List (List (List ℕ)) → List ℕ
@@ -59,8 +66,9 @@ restZero a = zeros (part (rowsOffset + rowBytes * rowCount a) (rowBytes * (mostR
 
 -- its rows are in good order, by its catalog
 unfoldable pub partGood : List (List ℕ) → List ℕ → Bool
-partGood schema a = leb (rowCount a) mostRows && (restZero a && rowsGood schema (rowCount a) (rowsIn (rowCount a) (drop rowsOffset a)))
+partGood schema a = leb (rowCount a) mostRows && (restZero a && rowsGood schema (rowCount a) (rowsAt (rowCount a) a))
 
 pub record Judged (a : List ℕ) (schema : List (List ℕ)) (cells : List (List (List ℕ))) (r : Bool) : Type 0 where
   pub good : r ≡ partGood schema a
-  pub rows : r ≡ true → take (rowCount a) cells ≡ rowsIn (rowCount a) (drop rowsOffset a)
+  pub rows : r ≡ true → take (rowCount a) cells ≡ rowsAt (rowCount a) a
+  pub ordered : r ≡ true → Ordered (rowCount a) cells

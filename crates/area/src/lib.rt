@@ -1,6 +1,7 @@
 // The areas of a store and a mirror: rows read and written, and what an area leaves unused.
 use model::ATOM;
 use model::Atom;
+use model::Atoms;
 use model::CATALOG_OFFSET;
 use model::CELLS;
 use model::COUNT_OFFSET;
@@ -27,17 +28,18 @@ ghost use mathlib.Core.List.{List, [], _∷_, _++_};
 ghost use Prim.Native.Nat.{ℕ, _+_, _*_, _-_, _≤_, _<_};
 ghost use lib.ListN.{length, take, drop, getD, replicate};
 ghost use Rattle.model.specs.Octets.{big, value, part};
-ghost use Rattle.model.specs.Limits.{mostColumns, mostRows, atomBytes, numberBytes, rowCellCount, rowBytes, entryBytes, entryCount, catalogBytes, runOffset, numberOffset, countOffset, rowsOffset, storeBytes, topOffset, mirrorBytes};
+ghost use Rattle.model.specs.Limits.{mostColumns, mostElements, mostRows, atomBytes, numberBytes, rowCellCount, rowBytes, entryBytes, entryCount, catalogBytes, runOffset, numberOffset, countOffset, rowsOffset, storeBytes, topOffset, mirrorBytes};
 ghost use Rattle.model.specs.Base.{all, flat};
 ghost use Rattle.model.specs.Schema.{Schema, Database};
 ghost use Rattle.model.specs.Rows.{hasId};
-ghost use Rattle.model.specs.Value.{zeros, canonicalFor};
+ghost use Rattle.model.specs.Value.{zeros, canonicalFor, sameValue};
 ghost use Rattle.model.specs.Records.{cut};
 ghost use Rattle.model.specs.Catalog.{columnFrom, catalogOf};
 ghost use Rattle.model.specs.Areas.{ascends, distinctIds, encodeStore, entriesIn};
 ghost use Rattle.inner.specs.Working.{working, idIn, valueIn, Tidy};
 ghost use Rattle.catalog.specs.Accepted.{Accepted};
-ghost use Rattle.area.specs.Layout.{rowsIn, Rows, tidyFrom, canonicalFrom, rowGood, rowsGood, Judged};
+ghost use Rattle.rows.specs.Post.{KeyBytes};
+ghost use Rattle.area.specs.Layout.{rowsIn, rowAt, Rows, tidyFrom, canonicalFrom, rowGood, rowsGood, Judged};
 ghost use Rattle.area.specs.Writing.{tailGood, tailBytes, placed, rowsPart, storeIn};
 
 // A cell in an area.
@@ -80,6 +82,41 @@ pub fn read_rows(area: &[u8], at: usize, rows: &mut [Row], n: usize)
         rows[i] = row;
         i += 1;
     }
+}
+
+// The table and the id of row i of an area, lent.
+pub fn key_at<'a>(area: &'a [u8], i: usize) -> &'a [u8]
+    requires { ⌜ (storeBytes ≤ length (now area)) × (i < mostRows) ⌝ }
+    ensures { λ r. ⌜ KeyBytes (now r) (rowAt (now (area .entry)) i) ⌝ }
+{
+    let at = ROWS_OFFSET + ROW_BYTES * i;
+    &area[at..at + COUNTS_OFFSET]
+}
+
+// The atoms of a column in an area.
+fn atoms_at(area: &[u8], at: usize) -> Atoms
+    requires { ⌜ at + atomBytes * mostElements ≤ length (now area) ⌝ }
+    ensures { λ r. ⌜ r ≡ cut mostElements (drop at (now (area .entry))) ⌝ }
+{
+    [
+        cell_at(area, at),
+        cell_at(area, at + ATOM),
+        cell_at(area, at + 2 * ATOM),
+        cell_at(area, at + 3 * ATOM),
+    ]
+}
+
+// Whether column c of row i of an area is that of another row.
+pub fn same_column(area: &[u8], i: usize, row: &Row, c: usize) -> bool
+    requires { ⌜ (storeBytes ≤ length (now area)) × (i < mostRows) × (c < mostColumns) ⌝ }
+    ensures { λ r. ⌜ r ≡ sameValue (valueIn c (rowAt (now (area .entry)) i)) (valueIn c (now (row .entry))) ⌝ }
+{
+    let at = ROWS_OFFSET + ROW_BYTES * i;
+    if area[at + COUNTS_OFFSET + c] != rows::count_of(row, c) {
+        return false;
+    }
+    let atoms = atoms_at(area, at + ATOM * (1 + ELEMENTS * c));
+    value::equal(&atoms[..], rows::atoms_in(row, c))
 }
 
 // A row written to the front of a buffer.

@@ -20,7 +20,7 @@ use Rattle.model.specs.Rows.{keyOf, has, hasId}
 use Rattle.inner.specs.Working.{working}
 use Rattle.inner.proofs.Working.{working-length}
 use Rattle.model.specs.Limits.{mostTables, mostColumns, entryCount}
-use Rattle.model.specs.Catalog.{columnFrom, tableFrom, tablesFrom, packedTables, tableCount, columnCount, columnCell}
+use Rattle.model.specs.Catalog.{columnFrom, tableFrom, tablesFrom, packedTables, tableCount, columnCount, columnPlace}
 use Rattle.model.proofs.Tests.{and-l, and-r}
 use Rattle.record.specs.Reading.{idIn, atomsIn, arrivalRecord, columnCounts, canonicalIn, knownIn, listedIn, listedRecord}
 use Rattle.record.specs.declared.Born as record-born
@@ -30,13 +30,13 @@ use Rattle.record.specs.declared.Arrival.{Arrival}
 use Rattle.record.specs.declared.Arrival.the-variants as arrival
 use Rattle.record.proofs.Listings.{known-table}
 use Rattle.record.proofs.Soundness.{sound-listed, allows-at}
-use Rattle.catalog.specs.Entries.{columnCells}
+use Rattle.catalog.specs.Entries.{columnsAt}
 use Rattle.area.proofs.Schemas.{tables-count, columns-in}
 use Rattle.arrival.specs.Steps.{canonicalRecord, soundRecord, fitsRecord}
 
 -- ── the schema's cells ──
 -- a table's columns lie in whole in the cells
-pub cells-length : (cells : List (List ℕ)) (t : ℕ) → length cells ≡ entryCount → t < mostTables → columnCount cells t ≤ mostColumns → length (columnCells cells t) ≡ columnCount cells t
+pub cells-length : (cells : List (List ℕ)) (t : ℕ) → length cells ≡ entryCount → t < mostTables → columnCount cells t ≤ mostColumns → length (columnsAt cells t) ≡ columnCount cells t
 cells-length cells t e h l = length-take-le (columnCount cells t) (drop (5 + 6 * t) cells) (omega (arith, length-drop (5 + 6 * t) cells))
 
 module _ (cells : List (List ℕ)) (held : Accepted cells) where
@@ -52,15 +52,15 @@ module _ (cells : List (List ℕ)) (held : Accepted cells) where
   pub columns-count : (t : ℕ) → t < tables → length (columnsOf s t) ≡ columns t
   columns-count t h =
       let f = few-tables _ (held) in
-      ap length (columns-in cells t h) ∙ length-map (columnCells cells t) columnFrom ∙ cells-length cells t (held .size) (omega arith) (few-columns _ (held) t (omega arith))
+      ap length (columns-in cells t h) ∙ length-map (columnsAt cells t) columnFrom ∙ cells-length cells t (held .size) (omega arith) (few-columns _ (held) t (omega arith))
 
   -- column c of table t is in its entry
-  pub column-in : (t c : ℕ) → t < tables → c < columns t → nth (columnsOf s t) c ≡ some (columnFrom (getD cells (columnCell t c) []))
+  pub column-in : (t c : ℕ) → t < tables → c < columns t → nth (columnsOf s t) c ≡ some (columnFrom (getD cells (columnPlace t c) []))
   column-in t c h g =
       let f = few-tables _ (held) in
       let l = cells-length cells t (held .size) (omega arith) (few-columns _ (held) t (omega arith)) in
       ap (λ (x : List Column). nth x c) (columns-in cells t h)
-      ∙ nth-map (columnCells cells t) c (omega arith)
+      ∙ nth-map (columnsAt cells t) c (omega arith)
       ∙ ap (λ (x : List ℕ). some (columnFrom x)) (getD-take (columns t) (drop (5 + 6 * t) cells) c [] g ∙ getD-drop (5 + 6 * t) cells c [])
     where
       nth-map : (l : List (List ℕ)) (c : ℕ) → c < length l → nth (map columnFrom l) c ≡ some (columnFrom (getD l c []))
@@ -110,9 +110,9 @@ module _ (cells : List (List ℕ)) (held : Accepted cells) where
         let t : r .table < mostTables = omega (arith, listed-table, few-tables _ (held)) in
         (t, omega (arith, listed-column, few-columns _ (held) (r .table) t))
 
-    pub canonical-column : canonicalFor (columnFrom (getD cells (columnCell (r .table) (r .column)) [])) (record { count = r .count; atoms = atomsIn bytes }) ≡ canonicalRecord s (arrivalRecord a bytes)
+    pub canonical-column : canonicalFor (columnFrom (getD cells (columnPlace (r .table) (r .column)) [])) (record { count = r .count; atoms = atomsIn bytes }) ≡ canonicalRecord s (arrivalRecord a bytes)
     unfolding arrivalRecord canonicalRecord canonicalIn
-    canonical-column = rw e (sym (allows-at (columnsOf s (r .table)) (r .column) (record { count = r .count; atoms = atomsIn bytes }) (columnFrom (getD cells (columnCell (r .table) (r .column)) [])) (column-in (r .table) (r .column) listed-table listed-column)))
+    canonical-column = rw e (sym (allows-at (columnsOf s (r .table)) (r .column) (record { count = r .count; atoms = atomsIn bytes }) (columnFrom (getD cells (columnPlace (r .table) (r .column)) [])) (column-in (r .table) (r .column) listed-table listed-column)))
 
 -- ── what makes a record sound ──
 module _ (s : Schema) where

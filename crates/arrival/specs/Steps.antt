@@ -14,7 +14,7 @@ use Rattle.model.specs.Mirror.{Mirror, Step, bad, step, level, valueAnswer, col
 use Rattle.model.specs.Areas.{rowFrom}
 use Rattle.model.proofs.Order.{Good}
 use Rattle.model.specs.Catalog.{packedTables}
-use Rattle.inner.specs.Working.{working, Tidy}
+use Rattle.inner.specs.Working.{working, Tidy, Ordered}
 use Rattle.record.specs.Reading.{canonicalIn}
 use Rattle.arrival.specs.declared.Head.{Head}
 use Rattle.arrival.specs.declared.Numbers.{Numbers}
@@ -83,10 +83,11 @@ unfoldable pub columnOf : List Row → ℕ → ℕ → ℕ → List ℕ
 columnOf rows t i c = columnAnswer (record { rows = rows; n = 0; top = 0; heard = false; whole = false }) t i c
 
 -- ── what the code needs and leaves ──
--- "rows in all tables together | 32"
+-- "rows in all tables together | 32", in order
 pub record Ready (count : ℕ) (cells : List (List (List ℕ))) : Type 0 where
   pub few : count ≤ mostRows
   pub room : mostRows ≤ length cells
+  pub ordered : Ordered count cells
 
 -- a record that is neither unsound nor unfit
 pub record Welcome (s : Schema) (rows : List Row) (o : Option Record) : Type 0 where

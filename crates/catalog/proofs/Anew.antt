@@ -13,7 +13,7 @@ use Rattle.model.specs.Base.{all, isSome, flat}
 use Rattle.model.specs.Limits.{mostTables, mostColumns, mostIndexColumns, mostTextBytes, entryCount, entryBytes}
 use Rattle.model.specs.Schema.{Column, Table, Database}
 use Rattle.model.specs.SchemaText.{isId}
-use Rattle.model.specs.Catalog.{tableCount, columnCount, columnCell, cellName, isSet, columnFrom, indexesFrom, maxRowsFrom, tableFrom, tablesFrom, databaseFrom, nameBytes, bit, columnEntry, indexBytes, numberOr0, tableEntry, databaseEntry, blankEntry, inRoom, columnEntries, catalogOf}
+use Rattle.model.specs.Catalog.{tableCount, columnCount, columnPlace, entryName, isSet, columnFrom, indexesFrom, maxRowsFrom, tableFrom, tablesFrom, databaseFrom, nameBytes, bit, columnEntry, indexBytes, numberOr0, tableEntry, databaseEntry, blankEntry, inRoom, columnEntries, catalogOf}
 use Rattle.model.specs.Sane.{columnSane, saneColumn, indexSane, saneIndex, tableSane, saneTable, databaseSane, sane}
 use Rattle.model.proofs.Tests.{and-l, and-r, parts}
 use Rattle.model.proofs.Lists.{all-at}
@@ -140,8 +140,8 @@ module _ (cells : List (List ℕ)) (size : length cells ≡ entryCount) (h : san
   width-is : (t : ℕ) → t < n → length (tableFrom cells t .columns) ≡ columnCount cells t
   unfolding tableFrom
   width-is t l =
-      length-map (take (columnCount cells t) (drop (columnCell t 0) cells)) columnFrom
-      ∙ length-take-le (columnCount cells t) (drop (columnCell t 0) cells) (omega (arith, length-drop (columnCell t 0) cells, wide t (omega (arith, few)), few))
+      length-map (take (columnCount cells t) (drop (columnPlace t 0) cells)) columnFrom
+      ∙ length-take-le (columnCount cells t) (drop (columnPlace t 0) cells) (omega (arith, length-drop (columnPlace t 0) cells, wide t (omega (arith, few)), few))
 
   narrow : Narrow cells 0 n
   unfolding Narrow
@@ -150,7 +150,7 @@ module _ (cells : List (List ℕ)) (size : length cells ≡ entryCount) (h : san
   -- the database's entry
   pub database-anew : getD (catalogOf d) 0 [] ≡ databaseTidied (getD cells 0 [])
   unfolding catalogOf databaseTidied
-  database-anew = ap (λ (k : ℕ). nameBytes (cellName (getD cells 0 [])) ++ k ∷ replicate 22 0) count
+  database-anew = ap (λ (k : ℕ). nameBytes (entryName (getD cells 0 [])) ++ k ∷ replicate 22 0) count
 
   -- a table's
   abbrev heads : List (List ℕ)
@@ -169,7 +169,7 @@ module _ (cells : List (List ℕ)) (size : length cells ≡ entryCount) (h : san
       let e = getD cells (1 + t) [] in
       ap
       (λ (k : ℕ).
-      nameBytes (cellName e)
+      nameBytes (entryName e)
       ++ (k ∷ bit (isSet e 26) ∷ bit (isSome (maxRowsFrom e)) ∷ big 8 (numberOr0 (maxRowsFrom e))
       ++ (length (indexesFrom e) ∷ (flat (map indexBytes (indexesFrom e)) ++ replicate (4 * (2 - length (indexesFrom e))) 0) ++ replicate 3 0)))
       (width-is t l)
@@ -200,15 +200,15 @@ module _ (cells : List (List ℕ)) (size : length cells ≡ entryCount) (h : san
         ∙ ap (λ (i : ℕ). getD (inRoom 6 (map columnEntry (tableFrom cells i .columns))) c []) e
 
     abbrev entries : List (List ℕ)
-    entries = take (columnCount cells t) (drop (columnCell t 0) cells)
+    entries = take (columnCount cells t) (drop (columnPlace t 0) cells)
 
     entries-size : length entries ≡ columnCount cells t
-    entries-size = length-take-le (columnCount cells t) (drop (columnCell t 0) cells) (omega (arith, length-drop (columnCell t 0) cells, wide t (omega (arith, few)), few))
+    entries-size = length-take-le (columnCount cells t) (drop (columnPlace t 0) cells) (omega (arith, length-drop (columnPlace t 0) cells, wide t (omega (arith, few)), few))
 
     column-here : c < columnCount cells t → getD entries c [] ≡ getD cells (5 + 6 * t + c) []
     column-here k =
-        let a : columnCell t 0 + c ≡ 5 + 6 * t + c = omega arith in
-        getD-take (columnCount cells t) (drop (columnCell t 0) cells) c [] k ∙ getD-drop (columnCell t 0) cells c [] ∙ ap (λ (i : ℕ). getD cells i []) a
+        let a : columnPlace t 0 + c ≡ 5 + 6 * t + c = omega arith in
+        getD-take (columnCount cells t) (drop (columnPlace t 0) cells) c [] k ∙ getD-drop (columnPlace t 0) cells c [] ∙ ap (λ (i : ℕ). getD cells i []) a
 
     column-is : c < columnCount cells t → getD (tableFrom cells t .columns) c (columnFrom []) ≡ columnFrom (getD cells (5 + 6 * t + c) [])
     unfolding tableFrom
@@ -226,25 +226,25 @@ module _ (cells : List (List ℕ)) (size : length cells ≡ entryCount) (h : san
     column-blank k = here ∙ room-out columnEntry (columnFrom []) (tableFrom cells t .columns) 6 c (omega (arith, width-is t l)) g
 
     -- its name has its place
-    pub column-short : c < columnCount cells t → length (cellName (getD cells (5 + 6 * t + c) [])) ≤ 24
+    pub column-short : c < columnCount cells t → length (entryName (getD cells (5 + 6 * t + c) [])) ≤ 24
     unfolding saneTable saneColumn
     column-short k =
         let s = parts (tableSane (length (d .tables)) (tableFrom cells t)) (every-table t l) .1 .1 .0 in
         let q = all-at (saneColumn (length (d .tables))) (tableFrom cells t .columns) c (columnFrom []) s (omega (arith, width-is t l)) in
         let r : saneColumn (length (d .tables)) (columnFrom (getD cells (5 + 6 * t + c) [])) ≡ true = subst (λ (x : Column). saneColumn (length (d .tables)) x ≡ true) (column-is k) q in
-        id-short (cellName (getD cells (5 + 6 * t + c) [])) (parts (columnSane (length (d .tables)) (columnFrom (getD cells (5 + 6 * t + c) []))) r .0)
+        id-short (entryName (getD cells (5 + 6 * t + c) [])) (parts (columnSane (length (d .tables)) (columnFrom (getD cells (5 + 6 * t + c) []))) r .0)
 
   pub column-none : (t c : ℕ) → n ≤ t → t < 4 → c < 6 → getD (catalogOf d) (5 + 6 * t + c) [] ≡ blankEntry
   column-none t c l k g = column-place t c k g ∙ columns-none cells 4 0 n t c narrow k l g
 
-  pub database-short : length (cellName (getD cells 0 [])) ≤ 24
+  pub database-short : length (entryName (getD cells 0 [])) ≤ 24
   unfolding sane
-  database-short = id-short (cellName (getD cells 0 [])) (parts (databaseSane d) h .0)
+  database-short = id-short (entryName (getD cells 0 [])) (parts (databaseSane d) h .0)
 
   module _ (t : ℕ) (l : t < n) where
-    pub table-short : length (cellName (getD cells (1 + t) [])) ≤ 24
+    pub table-short : length (entryName (getD cells (1 + t) [])) ≤ 24
     unfolding saneTable tableFrom
-    table-short = id-short (cellName (getD cells (1 + t) [])) (parts (tableSane (length (d .tables)) (tableFrom cells t)) (every-table t l) .0)
+    table-short = id-short (entryName (getD cells (1 + t) [])) (parts (tableSane (length (d .tables)) (tableFrom cells t)) (every-table t l) .0)
 
     few-in : (k : ℕ) (ls : List (List ℕ)) → all (saneIndex k) ls ≡ true → all (λ (x : List ℕ). leb (length x) mostIndexColumns) ls ≡ true
     unfolding saneIndex
@@ -256,5 +256,5 @@ module _ (cells : List (List ℕ)) (size : length cells ≡ entryCount) (h : san
     table-indexes = few-in (length (tableFrom cells t .columns)) (indexesFrom (getD cells (1 + t) [])) (parts (tableSane (length (d .tables)) (tableFrom cells t)) (every-table t l) .1 .1 .1 .1 .0)
 
 -- the length byte of a name that has its place
-pub name-bound : (e : List ℕ) → length e ≡ entryBytes → length (cellName e) ≤ 24 → getD e 0 0 ≤ 24
+pub name-bound : (e : List ℕ) → length e ≡ entryBytes → length (entryName e) ≤ 24 → getD e 0 0 ≤ 24
 name-bound e s h = omega (arith, length-take (getD e 0 0) (drop 1 e), length-drop 1 e)

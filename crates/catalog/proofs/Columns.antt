@@ -15,7 +15,7 @@ use Rattle.model.specs.Schema.{Base, integer, boolean, text, uuid, Refers, plai
 use Rattle.model.specs.SchemaText.{isId, baseNumber, least, greatest}
 use Rattle.model.specs.Value.{fromTwos}
 use Rattle.model.specs.Sane.{refersBelow, refersAs, limitsAs, columnSane, saneColumn}
-use Rattle.model.specs.Catalog.{baseNumbered, refersFrom, howRefers, target, bit, cellName, nameBytes, columnFrom, columnEntry}
+use Rattle.model.specs.Catalog.{baseNumbered, refersFrom, howRefers, target, bit, entryName, nameBytes, columnFrom, columnEntry}
 use Rattle.model.proofs.Tests.{and-l, and-r, parts, whole, bytes-same, bytes-self, clash, split}
 use Rattle.model.proofs.Lists.{all-take, all-drop}
 use Rattle.model.proofs.Octets.{octet, big-value, part-lt}
@@ -199,11 +199,11 @@ module _ (e : List ℕ) (size : length e ≡ 48) where
           let c = columnFrom e in
           let p = parts (columnSane n c) (and-l (saneColumn n c) _ h) in
           let same : columnEntry c ≡ e = bytes-same (columnEntry c) e (and-r (saneColumn n c) _ h) in
-          let short = id-short (cellName e) (p .0) in
+          let short = id-short (entryName e) (p .0) in
           let rest : List ℕ = baseNumber (baseNumbered k) ∷ howRefers (refersFrom (getD e 26 0) (getD e 27 0)) ∷ target (refersFrom (getD e 26 0) (getD e 27 0)) ∷ getD e 28 0 ∷ getD e 29 0 ∷ bit (eqb (getD e 30 0) 1) ∷ big 8 (twos 64 (fromTwos low)) ++ (big 8 (twos 64 (fromTwos high)) ++ 0 ∷ []) in
-          let b : (i : ℕ) → getD rest i 0 ≡ getD e (25 + i) 0 = (λ i. sym (byte-past (cellName e) short rest i) ∙ ap (λ (l : List ℕ). getD l (25 + i) 0) same) in
+          let b : (i : ℕ) → getD rest i 0 ≡ getD e (25 + i) 0 = (λ i. sym (byte-past (entryName e) short rest i) ∙ ap (λ (l : List ℕ). getD l (25 + i) 0) same) in
           let kl : k ≤ 3 = omega (arith, base-few (baseNumbered k), b 0) in
-          let nm = name-from e size (p .0) (sym (take-at (nameBytes (cellName e)) rest 25 (name-length (cellName e) short)) ∙ ap (take 25) same) in
+          let nm = name-from e size (p .0) (sym (take-at (nameBytes (entryName e)) rest 25 (name-length (entryName e) short)) ∙ ap (take 25) same) in
           let rf = refers-from n k (getD e 26 0) (getD e 27 0) kl (record { how-is = b 1; target-is = b 2; below = p .1 .1 .1 .1 .1 .1 .0; as-is = p .1 .1 .1 .1 .1 .1 .1 .0 }) in
           let mu = le-leb (getD e 30 0) 1 (omega (arith, bit-few (eqb (getD e 30 0) 1), b 5)) in
           let z = eq-eqb (getD e 47 0) 0 (sym (b 22)) in

@@ -8,29 +8,29 @@ use lib.ListN.{length, getD, take, drop, drop-of-length-le, length-drop}
 use lib.Seq.{take-all}
 use Rattle.model.specs.Octets.{eqBytes}
 use Rattle.model.specs.Base.{member, distinct}
-use Rattle.model.specs.Catalog.{cellName}
+use Rattle.model.specs.Catalog.{entryName}
 use Rattle.catalog.proofs.Ids.{next}
 
 module _ (cells : List (List ℕ)) (i : ℕ) where
   module _ (w : List ℕ) where
-    pub among-here : i < length cells → eqBytes w (cellName (getD cells i [])) ≡ true → member w (map cellName (drop i cells)) ≡ true
+    pub among-here : i < length cells → eqBytes w (entryName (getD cells i [])) ≡ true → member w (map entryName (drop i cells)) ≡ true
     among-here h e = rw (next [] cells i h, e)
 
-    pub among-next : i < length cells → eqBytes w (cellName (getD cells i [])) ≡ false → member w (map cellName (drop i cells)) ≡ member w (map cellName (drop (i + 1) cells))
+    pub among-next : i < length cells → eqBytes w (entryName (getD cells i [])) ≡ false → member w (map entryName (drop i cells)) ≡ member w (map entryName (drop (i + 1) cells))
     among-next h e = rw (next [] cells i h, e)
 
-    pub among-end : length cells ≤ i → member w (map cellName (drop i cells)) ≡ false
+    pub among-end : length cells ≤ i → member w (map entryName (drop i cells)) ≡ false
     among-end h = rw (drop-of-length-le cells h)
 
-  pub distinct-not : i < length cells → member (cellName (getD cells i [])) (map cellName (drop (i + 1) cells)) ≡ true → distinct (map cellName (drop i cells)) ≡ false
+  pub distinct-not : i < length cells → member (entryName (getD cells i [])) (map entryName (drop (i + 1) cells)) ≡ true → distinct (map entryName (drop i cells)) ≡ false
   distinct-not h e = rw (next [] cells i h, e)
 
-  pub distinct-next : i < length cells → member (cellName (getD cells i [])) (map cellName (drop (i + 1) cells)) ≡ false → distinct (map cellName (drop i cells)) ≡ distinct (map cellName (drop (i + 1) cells))
+  pub distinct-next : i < length cells → member (entryName (getD cells i [])) (map entryName (drop (i + 1) cells)) ≡ false → distinct (map entryName (drop i cells)) ≡ distinct (map entryName (drop (i + 1) cells))
   distinct-next h e = rw (next [] cells i h, e)
 
-  pub distinct-end : length cells ≤ i → distinct (map cellName (drop i cells)) ≡ true
+  pub distinct-end : length cells ≤ i → distinct (map entryName (drop i cells)) ≡ true
   distinct-end h = rw (drop-of-length-le cells h)
 
   -- as the code asks it
-  pub among-rest : (w : List ℕ) → w ≡ cellName (getD cells i []) → member w (map cellName (take (length cells - (i + 1)) (drop (i + 1) cells))) ≡ member (cellName (getD cells i [])) (map cellName (drop (i + 1) cells))
+  pub among-rest : (w : List ℕ) → w ≡ entryName (getD cells i []) → member w (map entryName (take (length cells - (i + 1)) (drop (i + 1) cells))) ≡ member (entryName (getD cells i [])) (map entryName (drop (i + 1) cells))
   among-rest w e = rw (e, take-all (length cells - (i + 1)) (drop (i + 1) cells) (omega (arith, length-drop (i + 1) cells)))

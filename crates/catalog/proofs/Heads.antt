@@ -13,7 +13,7 @@ use Rattle.model.specs.Octets.{big, value, part, eqBytes}
 use Rattle.model.specs.Base.{all, every, isSome, flat}
 use Rattle.model.specs.SchemaText.{isId}
 use Rattle.model.specs.Sane.{maxRowsSane, indexSane, saneIndex}
-use Rattle.model.specs.Catalog.{cellName, nameBytes, bit, numberOr0, indexBytes, indexFrom, indexesFrom, maxRowsFrom}
+use Rattle.model.specs.Catalog.{entryName, nameBytes, bit, numberOr0, indexBytes, indexFrom, indexesFrom, maxRowsFrom}
 use Rattle.model.proofs.Tests.{and-l, and-r, parts, whole, bytes-same, clash}
 use Rattle.model.proofs.Octets.{octet, value-big-fits}
 use Rattle.model.proofs.Catalogs.{id-short, name-length, byte-past, drop-past}
@@ -245,12 +245,12 @@ module _ (e : List ℕ) (size : length e ≡ 48) where
         let k = getD e 36 0 in
         let v = value (part 28 8 e) in
         let p = parts (headTests e) h in
-        let short = id-short (cellName e) (p .0) in
+        let short = id-short (entryName e) (p .0) in
         let same : headBytes e ≡ e = bytes-same (headBytes e) e (p .1 .1 .1 .1 .1 .0) in
         let rest : List ℕ = w ∷ bit (eqb (getD e 26 0) 1) ∷ bit (isSome (maxRowsFrom e)) ∷ big 8 (numberOr0 (maxRowsFrom e)) ++ (length (indexesFrom e) ∷ slots (indexesFrom e) ++ (0 ∷ 0 ∷ 0 ∷ [])) in
-        let b : (i : ℕ) → getD rest i 0 ≡ getD e (25 + i) 0 = (λ i. sym (byte-past (cellName e) short rest i) ∙ ap (λ (l : List ℕ). getD l (25 + i) 0) same) in
-        let d : (i : ℕ) → drop i rest ≡ drop (25 + i) e = (λ i. sym (drop-past (nameBytes (cellName e)) rest 25 i (name-length (cellName e) short)) ∙ ap (drop (25 + i)) same) in
-        let nm = name-from e size (p .0) (sym (take-at (nameBytes (cellName e)) rest 25 (name-length (cellName e) short)) ∙ ap (take 25) same) in
+        let b : (i : ℕ) → getD rest i 0 ≡ getD e (25 + i) 0 = (λ i. sym (byte-past (entryName e) short rest i) ∙ ap (λ (l : List ℕ). getD l (25 + i) 0) same) in
+        let d : (i : ℕ) → drop i rest ≡ drop (25 + i) e = (λ i. sym (drop-past (nameBytes (entryName e)) rest 25 i (name-length (entryName e) short)) ∙ ap (drop (25 + i)) same) in
+        let nm = name-from e size (p .0) (sym (take-at (nameBytes (entryName e)) rest 25 (name-length (entryName e) short)) ∙ ap (take 25) same) in
         let root = le-leb (getD e 26 0) 1 (omega (arith, bit-few (eqb (getD e 26 0) 1), b 1)) in
         let v8 : big 8 (numberOr0 (maxRowsFrom e)) ≡ part 28 8 e = ap (take 8) (d 3) in
         let kl : k ≤ 2 = omega (arith, leb-true (length (indexesFrom e)) 2 (p .1 .1 .0), b 11) in
@@ -274,7 +274,7 @@ module _ (e : List ℕ) (size : length e ≡ 48) where
       let h1 = and-r (nameFine e) _ h in
       let nm = name-to e size (and-l (nameFine e) _ h) in
       let z : drop 26 e ≡ replicate 22 0 = zeros-are (drop 26 e) (and-r (leb n 4) _ h1) ∙ (let l : length (drop 26 e) ≡ 22 = omega (arith, length-drop 26 e) in ap (λ (m : ℕ). replicate m 0) l) in
-      let same : nameBytes (cellName e) ++ n ∷ replicate 22 0 ≡ e =
+      let same : nameBytes (entryName e) ++ n ∷ replicate 22 0 ≡ e =
       (λ j. nm .1 j ++ n ∷ sym z j) ∙ ap (λ (l : List ℕ). take 25 e ++ l) (sym (one-more e size 25 (omega arith))) ∙ take-append-drop 25 e in
       whole (databaseTests e) (nm .0, (and-l (leb n 4) _ h1, (same-bytes same, tt)))
 
@@ -284,10 +284,10 @@ module _ (e : List ℕ) (size : length e ≡ 48) where
       let n = getD e 25 0 in
       let p = parts (databaseTests e) h in
       let rest : List ℕ = n ∷ replicate 22 0 in
-      let short = id-short (cellName e) (p .0) in
-      let same : nameBytes (cellName e) ++ rest ≡ e = bytes-same (nameBytes (cellName e) ++ rest) e (p .1 .1 .0) in
-      let nm = name-from e size (p .0) (sym (take-at (nameBytes (cellName e)) rest 25 (name-length (cellName e) short)) ∙ ap (take 25) same) in
-      let z : replicate 22 0 ≡ drop 26 e = sym (drop-past (nameBytes (cellName e)) rest 25 1 (name-length (cellName e) short)) ∙ ap (drop 26) same in
+      let short = id-short (entryName e) (p .0) in
+      let same : nameBytes (entryName e) ++ rest ≡ e = bytes-same (nameBytes (entryName e) ++ rest) e (p .1 .1 .0) in
+      let nm = name-from e size (p .0) (sym (take-at (nameBytes (entryName e)) rest 25 (name-length (entryName e) short)) ∙ ap (take 25) same) in
+      let z : replicate 22 0 ≡ drop 26 e = sym (drop-past (nameBytes (entryName e)) rest 25 1 (name-length (entryName e) short)) ∙ ap (drop 26) same in
       rw (nm, p .1 .0) (ap (all isZero) (sym z) ∙ zeros-all 22)
 
   pub database-is : databaseTest e ≡ isDatabase e

@@ -13,7 +13,7 @@ use Rattle.model.specs.Base.{all, distinct, eqLists, isSome, flat}
 use Rattle.model.specs.Schema.{Column, Table, Database}
 use Rattle.model.specs.SchemaText.{isId}
 use Rattle.model.specs.Sane.{maxRowsSane, saneColumn, saneIndex, tableSane, saneTable, databaseSane, sane}
-use Rattle.model.specs.Catalog.{columnCell, tableCount, columnCount, cellName, columnFrom, indexBytes, numberOr0, indexesFrom, maxRowsFrom, nameBytes, bit, isSet, tableFrom, tablesFrom, databaseFrom, columnEntry, tableEntry, databaseEntry, blankEntry, inRoom, columnEntries, catalogOf}
+use Rattle.model.specs.Catalog.{columnPlace, tableCount, columnCount, entryName, columnFrom, indexBytes, numberOr0, indexesFrom, maxRowsFrom, nameBytes, bit, isSet, tableFrom, tablesFrom, databaseFrom, columnEntry, tableEntry, databaseEntry, blankEntry, inRoom, columnEntries, catalogOf}
 use Rattle.model.proofs.Tests.{Trues, and-l, and-r, parts, whole, bytes-same, bytes-self, lists-same, lists-self}
 use Rattle.model.proofs.Lists.{all-head, all-tail, all-cons, all-same}
 use Rattle.model.proofs.Catalogs.{width-read, t-narrow}
@@ -54,14 +54,14 @@ module _ (n : ℕ) where
       (one a (ap (λ (l : List (List ℕ)). getD l 0 []) e) (all-head (saneColumn n) (columnFrom a) (map columnFrom x) h))
       (columns-from x (ap (drop 1) e) (all-tail (saneColumn n) (columnFrom a) (map columnFrom x) h))
 
-names-of : (x : List (List ℕ)) → map (λ (c : Column). c .name) (map columnFrom x) ≡ map cellName x
+names-of : (x : List (List ℕ)) → map (λ (c : Column). c .name) (map columnFrom x) ≡ map entryName x
 names-of [] = refl
-names-of (e ∷ x) = ap (λ (l : List (List ℕ)). cellName e ∷ l) (names-of x)
+names-of (e ∷ x) = ap (λ (l : List (List ℕ)). entryName e ∷ l) (names-of x)
 
 -- the bytes of a table's entry but for its width
 abbrev headWith : List ℕ → ℕ → List ℕ
 headWith e m =
-    nameBytes (cellName e)
+    nameBytes (entryName e)
     ++ (m ∷ bit (isSet e 26) ∷ bit (isSome (maxRowsFrom e)) ∷ big 8 (numberOr0 (maxRowsFrom e))
     ++ (length (indexesFrom e) ∷ (flat (map indexBytes (indexesFrom e)) ++ replicate (4 * (2 - length (indexesFrom e))) 0) ++ replicate 3 0))
 
@@ -98,16 +98,16 @@ module _ (cells : List (List ℕ)) (size : length cells ≡ 29) (n : ℕ) where
       columns-length = ap length columns-are ∙ length-map x columnFrom ∙ x-length
 
       -- the six entries in their two parts
-      behind : drop w from ≡ drop (columnCell i w) cells
+      behind : drop w from ≡ drop (columnPlace i w) cells
       behind = drop-drop w (5 + 6 * i) cells
 
-      parts-are : take 6 from ≡ x ++ take (6 - w) (drop (columnCell i w) cells)
+      parts-are : take 6 from ≡ x ++ take (6 - w) (drop (columnPlace i w) cells)
       parts-are =
           let k : w + (6 - w) ≡ 6 = omega arith in
           ap (λ (m : ℕ). take m from) (sym k) ∙ take-add w (6 - w) from ∙ ap (λ (m : List (List ℕ)). x ++ take (6 - w) m) behind
 
-      blank-length : length (take (6 - w) (drop (columnCell i w) cells)) ≡ 6 - w
-      blank-length = length-take-le (6 - w) (drop (columnCell i w) cells) (omega (arith, length-drop (columnCell i w) cells))
+      blank-length : length (take (6 - w) (drop (columnPlace i w) cells)) ≡ 6 - w
+      blank-length = length-take-le (6 - w) (drop (columnPlace i w) cells) (omega (arith, length-drop (columnPlace i w) cells))
 
       head-bytes : tableEntry t ≡ headBytes e
       unfolding tableFrom
@@ -132,18 +132,18 @@ module _ (cells : List (List ℕ)) (size : length cells ≡ 29) (n : ℕ) where
         let p = parts (headTests e) (and-l (isHead e) _ h) in
         let nw = leb-true w 6 (p .1 .0) in
         let cs = columns-to n x (and-l (all (isColumn n) x) _ h1) in
-        let z = take (6 - w) (drop (columnCell i w) cells) in
-        let bl : replicate (6 - w) blankEntry ≡ z = ap (λ (m : ℕ). replicate m blankEntry) (sym (blank-length nw)) ∙ blanks-are z (and-r (distinct (map cellName x)) _ h2) in
+        let z = take (6 - w) (drop (columnPlace i w) cells) in
+        let bl : replicate (6 - w) blankEntry ≡ z = ap (λ (m : ℕ). replicate m blankEntry) (sym (blank-length nw)) ∙ blanks-are z (and-r (distinct (map entryName x)) _ h2) in
         let ce : map columnEntry (t .columns) ≡ x = ap (map columnEntry) columns-are ∙ cs .0 in
         let cl = columns-length nw in
         record {
           entry = head-bytes nw ∙ bytes-same (headBytes e) e (p .1 .1 .1 .1 .1 .0);
           room = ap (inRoom 6) ce ∙ ap (λ (m : ℕ). x ++ replicate (6 - m) blankEntry) (x-length nw) ∙ ap (λ (m : List (List ℕ)). x ++ m) bl ∙ sym (parts-are nw);
-          kept = kept-by p cl (ap (all (saneColumn n)) columns-are ∙ cs .1) (ap (λ (m : List Column). distinct (map (λ (c : Column). c .name) m)) columns-are ∙ ap distinct (names-of x) ∙ and-l (distinct (map cellName x)) _ h2);
+          kept = kept-by p cl (ap (all (saneColumn n)) columns-are ∙ cs .1) (ap (λ (m : List Column). distinct (map (λ (c : Column). c .name) m)) columns-are ∙ ap distinct (names-of x) ∙ and-l (distinct (map entryName x)) _ h2);
         }
 
     abbrev Kept : Type 0
-    Kept = (isId (cellName e) ≡ true) × (leb (length (indexesFrom e)) 2 ≡ true) × (all (saneIndex (length (t .columns))) (indexesFrom e) ≡ true) × (maxRowsSane (maxRowsFrom e) ≡ true) × (all (saneColumn n) (t .columns) ≡ true) × (distinct (map (λ (c : Column). c .name) (t .columns)) ≡ true)
+    Kept = (isId (entryName e) ≡ true) × (leb (length (indexesFrom e)) 2 ≡ true) × (all (saneIndex (length (t .columns))) (indexesFrom e) ≡ true) × (maxRowsSane (maxRowsFrom e) ≡ true) × (all (saneColumn n) (t .columns) ≡ true) × (distinct (map (λ (c : Column). c .name) (t .columns)) ≡ true)
 
     kept-parts : saneTable n t ≡ true → Kept
     unfolding saneTable tableFrom
@@ -159,13 +159,13 @@ module _ (cells : List (List ℕ)) (size : length cells ≡ 29) (n : ℕ) where
         let same : headBytes e ≡ e = sym (head-bytes nw) ∙ u .entry in
         let hd : isHead e ≡ true = whole (headTests e) (p .0, (le-leb w 6 nw, (p .1, (ap (λ (m : ℕ). all (saneIndex m) (indexesFrom e)) (sym wl) ∙ p .2, (p .3, (same-bytes same, tt)))))) in
         let y = map columnEntry (map columnFrom x) in
-        let z = take (6 - w) (drop (columnCell i w) cells) in
+        let z = take (6 - w) (drop (columnPlace i w) cells) in
         let yl : length y ≡ w = length-map (map columnFrom x) columnEntry ∙ length-map x columnFrom ∙ x-length nw in
         let q : y ++ replicate (6 - length y) blankEntry ≡ x ++ z = ap (λ (m : List Column). inRoom 6 (map columnEntry m)) (sym columns-are) ∙ u .room ∙ parts-are nw in
         let s : y ≡ x = sym (take-at y (replicate (6 - length y) blankEntry) w yl) ∙ ap (take w) q ∙ take-at x z w (x-length nw) in
         let b : replicate (6 - length y) blankEntry ≡ z = sym (drop-at y (replicate (6 - length y) blankEntry) w yl) ∙ ap (drop w) q ∙ drop-at x z w (x-length nw) in
         let cs = columns-from n x s (ap (all (saneColumn n)) (sym columns-are) ∙ p .4) in
-        let di : distinct (map cellName x) ≡ true = ap distinct (sym (names-of x)) ∙ ap (λ (m : List Column). distinct (map (λ (c : Column). c .name) m)) (sym columns-are) ∙ p .5 in
+        let di : distinct (map entryName x) ≡ true = ap distinct (sym (names-of x)) ∙ ap (λ (m : List Column). distinct (map (λ (c : Column). c .name) m)) (sym columns-are) ∙ p .5 in
         rw (hd, cs, di) (ap (all isBlank) (sym b) ∙ blanks-all (6 - length y))
 
     used-from : Used → isTable n cells i ≡ true
@@ -176,7 +176,7 @@ module _ (cells : List (List ℕ)) (size : length cells ≡ 29) (n : ℕ) where
       entry : blankEntry ≡ e
       room : replicate 6 blankEntry ≡ take 6 from
 
-    plain-from : drop (columnCell i 0) cells ≡ from
+    plain-from : drop (columnPlace i 0) cells ≡ from
     plain-from = let b : 5 + 6 * i + 0 ≡ 5 + 6 * i = omega arith in ap (λ (k : ℕ). drop k cells) b
 
     unused-to : isUnused cells i ≡ true → Free
@@ -281,12 +281,12 @@ module _ (cells : List (List ℕ)) (size : length cells ≡ 29) (n : ℕ) where
       let a = fine-used i (omega arith) ∙ used-from cells size n i l (record { entry = ap (λ (x : List (List ℕ)). getD x 0 []) y; room = c .0; kept = st }) in
       rw a (laid-from (suc i) k m (omega arith) (omega arith) (omega arith) (record { heads = ap (drop 1) y; columns = c .1; kept = all-tail (saneTable n) t ts (r .kept) }))
 
-  names-tables : (i m : ℕ) → i + m ≤ 4 → map (λ (t : Table). t .name) (tablesFrom cells i m) ≡ map cellName (take m (drop (1 + i) cells))
+  names-tables : (i m : ℕ) → i + m ≤ 4 → map (λ (t : Table). t .name) (tablesFrom cells i m) ≡ map entryName (take m (drop (1 + i) cells))
   unfolding tableFrom
   names-tables i zero f = refl
   names-tables i (suc m) f =
-      ap (λ (l : List (List ℕ)). cellName (getD cells (1 + i) []) ∷ l) (names-tables (suc i) m (omega arith))
-      ∙ sym (ap (map cellName) (head-more cells size n i (omega arith) m))
+      ap (λ (l : List (List ℕ)). entryName (getD cells (1 + i) []) ∷ l) (names-tables (suc i) m (omega arith))
+      ∙ sym (ap (map entryName) (head-more cells size n i (omega arith) m))
 
 -- ── the whole ──
 module _ (cells : List (List ℕ)) (size : length cells ≡ 29) where
@@ -316,7 +316,7 @@ module _ (cells : List (List ℕ)) (size : length cells ≡ 29) where
       let few = leb-true n 4 (p .1 .0) in
       let r = laid-to cells size n 0 4 n refl few (omega arith) (and-l (tablesFine n cells 0 4) _ h1) in
       let e : databaseEntry d ≡ first =
-      ap (λ (m : ℕ). nameBytes (cellName first) ++ m ∷ replicate 22 0) count ∙ bytes-same (nameBytes (cellName first) ++ n ∷ replicate 22 0) first (p .1 .1 .0) in
+      ap (λ (m : ℕ). nameBytes (entryName first) ++ m ∷ replicate 22 0) count ∙ bytes-same (nameBytes (entryName first) ++ n ∷ replicate 22 0) first (p .1 .1 .0) in
       let same : catalogOf d ≡ cells = (λ j. e j ∷ r .heads j ++ r .columns j) ∙ front in
       let kept : sane d ≡ true =
       whole (databaseSane d)
@@ -336,7 +336,7 @@ module _ (cells : List (List ℕ)) (size : length cells ≡ 29) where
       let tail : hs ++ cs ≡ drop 1 cells = ap (drop 1) same in
       let e : databaseEntry d ≡ first = ap (λ (l : List (List ℕ)). getD l 0 []) same in
       let db : isDatabase first ≡ true =
-      whole (databaseTests first) (p .0, (le-leb n 4 few, (same-bytes (ap (λ (m : ℕ). nameBytes (cellName first) ++ m ∷ replicate 22 0) (sym count) ∙ e), tt))) in
+      whole (databaseTests first) (p .0, (le-leb n 4 few, (same-bytes (ap (λ (m : ℕ). nameBytes (entryName first) ++ m ∷ replicate 22 0) (sym count) ∙ e), tt))) in
       let r : Laid cells size n 0 4 n =
       record {
         heads = sym (take-at hs cs 4 hl) ∙ ap (take 4) tail;

@@ -13,8 +13,8 @@ use Rattle.model.specs.declared.Found.the-variants.{At, Nothing}
 use Rattle.model.specs.Octets.{eqBytes}
 use Rattle.model.specs.Base.{placeOf}
 use Rattle.model.specs.Schema.{Column}
-use Rattle.model.specs.Catalog.{cellName, columnFrom}
-use Rattle.catalog.specs.Entries.{foundAt, cellNamed}
+use Rattle.model.specs.Catalog.{entryName, columnFrom}
+use Rattle.catalog.specs.Entries.{foundAt, entryNamed}
 
 -- a place found from i on
 abbrev pub foundFrom : ℕ → Option ℕ → Found
@@ -33,11 +33,11 @@ from-start (some k) = ap At (omega arith)
 
 module _ (cells : List (List ℕ)) (w : List ℕ) where
   abbrev pub left : ℕ → Option ℕ
-  left i = placeOf w (map cellName (drop i cells))
+  left i = placeOf w (map entryName (drop i cells))
 
-  pub named-start : cellNamed cells w ≡ foundFrom 0 (left 0)
-  unfolding cellNamed
-  named-start = from-start (placeOf w (map cellName cells))
+  pub named-start : entryNamed cells w ≡ foundFrom 0 (left 0)
+  unfolding entryNamed
+  named-start = from-start (placeOf w (map entryName cells))
 
   pub named-end : (i : ℕ) → length cells ≤ i → foundFrom i (left i) ≡ Nothing
   named-end i h = rw (drop-of-length-le cells h)
@@ -46,13 +46,13 @@ module _ (cells : List (List ℕ)) (w : List ℕ) where
     next : drop i cells ≡ getD cells i [] ∷ drop (i + 1) cells
     next = drop-cons cells i [] h ∙ ap (λ (k : ℕ). getD cells i [] ∷ drop k cells) (sym (add-one i))
 
-    pub named-here : eqBytes w (cellName (getD cells i [])) ≡ true → foundFrom i (left i) ≡ At i
+    pub named-here : eqBytes w (entryName (getD cells i [])) ≡ true → foundFrom i (left i) ≡ At i
     named-here e = rw (next, placeOf, e) (ap At (omega arith))
 
-    pub named-next : eqBytes w (cellName (getD cells i [])) ≡ false → foundFrom i (left i) ≡ foundFrom (i + 1) (left (i + 1))
+    pub named-next : eqBytes w (entryName (getD cells i [])) ≡ false → foundFrom i (left i) ≡ foundFrom (i + 1) (left (i + 1))
     named-next e = rw (next, placeOf, e) (past i (left (i + 1)))
 
 -- the names in entries are those of the columns that they say
-pub cells-names : (l : List (List ℕ)) → map cellName l ≡ map (λ (c : Column). c .name) (map columnFrom l)
+pub cells-names : (l : List (List ℕ)) → map entryName l ≡ map (λ (c : Column). c .name) (map columnFrom l)
 cells-names [] = refl
-cells-names (x ∷ l) = ap (λ (r : List (List ℕ)). cellName x ∷ r) (cells-names l)
+cells-names (x ∷ l) = ap (λ (r : List (List ℕ)). entryName x ∷ r) (cells-names l)

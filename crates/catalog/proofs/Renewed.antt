@@ -10,7 +10,7 @@ use lib.ListN.{length, getD, set, drop, replicate, length-append, length-take}
 use lib.Seq.{set-at}
 use Rattle.model.specs.Octets.{value, part}
 use Rattle.model.specs.SchemaText.{baseNumber}
-use Rattle.model.specs.Catalog.{baseNumbered, refersFrom, howRefers, target, bit, isSet, cellName, nameBytes, columnFrom, columnEntry}
+use Rattle.model.specs.Catalog.{baseNumbered, refersFrom, howRefers, target, bit, isSet, entryName, nameBytes, columnFrom, columnEntry}
 use Rattle.model.proofs.Tests.{split}
 use Rattle.model.proofs.Catalogs.{name-length}
 use Rattle.octets.proofs.Rests.{write-next}
@@ -33,17 +33,17 @@ zeros-rest (suc k) (suc n) m h =
 
 -- ── names ──
 module _ (e : List ℕ) (size : length e ≡ 48) (short : getD e 0 0 ≤ 24) where
-  pub name-fits : length (cellName e) ≤ 24
+  pub name-fits : length (entryName e) ≤ 24
   name-fits = omega (arith, name-sized e size short)
 
   -- a length, a name and zeros
-  pub name-made : (w ys : List ℕ) → w ≡ cellName e → ys ≡ w ++ drop (length w) (replicate 47 0) → getD e 0 0 ∷ ys ++ [] ≡ nameBytes (cellName e) ++ replicate 23 0
+  pub name-made : (w ys : List ℕ) → w ≡ entryName e → ys ≡ w ++ drop (length w) (replicate 47 0) → getD e 0 0 ∷ ys ++ [] ≡ nameBytes (entryName e) ++ replicate 23 0
   name-made w ys p q =
       let n = name-sized e size short in
-      let r : ys ≡ (cellName e ++ replicate (24 - length (cellName e)) 0) ++ replicate 23 0 =
+      let r : ys ≡ (entryName e ++ replicate (24 - length (entryName e)) 0) ++ replicate 23 0 =
       q ∙ ap (λ (l : List ℕ). l ++ drop (length l) (replicate 47 0)) p
-      ∙ ap (λ (l : List ℕ). cellName e ++ l) (zeros-rest (length (cellName e)) 24 23 name-fits)
-      ∙ sym (append-assoc (cellName e) (replicate (24 - length (cellName e)) 0) (replicate 23 0)) in
+      ∙ ap (λ (l : List ℕ). entryName e ++ l) (zeros-rest (length (entryName e)) 24 23 name-fits)
+      ∙ sym (append-assoc (entryName e) (replicate (24 - length (entryName e)) 0) (replicate 23 0)) in
       λ j. sym n j ∷ (append-nil ys ∙ r) j
 
 -- ── what follows a column's name ──
@@ -89,21 +89,21 @@ unfolding restBytes knownBytes
 rest-is e = λ j. baseNumber (baseNumbered (getD e 25 0)) ∷ how-any (getD e 26 0) 0 (getD e 27 0) j ∷ target (refersFrom (getD e 26 0) (getD e 27 0)) ∷ getD e 28 0 ∷ getD e 29 0 ∷ bit (isSet e 30) ∷ twosBytes (value (part 31 8 e)) ++ (twosBytes (value (part 39 8 e)) ++ 0 ∷ [])
 
 -- ── entries that were a name and zeros ──
-module _ (e cur : List ℕ) (short : getD e 0 0 ≤ 24) (was : cur ≡ nameBytes (cellName e) ++ replicate 23 0) where
-  fits : length (nameBytes (cellName e)) ≡ 25
-  fits = name-length (cellName e) (omega (arith, length-take (getD e 0 0) (drop 1 e)))
+module _ (e cur : List ℕ) (short : getD e 0 0 ≤ 24) (was : cur ≡ nameBytes (entryName e) ++ replicate 23 0) where
+  fits : length (nameBytes (entryName e)) ≡ 25
+  fits = name-length (entryName e) (omega (arith, length-take (getD e 0 0) (drop 1 e)))
 
   cur-length : length cur ≡ 48
-  cur-length = ap length was ∙ length-append (nameBytes (cellName e)) (replicate 23 0) ∙ ap (λ (k : ℕ). k + 23) fits
+  cur-length = ap length was ∙ length-append (nameBytes (entryName e)) (replicate 23 0) ∙ ap (λ (k : ℕ). k + 23) fits
 
   pub column-made : (ys : List ℕ) → ys ≡ restBytes e ++ drop 22 (midOf 25 23 cur) → putMid 25 23 cur ys ≡ columnEntry (columnFrom e)
   column-made ys y =
       let k : 23 ≡ length cur - 25 = omega (arith, cur-length) in
       ap (λ (n : ℕ). putMid 25 n cur ys) k
-      ∙ write-next (nameBytes (cellName e)) (restBytes e) (replicate 48 0) cur ys 25 22 fits was (y ∙ ap (λ (n : ℕ). restBytes e ++ drop 22 (midOf 25 n cur)) k)
-      ∙ append-assoc (nameBytes (cellName e)) (restBytes e) (0 ∷ [])
-      ∙ ap (λ (l : List ℕ). nameBytes (cellName e) ++ l) (rest-is e)
+      ∙ write-next (nameBytes (entryName e)) (restBytes e) (replicate 48 0) cur ys 25 22 fits was (y ∙ ap (λ (n : ℕ). restBytes e ++ drop 22 (midOf 25 n cur)) k)
+      ∙ append-assoc (nameBytes (entryName e)) (restBytes e) (0 ∷ [])
+      ∙ ap (λ (l : List ℕ). nameBytes (entryName e) ++ l) (rest-is e)
 
   pub database-made : (n : ℕ) → n ≡ getD e 25 0 → set cur 25 n ≡ databaseTidied e
   unfolding databaseTidied
-  database-made n h = (λ j. set (was j) 25 (h j)) ∙ set-at (nameBytes (cellName e)) 0 (replicate 22 0) (getD e 25 0) 25 fits
+  database-made n h = (λ j. set (was j) 25 (h j)) ∙ set-at (nameBytes (entryName e)) 0 (replicate 22 0) (getD e 25 0) 25 fits

@@ -11,7 +11,7 @@ use lib.ListN.{length, getD, take, drop, replicate, length-append, length-replic
 use lib.Seq.{sets, sets-eq, take-at}
 use Rattle.model.specs.Octets.{big, value, part}
 use Rattle.model.specs.Base.{all, isSome, flat}
-use Rattle.model.specs.Catalog.{cellName, nameBytes, bit, isSet, numberOr0, indexBytes, indexFrom, indexesFrom, maxRowsFrom}
+use Rattle.model.specs.Catalog.{entryName, nameBytes, bit, isSet, numberOr0, indexBytes, indexFrom, indexesFrom, maxRowsFrom}
 use Rattle.model.proofs.Tests.{and-l, and-r, clash}
 use Rattle.model.proofs.Catalogs.{name-length, drop-past}
 use Rattle.catalog.specs.Writing.{headBytes}
@@ -125,21 +125,21 @@ module _ (e : List ℕ) (short : getD e 0 0 ≤ 24) where
   headOf = headBytes (getD e 25 0) (isSet e 26) (isSet e 27) (numberOr0 (maxRowsFrom e))
 
   abbrev front : List ℕ
-  front = nameBytes (cellName e) ++ headOf
+  front = nameBytes (entryName e) ++ headOf
 
-  name-short : length (cellName e) ≤ 24
+  name-short : length (entryName e) ≤ 24
   name-short = omega (arith, length-take (getD e 0 0) (drop 1 e))
 
   front-length : length front ≡ 36
   unfolding headBytes
-  front-length = length-append (nameBytes (cellName e)) headOf ∙ ap (λ (k : ℕ). k + 11) (name-length (cellName e) name-short)
+  front-length = length-append (nameBytes (entryName e)) headOf ∙ ap (λ (k : ℕ). k + 11) (name-length (entryName e) name-short)
 
   -- the head, written behind the name
-  pub headed : (out : List ℕ) (w : ℕ) (root limited : Bool) (most : ℕ) → out ≡ nameBytes (cellName e) ++ replicate 23 0 → w ≡ getD e 25 0 → root ≡ isSet e 26 → limited ≡ isSet e 27 → most ≡ numberOr0 (maxRowsFrom e)
+  pub headed : (out : List ℕ) (w : ℕ) (root limited : Bool) (most : ℕ) → out ≡ nameBytes (entryName e) ++ replicate 23 0 → w ≡ getD e 25 0 → root ≡ isSet e 26 → limited ≡ isSet e 27 → most ≡ numberOr0 (maxRowsFrom e)
       → (take 25 out ++ headBytes w root limited most) ++ drop 36 out ≡ front ++ replicate 12 0
   headed out w root limited most q qw qr ql qm =
-      let n = nameBytes (cellName e) in
-      let l = name-length (cellName e) name-short in
+      let n = nameBytes (entryName e) in
+      let l = name-length (entryName e) name-short in
       let t : take 25 out ≡ n = ap (take 25) q ∙ take-at n (replicate 23 0) 25 l in
       let d : drop 36 out ≡ replicate 12 0 = ap (drop 36) q ∙ drop-past n (replicate 23 0) 25 11 l in
       λ j. (t j ++ headBytes (qw j) (qr j) (ql j) (qm j)) ++ d j
@@ -161,8 +161,8 @@ module _ (e : List ℕ) (short : getD e 0 0 ≤ 24) where
       sets-eq vs (front ++ z) 36 (omega (arith, nine, all-of))
       ∙ (λ j. (take-at front z 36 front-length j ++ vs) ++ d j)
       ∙ append-assoc front vs (replicate 3 0)
-      ∙ append-assoc (nameBytes (cellName e)) headOf (vs ++ replicate 3 0)
-      ∙ (λ j. nameBytes (cellName e) ++ (getD e 25 0 ∷ bit (isSet e 26) ∷ flag j ∷ big 8 (numberOr0 (maxRowsFrom e)) ++ (length (indexesFrom e) ∷ sym (slots-are e k) j ++ replicate 3 0)))
+      ∙ append-assoc (nameBytes (entryName e)) headOf (vs ++ replicate 3 0)
+      ∙ (λ j. nameBytes (entryName e) ++ (getD e 25 0 ∷ bit (isSet e 26) ∷ flag j ∷ big 8 (numberOr0 (maxRowsFrom e)) ++ (length (indexesFrom e) ∷ sym (slots-are e k) j ++ replicate 3 0)))
 
   pub tidied : length e ≡ 48 → all (λ (l : List ℕ). leb (length l) 3) (indexesFrom e) ≡ true → (out : List ℕ) (n : ℕ) (a b : List ℕ) → out ≡ front ++ replicate 12 0 → n ≡ length (indexesFrom e)
       → a ≡ slotBytes (ltb 0 (getD e 36 0)) e 37 → b ≡ slotBytes (ltb 1 (getD e 36 0)) e 41 → sets out 36 (n ∷ (a ++ b)) ≡ tableTidied e

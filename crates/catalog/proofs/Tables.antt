@@ -7,9 +7,9 @@ use native.Mathlib.Omega.{arith}
 use borrow.Author.Tests.{leb-true}
 use lib.ListN.{getD, take, drop}
 use Rattle.model.specs.Base.{all, distinct}
-use Rattle.model.specs.Catalog.{cellName, columnCount, columnCell, tableCount}
+use Rattle.model.specs.Catalog.{entryName, columnCount, columnPlace, tableCount}
 use Rattle.model.proofs.Tests.{parts}
-use Rattle.catalog.specs.Entries.{columnCells}
+use Rattle.catalog.specs.Entries.{columnsAt}
 use Rattle.catalog.specs.Judging.{isColumn, headTests, isHead, isDatabase, databaseTests, isBlank, isTable, tableFine, tablesFine, judged}
 
 pub narrow-head : (e : List ℕ) → isHead e ≡ true → getD e 25 0 ≤ 6
@@ -21,12 +21,12 @@ unfolding isDatabase
 few-database e h = leb-true (getD e 25 0) 4 (parts (databaseTests e) h .1 .0)
 
 pub table-code : (n : ℕ) (cells : List (List ℕ)) (t k : ℕ) {fine apart blank : Bool} {cols : List (List ℕ)}
-    → isHead (getD cells (1 + t) []) ≡ true → k ≡ columnCount cells t → cols ≡ columnCells cells t → fine ≡ all (isColumn n) cols → apart ≡ distinct (map cellName cols)
+    → isHead (getD cells (1 + t) []) ≡ true → k ≡ columnCount cells t → cols ≡ columnsAt cells t → fine ≡ all (isColumn n) cols → apart ≡ distinct (map entryName cols)
     → blank ≡ all isBlank (take (5 + 6 * t + 6 - (5 + 6 * t + k)) (drop (5 + 6 * t + k) cells)) → (fine && (apart && blank)) ≡ isTable n cells t
 unfolding isTable
 table-code n cells t k h e c f d b =
     let q : 5 + 6 * t + 6 - (5 + 6 * t + k) ≡ 6 - columnCount cells t = omega arith in
-    let r : 5 + 6 * t + k ≡ columnCell t (columnCount cells t) = omega arith in
+    let r : 5 + 6 * t + k ≡ columnPlace t (columnCount cells t) = omega arith in
     rw (h, f, d, b, c, q, r)
 
 pub table-not : (n : ℕ) (cells : List (List ℕ)) (t : ℕ) → isHead (getD cells (1 + t) []) ≡ false → isTable n cells t ≡ false
@@ -59,6 +59,6 @@ module _ (cells : List (List ℕ)) where
   unfolding judged
   judged-tables d h = rw (d, h)
 
-  pub judged-names : isDatabase (getD cells 0 []) ≡ true → tablesFine (tableCount cells) cells 0 4 ≡ true → judged cells ≡ distinct (map cellName (take (tableCount cells) (drop 1 cells)))
+  pub judged-names : isDatabase (getD cells 0 []) ≡ true → tablesFine (tableCount cells) cells 0 4 ≡ true → judged cells ≡ distinct (map entryName (take (tableCount cells) (drop 1 cells)))
   unfolding judged
   judged-names d h = rw (d, h)

@@ -7,16 +7,16 @@ use Rattle.model.specs.declared.Found.{Found}
 use Rattle.model.specs.declared.Found.the-variants.{At, Nothing}
 use Rattle.model.specs.Base.{placeOf}
 use Rattle.model.specs.Limits.{mostTables, mostColumns}
-use Rattle.model.specs.Catalog.{columnCount, cellName}
+use Rattle.model.specs.Catalog.{columnCount, entryName}
 
 -- the entries of a table's columns
-abbrev pub columnCells : List (List ℕ) → ℕ → List (List ℕ)
-columnCells catalog t = take (columnCount catalog t) (drop (1 + mostTables + mostColumns * t) catalog)
+abbrev pub columnsAt : List (List ℕ) → ℕ → List (List ℕ)
+columnsAt catalog t = take (columnCount catalog t) (drop (1 + mostTables + mostColumns * t) catalog)
 
 unfoldable pub foundAt : Option ℕ → Found
 foundAt none = Nothing
 foundAt (some k) = At k
 
 -- the place of a name among the names of entries
-unfoldable pub cellNamed : List (List ℕ) → List ℕ → Found
-cellNamed cells w = foundAt (placeOf w (map cellName cells))
+unfoldable pub entryNamed : List (List ℕ) → List ℕ → Found
+entryNamed entries w = foundAt (placeOf w (map entryName entries))

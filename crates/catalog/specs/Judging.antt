@@ -11,16 +11,16 @@ use Rattle.model.specs.Base.{all, every, distinct, isSome, flat}
 use Rattle.model.specs.Limits.{mostTables, mostColumns, mostElements, mostIndexes, mostIndexColumns, mostTextBytes}
 use Rattle.model.specs.SchemaText.{isId}
 use Rattle.model.specs.Value.{fromTwos}
-use Rattle.model.specs.Catalog.{baseOffset, refersOffset, targetOffset, minOffset, maxOffset, mutableOffset, lowOffset, highOffset, columnsOffset, rootOffset, limitedOffset, maxRowsOffset, indexesOffset, firstIndexOffset, secondIndexOffset, tablesOffset, tableCell, columnCell, cellName, isSet, columnFrom, indexesFrom, maxRowsFrom, nameBytes, bit, columnEntry, indexBytes, numberOr0, blankEntry, tableCount, columnCount}
+use Rattle.model.specs.Catalog.{baseOffset, refersOffset, targetOffset, minOffset, maxOffset, mutableOffset, lowOffset, highOffset, columnsOffset, rootOffset, limitedOffset, maxRowsOffset, indexesOffset, firstIndexOffset, secondIndexOffset, tablesOffset, tablePlace, columnPlace, entryName, isSet, columnFrom, indexesFrom, maxRowsFrom, nameBytes, bit, columnEntry, indexBytes, numberOr0, blankEntry, tableCount, columnCount}
 use Rattle.model.specs.Sane.{saneColumn, saneIndex, maxRowsSane}
-use Rattle.catalog.specs.Entries.{columnCells}
+use Rattle.catalog.specs.Entries.{columnsAt}
 
 abbrev pub isZero : ℕ → Bool
 isZero b = eqb b 0
 
 -- a name that is an id, and zeros behind it
 unfoldable pub nameFine : List ℕ → Bool
-nameFine e = isId (cellName e) && all isZero (part (1 + getD e 0 0) (mostTextBytes - getD e 0 0) e)
+nameFine e = isId (entryName e) && all isZero (part (1 + getD e 0 0) (mostTextBytes - getD e 0 0) e)
 
 -- ── a column's entry, in a schema of n tables ──
 -- it refers not at all, or as a uuid to one of the tables
@@ -75,13 +75,13 @@ headTest e =
 -- which is that it keeps the rules that its columns have no part in, and has no other bytes
 abbrev pub headBytes : List ℕ → List ℕ
 headBytes e =
-    nameBytes (cellName e)
+    nameBytes (entryName e)
     ++ (getD e columnsOffset 0 ∷ bit (isSet e rootOffset) ∷ bit (isSome (maxRowsFrom e)) ∷ big 8 (numberOr0 (maxRowsFrom e))
     ++ (length (indexesFrom e) ∷ (flat (map indexBytes (indexesFrom e)) ++ replicate ((1 + mostIndexColumns) * (mostIndexes - length (indexesFrom e))) 0) ++ replicate 3 0))
 
 abbrev pub headTests : List ℕ → List Bool
 headTests e =
-    isId (cellName e)
+    isId (entryName e)
     ∷ leb (getD e columnsOffset 0) mostColumns
     ∷ leb (length (indexesFrom e)) mostIndexes
     ∷ all (saneIndex (getD e columnsOffset 0)) (indexesFrom e)
@@ -94,11 +94,11 @@ isHead e = every (headTests e)
 
 -- ── the database's entry, and one that is not in use ──
 unfoldable pub databaseTest : List ℕ → Bool
-databaseTest e = nameFine e && (leb (getD e tablesOffset 0) mostTables && all isZero (drop 26 e))
+databaseTest e = nameFine e && (leb (getD e tablesOffset 0) mostTables && all isZero (drop (tablesOffset + 1) e))
 
 abbrev pub databaseTests : List ℕ → List Bool
 databaseTests e =
-    isId (cellName e) ∷ leb (getD e tablesOffset 0) mostTables ∷ eqBytes (nameBytes (cellName e) ++ getD e tablesOffset 0 ∷ replicate 22 0) e ∷ []
+    isId (entryName e) ∷ leb (getD e tablesOffset 0) mostTables ∷ eqBytes (nameBytes (entryName e) ++ getD e tablesOffset 0 ∷ replicate 22 0) e ∷ []
 
 unfoldable pub isDatabase : List ℕ → Bool
 isDatabase e = every (databaseTests e)
@@ -109,13 +109,13 @@ isBlank e = eqBytes blankEntry e
 -- ── tables with their columns, and the whole ──
 unfoldable pub isTable : ℕ → List (List ℕ) → ℕ → Bool
 isTable n cells t =
-    isHead (getD cells (tableCell t) [])
-    && (all (isColumn n) (columnCells cells t)
-    && (distinct (map cellName (columnCells cells t))
-    && all isBlank (take (mostColumns - columnCount cells t) (drop (columnCell t (columnCount cells t)) cells))))
+    isHead (getD cells (tablePlace t) [])
+    && (all (isColumn n) (columnsAt cells t)
+    && (distinct (map entryName (columnsAt cells t))
+    && all isBlank (take (mostColumns - columnCount cells t) (drop (columnPlace t (columnCount cells t)) cells))))
 
 unfoldable pub isUnused : List (List ℕ) → ℕ → Bool
-isUnused cells t = isBlank (getD cells (tableCell t) []) && all isBlank (take mostColumns (drop (columnCell t 0) cells))
+isUnused cells t = isBlank (getD cells (tablePlace t) []) && all isBlank (take mostColumns (drop (columnPlace t 0) cells))
 
 -- table t where there are n
 unfoldable pub tableFine : ℕ → List (List ℕ) → ℕ → Bool
@@ -128,4 +128,4 @@ tablesFine n cells t (suc k) = tableFine n cells t && tablesFine n cells (suc t)
 
 unfoldable pub judged : List (List ℕ) → Bool
 judged cells =
-    isDatabase (getD cells 0 []) && (tablesFine (tableCount cells) cells 0 mostTables && distinct (map cellName (take (tableCount cells) (drop 1 cells))))
+    isDatabase (getD cells 0 []) && (tablesFine (tableCount cells) cells 0 mostTables && distinct (map entryName (take (tableCount cells) (drop 1 cells))))

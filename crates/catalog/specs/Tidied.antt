@@ -8,16 +8,16 @@ use Rattle.model.specs.Octets.{big}
 use Rattle.model.specs.Limits.{mostTables, mostColumns, mostIndexes, mostIndexColumns, entryCount}
 use Rattle.model.specs.Base.{isSome, flat}
 use Rattle.model.specs.Sane.{sane}
-use Rattle.model.specs.Catalog.{columnsOffset, rootOffset, tablesOffset, columnCount, databaseFrom, cellName, isSet, indexesFrom, maxRowsFrom, nameBytes, bit, indexBytes, numberOr0}
+use Rattle.model.specs.Catalog.{columnsOffset, rootOffset, tablesOffset, columnCount, databaseFrom, entryName, isSet, indexesFrom, maxRowsFrom, nameBytes, bit, indexBytes, numberOr0}
 
 -- the database's
 unfoldable pub databaseTidied : List ℕ → List ℕ
-databaseTidied e = nameBytes (cellName e) ++ getD e tablesOffset 0 ∷ replicate 22 0
+databaseTidied e = nameBytes (entryName e) ++ getD e tablesOffset 0 ∷ replicate 22 0
 
 -- a table's
 unfoldable pub tableTidied : List ℕ → List ℕ
 tableTidied e =
-    nameBytes (cellName e)
+    nameBytes (entryName e)
     ++ (getD e columnsOffset 0 ∷ bit (isSet e rootOffset) ∷ bit (isSome (maxRowsFrom e)) ∷ big 8 (numberOr0 (maxRowsFrom e))
     ++ (length (indexesFrom e) ∷ (flat (map indexBytes (indexesFrom e)) ++ replicate ((1 + mostIndexColumns) * (mostIndexes - length (indexesFrom e))) 0) ++ replicate 3 0))
 

@@ -22,10 +22,10 @@ ghost use lib.Seq.{sets};
 ghost use Rattle.model.specs.Octets.{value, part};
 ghost use Rattle.model.specs.Limits.{mostTables, mostColumns, entryBytes, atomBytes};
 ghost use Rattle.model.specs.Schema.{scalar};
-ghost use Rattle.model.specs.Catalog.{baseOffset, refersOffset, targetOffset, minOffset, maxOffset, mutableOffset, lowOffset, highOffset, columnsOffset, rootOffset, limitedOffset, maxRowsOffset, indexesOffset, tablesOffset, cellName, isSet, columnFrom, columnCount, columnCell, indexFrom, firstIndexOffset, secondIndexOffset};
+ghost use Rattle.model.specs.Catalog.{baseOffset, refersOffset, targetOffset, minOffset, maxOffset, mutableOffset, lowOffset, highOffset, columnsOffset, rootOffset, limitedOffset, maxRowsOffset, indexesOffset, tablesOffset, entryName, isSet, columnFrom, columnCount, columnPlace, indexFrom, firstIndexOffset, secondIndexOffset};
 ghost use Rattle.model.specs.Conditions.{idColumn};
 ghost use Rattle.inner.specs.Working.{minimums};
-ghost use Rattle.catalog.specs.Entries.{columnCells, cellNamed};
+ghost use Rattle.catalog.specs.Entries.{columnsAt, entryNamed};
 ghost use Rattle.catalog.specs.Writing.{columnEnd, limitBytes, columnBytes, headBytes};
 
 // Where the parts of a column's entry lie, behind the name.
@@ -182,7 +182,7 @@ pub fn table_count(entry: &Entry) -> u8
 
 // The name in an entry.
 pub fn name_of<'a>(entry: &'a Entry) -> &'a [u8]
-    ensures { λ r. ⌜ now r ≡ cellName (now (entry .entry)) ⌝ }
+    ensures { λ r. ⌜ now r ≡ entryName (now (entry .entry)) ⌝ }
 {
     let t = &entry[..];
     let n = leaf::wide(t[0]);
@@ -194,7 +194,7 @@ pub fn name_of<'a>(entry: &'a Entry) -> &'a [u8]
 
 // The place of a name among the names of entries.
 pub fn named(entries: &[Entry], name: &[u8]) -> Found
-    ensures { λ r. ⌜ r ≡ cellNamed (now (entries .entry)) (now (name .entry)) ⌝ }
+    ensures { λ r. ⌜ r ≡ entryNamed (now (entries .entry)) (now (name .entry)) ⌝ }
 {
     let mut i = 0;
     while i < entries.len() {
@@ -210,7 +210,7 @@ pub fn named(entries: &[Entry], name: &[u8]) -> Found
 // The entries of a table's columns, lent.
 pub fn columns_of<'s>(catalog: &'s Catalog, t: usize) -> &'s [Entry]
     requires { ⌜ (t < mostTables) × (columnCount (now catalog) t ≤ mostColumns) ⌝ }
-    ensures { λ r. ⌜ (now r ≡ columnCells (now (catalog .entry)) t) × (length (now r) ≤ mostColumns) ⌝ }
+    ensures { λ r. ⌜ (now r ≡ columnsAt (now (catalog .entry)) t) × (length (now r) ≤ mostColumns) ⌝ }
 {
     let entries = &catalog[..];
     let k = leaf::wide(catalog[1 + t][WIDTH]);
@@ -345,7 +345,7 @@ pub fn name_entry(name: &Atom) -> Entry
 // The entry of column c of a table, lent.
 pub fn column<'s>(catalog: &'s Catalog, t: usize, c: usize) -> &'s Entry
     requires { ⌜ (t < mostTables) × (c < mostColumns) ⌝ }
-    ensures { λ r. ⌜ now r ≡ getD (now (catalog .entry)) (columnCell t c) [] ⌝ }
+    ensures { λ r. ⌜ now r ≡ getD (now (catalog .entry)) (columnPlace t c) [] ⌝ }
 {
     let entries = &catalog[..];
     &entries[1 + TABLES + COLUMNS * t + c]

@@ -37,7 +37,7 @@ ghost use Rattle.model.specs.Limits.{mostTables};
 ghost use Rattle.model.specs.Scan.{isDigit};
 ghost use Rattle.model.specs.SchemaText.{isLetter, isIdByte, isId};
 ghost use Rattle.model.specs.Value.{fromTwos};
-ghost use Rattle.model.specs.Catalog.{cellName};
+ghost use Rattle.model.specs.Catalog.{entryName};
 ghost use Rattle.catalog.specs.Accepted.{isAccepted};
 ghost use Rattle.catalog.specs.Judging.{isZero, nameFine, refersFine, countsFine, limitsFine, isColumn, rowsFine, slotFine, indexFine, isHead, isDatabase, isBlank, isTable, isUnused, tableFine};
 
@@ -309,7 +309,7 @@ fn are_columns(entries: &[Entry], n: u8) -> bool
 
 // Whether a name is among the names of entries.
 fn is_among(name: &[u8], entries: &[Entry]) -> bool
-    ensures { λ r. ⌜ r ≡ member (now (name .entry)) (map cellName (now (entries .entry))) ⌝ }
+    ensures { λ r. ⌜ r ≡ member (now (name .entry)) (map entryName (now (entries .entry))) ⌝ }
 {
     let mut i = 0;
     while i < entries.len() {
@@ -324,7 +324,7 @@ fn is_among(name: &[u8], entries: &[Entry]) -> bool
 
 // Whether the names of entries are all different.
 fn are_distinct(entries: &[Entry]) -> bool
-    ensures { λ r. ⌜ r ≡ distinct (map cellName (now (entries .entry))) ⌝ }
+    ensures { λ r. ⌜ r ≡ distinct (map entryName (now (entries .entry))) ⌝ }
 {
     let mut i = 0;
     while i < entries.len() {

@@ -13,12 +13,12 @@ ghost use lib.Dec.{leb};
 ghost use lib.ListN.{length, getD};
 ghost use Rattle.model.specs.Base.{all};
 ghost use Rattle.model.specs.Limits.{mostTextBytes, mostIndexColumns, entryCount};
-ghost use Rattle.model.specs.Catalog.{cellName, columnFrom, indexesFrom, columnEntry, databaseFrom, catalogOf};
+ghost use Rattle.model.specs.Catalog.{entryName, columnFrom, indexesFrom, columnEntry, databaseFrom, catalogOf};
 ghost use Rattle.catalog.specs.Tidied.{databaseTidied, tableTidied, Readable};
 
 // The entry of a database, whose name has its place.
 fn database_of(e: &Entry) -> Entry
-    requires { ⌜ length (cellName (now e)) ≤ mostTextBytes ⌝ }
+    requires { ⌜ length (entryName (now e)) ≤ mostTextBytes ⌝ }
     ensures { λ r. ⌜ r ≡ databaseTidied (now (e .entry)) ⌝ }
 {
     // That all its bytes are there is known of the slice.
@@ -28,7 +28,7 @@ fn database_of(e: &Entry) -> Entry
 
 // The entry of a table.
 fn table_of(e: &Entry) -> Entry
-    requires { ⌜ length (cellName (now e)) ≤ mostTextBytes ⌝ }
+    requires { ⌜ length (entryName (now e)) ≤ mostTextBytes ⌝ }
     requires { ⌜ all (λ (l : List ℕ). leb (length l) mostIndexColumns) (indexesFrom (now e)) ≡ true ⌝ }
     ensures { λ r. ⌜ r ≡ tableTidied (now (e .entry)) ⌝ }
 {
@@ -38,7 +38,7 @@ fn table_of(e: &Entry) -> Entry
 
 // The entry of a column.
 fn column_of(e: &Entry) -> Entry
-    requires { ⌜ length (cellName (now e)) ≤ mostTextBytes ⌝ }
+    requires { ⌜ length (entryName (now e)) ≤ mostTextBytes ⌝ }
     ensures { λ r. ⌜ r ≡ columnEntry (columnFrom (now (e .entry))) ⌝ }
 {
     let all = &e[..];

@@ -20,14 +20,14 @@ ghost use Prim.Native.Nat.{_-_, _≤_};
 ghost use lib.ListN.{length, getD, drop, replicate};
 ghost use Rattle.model.specs.Limits.{mostTextBytes, entryBytes, atomBytes};
 ghost use Rattle.model.specs.SchemaText.{baseNumber};
-ghost use Rattle.model.specs.Catalog.{baseNumbered, refersFrom, howRefers, target, cellName, nameBytes, columnFrom, columnEntry};
+ghost use Rattle.model.specs.Catalog.{baseNumbered, refersFrom, howRefers, target, entryName, nameBytes, columnFrom, columnEntry};
 ghost use Rattle.catalog.specs.Tidied.{databaseTidied};
 ghost use Rattle.catalog.specs.Renewed.{knownBytes, twosBytes, restBytes};
 
 // An entry with the name of another and nothing else.
 pub fn named(e: &Entry) -> Entry
     requires { ⌜ getD (now e) 0 0 ≤ mostTextBytes ⌝ }
-    ensures { λ r. ⌜ r ≡ nameBytes (cellName (now (e .entry))) ++ replicate (entryBytes - atomBytes) 0 ⌝ }
+    ensures { λ r. ⌜ r ≡ nameBytes (entryName (now (e .entry))) ++ replicate (entryBytes - atomBytes) 0 ⌝ }
 {
     let mut out = [0u8; ENTRY];
     let t = &e[..];

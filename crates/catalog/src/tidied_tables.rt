@@ -21,7 +21,7 @@ ghost use lib.Dec.{leb};
 ghost use lib.ListN.{length, getD, replicate};
 ghost use Rattle.model.specs.Base.{all};
 ghost use Rattle.model.specs.Limits.{mostTextBytes, mostIndexColumns, entryBytes};
-ghost use Rattle.model.specs.Catalog.{columnsOffset, rootOffset, limitedOffset, indexesOffset, cellName, isSet, indexesFrom, maxRowsFrom, nameBytes, numberOr0};
+ghost use Rattle.model.specs.Catalog.{columnsOffset, rootOffset, limitedOffset, indexesOffset, entryName, isSet, indexesFrom, maxRowsFrom, nameBytes, numberOr0};
 ghost use Rattle.catalog.specs.Writing.{headBytes};
 ghost use Rattle.catalog.specs.Slots.{keptWhere, slotBytes};
 ghost use Rattle.catalog.specs.Tidied.{tableTidied};
@@ -40,7 +40,7 @@ fn most_rows(e: &Entry) -> u64
 // An entry with what stands before the indexes, and nothing else.
 fn headed(e: &Entry) -> Entry
     requires { ⌜ getD (now e) 0 0 ≤ mostTextBytes ⌝ }
-    ensures { λ r. ⌜ r ≡ (nameBytes (cellName (now (e .entry))) ++ headBytes (getD (now (e .entry)) columnsOffset 0) (isSet (now (e .entry)) rootOffset) (isSet (now (e .entry)) limitedOffset) (numberOr0 (maxRowsFrom (now (e .entry))))) ++ replicate (entryBytes - indexesOffset) 0 ⌝ }
+    ensures { λ r. ⌜ r ≡ (nameBytes (entryName (now (e .entry))) ++ headBytes (getD (now (e .entry)) columnsOffset 0) (isSet (now (e .entry)) rootOffset) (isSet (now (e .entry)) limitedOffset) (numberOr0 (maxRowsFrom (now (e .entry))))) ++ replicate (entryBytes - indexesOffset) 0 ⌝ }
 {
     let mut out = named(e);
     let n = width(e);

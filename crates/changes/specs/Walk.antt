@@ -1,14 +1,18 @@
 -- The records of a commit as they are written one after another into a buffer (document 01, "Records on the line"). Assumes nothing: these are definitions.
-use Prim.Native.Nat.{ℕ, suc, _+_, _*_, _≤_}
+use Prim.Native.Nat.{ℕ, suc, _+_, _*_, _≤_, _<_}
 use mathlib.Core.Path.{_≡_}
 use mathlib.Core.Bool.{Bool, true, false}
 use mathlib.Core.List.{List, [], _∷_, _++_}
+use lib.Dec.{ltb}
 use lib.ListN.{length}
-use Rattle.model.specs.Limits.{mostColumns, leastRecords}
+use Rattle.model.specs.Limits.{mostColumns, mostRows, storeBytes, rowRecordBytes, columnRecordBytes, leastRecords}
 use Rattle.model.specs.Schema.{Schema}
 use Rattle.model.specs.Value.{Value, sameValue}
 use Rattle.model.specs.Rows.{Row, key, find}
-use Rattle.model.specs.Records.{Change, gones, never, rowWrites, bornKind, goneKind, columnKind, recordBytes, numbered, encode}
+use Rattle.model.specs.Records.{Change, never, rowWrites, numbered, encode}
+use Rattle.model.specs.declared.Found.{Found}
+use Rattle.model.specs.declared.Found.the-variants.{At, Nothing}
+use Rattle.area.specs.Layout.{rowAt}
 use Rattle.answer.specs.Put.{putAt}
 use Rattle.changes.specs.declared.Cursor.{Cursor}
 
@@ -48,17 +52,26 @@ unfoldable pub skips : Bool → Value → Value → Bool
 skips true = never
 skips false = sameValue
 
--- what a row writes against the other rows: "all gone rows", of those before the commit; "each new row .., each changed row ..", of those after it
-unfoldable pub rowPass : Bool → Schema → List Row → Row → List Change
-rowPass true s others r = gones others (r ∷ [])
-rowPass false s others r = rowWrites s (find (key r) others) r
+-- ── the rows before the commit, which the store's area has ──
+-- a place among them, or none
+unfoldable pub Old : List ℕ → Found → Type 0
+Old a (At i) = (storeBytes ≤ length a) × (i < mostRows)
+Old a Nothing = Unit
 
--- and at most so many bytes: a gone record; a born record and six columns
-unfoldable pub rowMost : Bool → ℕ
-rowMost true = recordBytes goneKind
-rowMost false = recordBytes bornKind + mostColumns * recordBytes columnKind
+-- the row there; where there is none, a new row, of which no column is left out whatever stands here: itself
+unfoldable pub oldCells : List ℕ → Found → List (List ℕ) → List (List ℕ)
+oldCells a (At i) row = rowAt a i
+oldCells a Nothing row = row
 
--- rows, one after another
-abbrev pub pass : Bool → Schema → List Row → List Row → List Change
-pass gone s others [] = []
-pass gone s others (r ∷ rs) = rowPass gone s others r ++ pass gone s others rs
+-- how many rows at the front lie before a key
+abbrev pub fore : ℕ → List Row → ℕ
+fore k [] = 0
+fore k (r ∷ rs) = elim (ltb (key r) k) [ true ↦ suc (fore k rs) | false ↦ 0 ]
+
+-- ── what a row after the commit writes: "each new row .., each changed row .." ──
+unfoldable pub rowWritten : Schema → List Row → Row → List Change
+rowWritten s before r = rowWrites s (find (key r) before) r
+
+-- and at most so many bytes: a born record and six columns
+abbrev pub rowMost : ℕ
+rowMost = rowRecordBytes + mostColumns * columnRecordBytes

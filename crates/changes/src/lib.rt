@@ -1,6 +1,9 @@
 // The change records of a commit: all gone rows, then each new row with all its columns and each changed row with its changed columns, then the end. One walk writes and counts them.
+// The rows before the commit are those that the store's area has until it is written; those after it are working rows. Both are in order.
+use model::COUNTS_OFFSET;
 use model::Catalog;
 use model::Found;
+use model::ID_OFFSET;
 use model::LAST_NUMBER;
 use model::Row;
 use record::Born;
@@ -11,16 +14,18 @@ ghost use mathlib.Core.Path.{_≡_};
 ghost use mathlib.Core.List.{[], _∷_, map};
 ghost use Prim.Native.Nat.{_+_, _*_, _%_, _≤_, _<_, min};
 ghost use lib.ListN.{length};
-ghost use Rattle.model.specs.Limits.{mostRows, mostColumns, lastNumber, endBytes, rowRecordBytes, columnRecordBytes, leastRecords};
+ghost use Rattle.model.specs.Limits.{mostRows, mostColumns, idBytes, storeBytes, lastNumber, endBytes, rowRecordBytes, columnRecordBytes, leastRecords};
 ghost use Rattle.model.specs.Octets.{value, filled};
 ghost use Rattle.model.specs.Base.{flat};
-ghost use Rattle.model.specs.Schema.{columnsOf};
+ghost use Rattle.model.specs.Schema.{Schema, columnsOf};
 ghost use Rattle.model.specs.Areas.{rowFrom};
 ghost use Rattle.model.specs.Catalog.{packedTables};
-ghost use Rattle.inner.specs.Working.{working, tableIn, idIn, valueIn};
-ghost use Rattle.model.specs.Records.{born, gone, column, end, writes, diff, numberFrom, encode};
+ghost use Rattle.inner.specs.Positions.{isNothing};
+ghost use Rattle.inner.specs.Working.{working, tableIn, idIn, keyIn, valueIn, Ordered, place};
+ghost use Rattle.area.specs.Layout.{rowsAt};
+ghost use Rattle.model.specs.Records.{born, gone, column, end, gones, writes, walk, diff, numberFrom, encode};
 ghost use Rattle.catalog.specs.Accepted.{Accepted};
-ghost use Rattle.changes.specs.Walk.{Room, Recorded, skips, rowPass, pass, rowMost};
+ghost use Rattle.changes.specs.Walk.{Room, Recorded, Old, oldCells, skips, fore, rowWritten, rowMost};
 
 // Where the next record goes: how many there are already, and where their bytes end.
 pub struct Cursor {
@@ -39,30 +44,30 @@ fn next(number: u32, count: usize) -> u32
     ((number as usize + count + 1) % NUMBERS) as u32
 }
 
-// A row that went.
-fn put_gone(row: &Row, run: u32, number: u32, to: Cursor, records: &mut [u8]) -> Cursor
+// A row that went, by its table and id.
+fn put_gone(table: u8, id: &[u8], run: u32, number: u32, to: Cursor, records: &mut [u8]) -> Cursor
+    requires { ⌜ length (now id) ≡ idBytes ⌝ }
     requires { ⌜ Room rowRecordBytes to (length (now records)) ⌝ }
-    ensures { λ r. ⌜ Recorded run number (gone (tableIn (now (row .entry))) (idIn (now (row .entry))) ∷ []) rowRecordBytes to (now (records .entry)) r (now (records .exit)) ⌝ }
+    ensures { λ r. ⌜ Recorded run number (gone table (value (now (id .entry))) ∷ []) rowRecordBytes to (now (records .entry)) r (now (records .exit)) ⌝ }
 {
     let at = to.at;
     let n = next(number, to.count);
-    let table = rows::table_of(row);
-    Gone::new(run, n, table).write(rows::id_of(row), &mut records[at..]);
+    Gone::new(run, n, table).write(id, &mut records[at..]);
     Cursor {
         count: to.count + 1,
         at: at + Gone::LEN,
     }
 }
 
-// A new row.
-fn put_born(row: &Row, run: u32, number: u32, to: Cursor, records: &mut [u8]) -> Cursor
+// A new row, by its table and id.
+fn put_born(table: u8, id: &[u8], run: u32, number: u32, to: Cursor, records: &mut [u8]) -> Cursor
+    requires { ⌜ length (now id) ≡ idBytes ⌝ }
     requires { ⌜ Room rowRecordBytes to (length (now records)) ⌝ }
-    ensures { λ r. ⌜ Recorded run number (born (tableIn (now (row .entry))) (idIn (now (row .entry))) ∷ []) rowRecordBytes to (now (records .entry)) r (now (records .exit)) ⌝ }
+    ensures { λ r. ⌜ Recorded run number (born table (value (now (id .entry))) ∷ []) rowRecordBytes to (now (records .entry)) r (now (records .exit)) ⌝ }
 {
     let at = to.at;
     let n = next(number, to.count);
-    let table = rows::table_of(row);
-    Born::new(run, n, table).write(rows::id_of(row), &mut records[at..]);
+    Born::new(run, n, table).write(id, &mut records[at..]);
     Cursor {
         count: to.count + 1,
         at: at + Born::LEN,
@@ -101,23 +106,39 @@ fn put_end(run: u32, number: u32, to: Cursor, records: &mut [u8]) -> Cursor
     }
 }
 
-// Whether column c of a row is left out: never of a fresh row, and of another where it is like before.
-fn is_left(fresh: bool, old: &Row, row: &Row, c: usize) -> bool
+// Whether column c of a row is left out: never of a new row, and of one that the area has at a place where it is like there.
+fn is_left(area: &[u8], old: Found, row: &Row, c: usize) -> bool
+    requires { ⌜ Old (now area) old ⌝ }
     requires { ⌜ c < mostColumns ⌝ }
-    ensures { λ r. ⌜ r ≡ skips fresh (valueIn c (now (old .entry))) (valueIn c (now (row .entry))) ⌝ }
+    ensures { λ r. ⌜ r ≡ skips (isNothing old) (valueIn c (oldCells (now (area .entry)) old (now (row .entry)))) (valueIn c (now (row .entry))) ⌝ }
 {
-    if fresh {
-        return false;
+    match old {
+        Found::At(i) => area::same_column(area, i, row, c),
+        Found::Nothing => false,
     }
-    rows::same_column(old, row, c)
 }
 
-// How many columns both rows have.
-fn width_of(schema: &Catalog, old: &Row, row: &Row) -> usize
-    requires { ⌜ Accepted (now schema) ⌝ }
-    ensures { λ r. ⌜ r ≡ min (length (columnsOf (packedTables (now (schema .entry))) (tableIn (now (old .entry))))) (length (columnsOf (packedTables (now (schema .entry))) (tableIn (now (row .entry))))) ⌝ }
+// The table of a row before the commit.
+fn table_of(area: &[u8], old: Found, row: &Row) -> u8
+    requires { ⌜ Old (now area) old ⌝ }
+    ensures { λ r. ⌜ r ≡ tableIn (oldCells (now (area .entry)) old (now (row .entry))) ⌝ }
 {
-    let w = references::width(schema, rows::table_of(old));
+    match old {
+        Found::At(i) => {
+            let key = area::key_at(area, i);
+            key[0]
+        }
+        Found::Nothing => rows::table_of(row),
+    }
+}
+
+// How many columns a row has both before and after the commit.
+fn width_of(schema: &Catalog, area: &[u8], old: Found, row: &Row) -> usize
+    requires { ⌜ Accepted (now schema) ⌝ }
+    requires { ⌜ Old (now area) old ⌝ }
+    ensures { λ r. ⌜ r ≡ min (length (columnsOf (packedTables (now (schema .entry))) (tableIn (oldCells (now (area .entry)) old (now (row .entry)))))) (length (columnsOf (packedTables (now (schema .entry))) (tableIn (now (row .entry))))) ⌝ }
+{
+    let w = references::width(schema, table_of(area, old, row));
     let x = references::width(schema, rows::table_of(row));
     if x < w {
         return x;
@@ -125,11 +146,11 @@ fn width_of(schema: &Catalog, old: &Row, row: &Row) -> usize
     w
 }
 
-// The columns of a row in schema order: all of a fresh row, the changed ones of another.
+// The columns of a row in schema order: all of a new row, the changed ones of one that the area has.
 fn put_columns(
     schema: &Catalog,
-    fresh: bool,
-    old: &Row,
+    area: &[u8],
+    old: Found,
     row: &Row,
     run: u32,
     number: u32,
@@ -137,14 +158,15 @@ fn put_columns(
     records: &mut [u8],
 ) -> Cursor
     requires { ⌜ Accepted (now schema) ⌝ }
+    requires { ⌜ Old (now area) old ⌝ }
     requires { ⌜ Room (mostColumns * columnRecordBytes) start (length (now records)) ⌝ }
-    ensures { λ r. ⌜ Recorded run number (writes (skips fresh) (tableIn (now (row .entry))) (idIn (now (row .entry))) 0 (rowFrom (packedTables (now (schema .entry))) (now (old .entry)) .columns) (rowFrom (packedTables (now (schema .entry))) (now (row .entry)) .columns)) (mostColumns * columnRecordBytes) start (now (records .entry)) r (now (records .exit)) ⌝ }
+    ensures { λ r. ⌜ Recorded run number (writes (skips (isNothing old)) (tableIn (now (row .entry))) (idIn (now (row .entry))) 0 (rowFrom (packedTables (now (schema .entry))) (oldCells (now (area .entry)) old (now (row .entry))) .columns) (rowFrom (packedTables (now (schema .entry))) (now (row .entry)) .columns)) (mostColumns * columnRecordBytes) start (now (records .entry)) r (now (records .exit)) ⌝ }
 {
-    let w = width_of(schema, old, row);
+    let w = width_of(schema, area, old, row);
     let mut to = start;
     let mut c = 0;
     while c < w {
-        if !is_left(fresh, old, row, c) {
+        if !is_left(area, old, row, c) {
             let past = put_column(row, c, run, number, to, records);
             to = past;
         }
@@ -153,75 +175,139 @@ fn put_columns(
     to
 }
 
-// What a row writes against the other rows. Of a row before the commit: that it is gone, where those after it lack it.
-// Of a row after the commit: born with all its columns, where those before it lack it, else its changed columns.
+// The rows of an area that are gone: those that the rows after the commit lack.
+fn put_gones(
+    area: &[u8],
+    m: usize,
+    after: &[Row],
+    n: usize,
+    run: u32,
+    number: u32,
+    start: Cursor,
+    records: &mut [u8],
+) -> Cursor
+    requires { ⌜ (storeBytes ≤ length (now area)) × (m ≤ mostRows) ⌝ }
+    requires { ⌜ Ordered n (now after) ⌝ }
+    requires { ⌜ Room (rowRecordBytes * m) start (length (now records)) ⌝ }
+    ensures { λ r. ⌜ ((s : Schema) → Recorded run number (gones (working s n (now (after .entry))) (working s m (rowsAt m (now (area .entry))))) (rowRecordBytes * m) start (now (records .entry)) r (now (records .exit))) ⌝ }
+{
+    let mut to = start;
+    let mut i = 0;
+    while i < m {
+        let key = area::key_at(area, i);
+        let table = key[0];
+        let id = &key[ID_OFFSET..COUNTS_OFFSET];
+        if !rows::has_key(after, n, table, id) {
+            let past = put_gone(table, id, run, number, to, records);
+            to = past;
+        }
+        i += 1;
+    }
+    to
+}
+
+// The place of the first row of an area, from j on, that does not lie before a row.
+fn skip(area: &[u8], m: usize, j: usize, row: &Row) -> usize
+    requires { ⌜ (storeBytes ≤ length (now area)) × (m ≤ mostRows) ⌝ }
+    requires { ⌜ ((s : Schema) → j ≤ fore (keyIn (now row)) (working s m (rowsAt m (now area)))) ⌝ }
+    ensures { λ r. ⌜ ((s : Schema) → r ≡ fore (keyIn (now (row .entry))) (working s m (rowsAt m (now (area .entry))))) ⌝ }
+{
+    let key = rows::key_of(row);
+    let mut k = j;
+    while k < m {
+        if !rows::less_keys(area::key_at(area, k), key) {
+            return k;
+        }
+        k += 1;
+    }
+    k
+}
+
+// Where an area has a row, if it has it: at the place of the first that does not lie before it.
+fn old_place(area: &[u8], m: usize, at: usize, row: &Row) -> Found
+    requires { ⌜ (storeBytes ≤ length (now area)) × (m ≤ mostRows) ⌝ }
+    requires { ⌜ Ordered m (rowsAt m (now area)) ⌝ }
+    requires { ⌜ ((s : Schema) → at ≡ fore (keyIn (now row)) (working s m (rowsAt m (now area)))) ⌝ }
+    ensures { λ r. ⌜ ((s : Schema) → r ≡ place (keyIn (now (row .entry))) (working s m (rowsAt m (now (area .entry))))) ⌝ }
+{
+    if m <= at {
+        return Found::Nothing;
+    }
+    if rows::same_keys(
+        rows::table_of(row),
+        rows::id_of(row),
+        area::key_at(area, at),
+    ) {
+        return Found::At(at);
+    }
+    Found::Nothing
+}
+
+// What a row after the commit writes: born with all its columns, where the area lacks it, else its changed columns.
 fn put_row(
-    gone: bool,
     schema: &Catalog,
+    area: &[u8],
+    m: usize,
+    old: Found,
     row: &Row,
-    others: &[Row],
-    k: usize,
     run: u32,
     number: u32,
     to: Cursor,
     records: &mut [u8],
 ) -> Cursor
     requires { ⌜ Accepted (now schema) ⌝ }
-    requires { ⌜ k ≤ length (now others) ⌝ }
-    requires { ⌜ Room (rowMost gone) to (length (now records)) ⌝ }
-    ensures { λ r. ⌜ Recorded run number (rowPass gone (packedTables (now (schema .entry))) (working (packedTables (now (schema .entry))) k (now (others .entry))) (rowFrom (packedTables (now (schema .entry))) (now (row .entry)))) (rowMost gone) to (now (records .entry)) r (now (records .exit)) ⌝ }
+    requires { ⌜ (storeBytes ≤ length (now area)) × (m ≤ mostRows) ⌝ }
+    requires { ⌜ old ≡ place (keyIn (now row)) (working (packedTables (now schema)) m (rowsAt m (now area))) ⌝ }
+    requires { ⌜ Room rowMost to (length (now records)) ⌝ }
+    ensures { λ r. ⌜ Recorded run number (rowWritten (packedTables (now (schema .entry))) (working (packedTables (now (schema .entry))) m (rowsAt m (now (area .entry)))) (rowFrom (packedTables (now (schema .entry))) (now (row .entry)))) rowMost to (now (records .entry)) r (now (records .exit)) ⌝ }
 {
-    let found = rows::find_row(others, k, row);
-    match found {
-        Found::At(i) => {
-            if gone {
-                return to;
-            }
-            put_columns(schema, false, &others[i], row, run, number, to, records)
-        }
+    match old {
+        Found::At(_) => put_columns(schema, area, old, row, run, number, to, records),
         Found::Nothing => {
-            if gone {
-                return put_gone(row, run, number, to, records);
-            }
-            let past = put_born(row, run, number, to, records);
-            put_columns(schema, true, row, row, run, number, past, records)
+            let table = rows::table_of(row);
+            let past = put_born(table, rows::id_of(row), run, number, to, records);
+            put_columns(schema, area, old, row, run, number, past, records)
         }
     }
 }
 
-// What rows write against the other rows, in their order: the gone ones of the rows before the commit, or the new and the changed ones of those after it.
+// The new and the changed rows after the commit. Rows and area are both in order: one walk over both.
 fn put_rows(
-    gone: bool,
     schema: &Catalog,
-    rows: &[Row],
+    area: &[u8],
+    m: usize,
+    after: &[Row],
     n: usize,
-    others: &[Row],
-    k: usize,
     run: u32,
     number: u32,
     start: Cursor,
     records: &mut [u8],
 ) -> Cursor
     requires { ⌜ Accepted (now schema) ⌝ }
-    requires { ⌜ (n ≤ length (now rows)) × (k ≤ length (now others)) ⌝ }
-    requires { ⌜ Room (rowMost gone * n) start (length (now records)) ⌝ }
-    ensures { λ r. ⌜ Recorded run number (pass gone (packedTables (now (schema .entry))) (working (packedTables (now (schema .entry))) k (now (others .entry))) (working (packedTables (now (schema .entry))) n (now (rows .entry)))) (rowMost gone * n) start (now (records .entry)) r (now (records .exit)) ⌝ }
+    requires { ⌜ (storeBytes ≤ length (now area)) × (m ≤ mostRows) ⌝ }
+    requires { ⌜ Ordered m (rowsAt m (now area)) × Ordered n (now after) ⌝ }
+    requires { ⌜ Room (rowMost * n) start (length (now records)) ⌝ }
+    ensures { λ r. ⌜ Recorded run number (walk (packedTables (now (schema .entry))) (working (packedTables (now (schema .entry))) m (rowsAt m (now (area .entry)))) (working (packedTables (now (schema .entry))) n (now (after .entry)))) (rowMost * n) start (now (records .entry)) r (now (records .exit)) ⌝ }
 {
     let mut to = start;
+    let mut j = 0;
     let mut i = 0;
     while i < n {
-        let past = put_row(gone, schema, &rows[i], others, k, run, number, to, records);
+        let at = skip(area, m, j, &after[i]);
+        let old = old_place(area, m, at, &after[i]);
+        let past = put_row(schema, area, m, old, &after[i], run, number, to, records);
         to = past;
+        j = at;
         i += 1;
     }
     to
 }
 
-// The records of a commit from the rows before it to the rows after it, numbered on from `number`, and zeros behind them; and how many they are.
+// The records of a commit from the rows that an area has to the rows after it, numbered on from `number`, and zeros behind them; and how many they are.
 // Their numbers are as their bytes hold them: where more are asked for than are left, the caller refuses.
 pub fn write(
     schema: &Catalog,
-    before: &[Row],
+    area: &[u8],
     m: usize,
     after: &[Row],
     n: usize,
@@ -230,14 +316,15 @@ pub fn write(
     records: &mut [u8],
 ) -> usize
     requires { ⌜ Accepted (now schema) ⌝ }
-    requires { ⌜ (m ≤ length (now before)) × (n ≤ length (now after)) × (m ≤ mostRows) × (n ≤ mostRows) × (leastRecords ≤ length (now records)) ⌝ }
-    ensures { λ r. ⌜ r ≡ length (diff (packedTables (now (schema .entry))) (working (packedTables (now (schema .entry))) m (now (before .entry))) (working (packedTables (now (schema .entry))) n (now (after .entry)))) ⌝ }
-    ensures { λ _. ⌜ now (records .exit) ≡ filled (length (now (records .entry))) (flat (map encode (numberFrom run number (diff (packedTables (now (schema .entry))) (working (packedTables (now (schema .entry))) m (now (before .entry))) (working (packedTables (now (schema .entry))) n (now (after .entry))))))) ⌝ }
+    requires { ⌜ (storeBytes ≤ length (now area)) × (m ≤ mostRows) × (n ≤ mostRows) × (leastRecords ≤ length (now records)) ⌝ }
+    requires { ⌜ Ordered m (rowsAt m (now area)) × Ordered n (now after) ⌝ }
+    ensures { λ r. ⌜ r ≡ length (diff (packedTables (now (schema .entry))) (working (packedTables (now (schema .entry))) m (rowsAt m (now (area .entry)))) (working (packedTables (now (schema .entry))) n (now (after .entry)))) ⌝ }
+    ensures { λ _. ⌜ now (records .exit) ≡ filled (length (now (records .entry))) (flat (map encode (numberFrom run number (diff (packedTables (now (schema .entry))) (working (packedTables (now (schema .entry))) m (rowsAt m (now (area .entry)))) (working (packedTables (now (schema .entry))) n (now (after .entry))))))) ⌝ }
 {
     octets::clear(records);
     let to = Cursor { count: 0, at: 0 };
-    let to = put_rows(true, schema, before, m, after, n, run, number, to, records);
-    let to = put_rows(false, schema, after, n, before, m, run, number, to, records);
+    let to = put_gones(area, m, after, n, run, number, to, records);
+    let to = put_rows(schema, area, m, after, n, run, number, to, records);
     if to.count == 0 {
         return 0;
     }

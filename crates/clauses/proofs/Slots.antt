@@ -29,7 +29,7 @@ use Rattle.model.proofs.Tests.{split, clash}
 use Rattle.model.proofs.Atoms.{textOf-textAtom}
 use Rattle.nav.proofs.FirstByte.{items-in}
 use Rattle.names.specs.Names.{nameCell, shortCell}
-use Rattle.names.proofs.Ids.{id-none, id-long}
+use Rattle.catalog.proofs.Ids.{id-none, id-long}
 use Rattle.fields.specs.Fields.{slotTree, Slots}
 use Rattle.fields.proofs.Kept.{slot-some}
 use Rattle.uuids.specs.Named.{namesAt, operationsAt, placeNamed}

@@ -114,7 +114,7 @@ pub fn name_fault(text: &[u8], ends: &[u16], ops: Found, i: usize, p: usize) -> 
     if t {
         let cell = names::name_at(text, p);
         let name = atom::text_of(&cell);
-        let id = names::is_id(name);
+        let id = catalog::rules::is_id(name);
         if id {
             return taken_fault(text, ends, ops, i, name);
         }

@@ -19,7 +19,7 @@ use Rattle.model.specs.Members.{membersIn, hasMember, memberValue}
 use Rattle.model.specs.Whole.{wholeInt}
 use Rattle.model.specs.Value.{textOf, fromTwos}
 use Rattle.model.specs.Catalog.{baseNumbered}
-use Rattle.model.specs.Catalog.{cellName, isSet, refersFrom, columnFrom, bit}
+use Rattle.model.specs.Catalog.{entryName, isSet, refersFrom, columnFrom, bit}
 use Rattle.model.specs.SchemaText.{must, isId, isBool, truthOr, keyMembers, keyBase, typeMembers, typeTests, typeFits, minOf, maxOf, lowOf, highOf, columnFits, columnOf}
 use Rattle.model.proofs.Tests.{split, clash, and-l, and-r, parts}
 use Rattle.nav.proofs.Rest.{member-is, member-well}
@@ -93,7 +93,7 @@ module _ (name : List ℕ) (size : length name ≡ 25) (t : Shape) (m : Bool) (r
   unfolding shapeBytes limitBytes
   high-at = ap (take 8) (bytes-from 14)
 
-name-read : (name rest : List ℕ) → length name ≡ 25 → getD name 0 0 ≤ 24 → cellName (name ++ rest) ≡ textOf name
+name-read : (name rest : List ℕ) → length name ≡ 25 → getD name 0 0 ≤ 24 → entryName (name ++ rest) ≡ textOf name
 name-read [] rest l h = absurd (omega arith)
 name-read (x ∷ xs) rest l h = take-append-le x xs rest (omega arith)
 
@@ -157,7 +157,7 @@ module _ (s : List ℕ) (tables : List (List ℕ)) (c : Named) (f : List ℕ) (k
     column-is name rest size short is =
         let m : Bool = truthOr true (slotTree s (slot 2)) in
         let cell : List ℕ = (name ++ shapeBytes t m) ++ rest in
-        let p0 : cellName cell ≡ c .name = ap cellName (append-assoc name (shapeBytes t m) rest) ∙ name-read name (shapeBytes t m ++ rest) size short ∙ is in
+        let p0 : entryName cell ≡ c .name = ap entryName (append-assoc name (shapeBytes t m) rest) ∙ name-read name (shapeBytes t m ++ rest) size short ∙ is in
         let p1 : baseNumbered (getD cell 25 0) ≡ keyBase ks = ap baseNumbered (base-at name size t m rest) ∙ key-is .base in
         let p2 : refersFrom (getD cell 26 0) (getD cell 27 0) ≡ columnOf tables c .refers = (λ i. refersFrom (how-at name size t m rest i) (target-at name size t m rest i)) ∙ key-is .refers key-good in
         let p3 : getD cell 28 0 ≡ minOf ts = min-at name size t m rest ∙ ap small (type-is .min) ∙ small-is (minOf ts) (few .0) in

@@ -23,7 +23,7 @@ use Rattle.model.proofs.Tests.{split, clash}
 use Rattle.nav.proofs.Rest.{members-fine}
 use Rattle.nav.proofs.Walk.{members-in, pass-end, pass-rest, pass-fine, pass-name}
 use Rattle.names.specs.Names.{shortCell, nameCell}
-use Rattle.names.proofs.Ids.{id-none}
+use Rattle.catalog.proofs.Ids.{id-none}
 use Rattle.types.proofs.Tables.{Cell, short, long, cell-of}
 use Rattle.columns.specs.Parts.{memberOf, partsFew, Collected}
 

@@ -22,7 +22,7 @@ ghost use Rattle.model.specs.Json.{memberAt, valueAt};
 ghost use Rattle.inner.specs.Positions.{Says, wellAt, treeAt, membersFrom, membersFine};
 ghost use Rattle.model.specs.Nav.{isRead};
 ghost use Rattle.model.specs.Members.{hasMember};
-ghost use Rattle.model.specs.Catalog.{cellName};
+ghost use Rattle.model.specs.Catalog.{entryName};
 ghost use Rattle.catalog.specs.Writing.{columnEnd};
 ghost use Rattle.model.specs.SchemaText.{isId};
 ghost use Rattle.columns.specs.Parts.{memberOf, Collected};
@@ -88,9 +88,9 @@ fn no_type() -> Shape
 fn type_in(text: &[u8], ends: &[u16], tables: &[Entry], p: usize) -> Shape
     requires { ⌜ Says (now text) (now ends) ⌝ }
     requires { ⌜ (eqb p 0 ≡ false → wellAt (now text) p ≡ true) ⌝ }
-    requires { ⌜ all isId (map cellName (now tables)) ≡ true ⌝ }
+    requires { ⌜ all isId (map entryName (now tables)) ≡ true ⌝ }
     requires { ⌜ length (now tables) ≤ mostTables ⌝ }
-    ensures { λ r. ⌜ TypeIn (now (text .entry)) (map cellName (now (tables .entry))) p r ⌝ }
+    ensures { λ r. ⌜ TypeIn (now (text .entry)) (map entryName (now (tables .entry))) p r ⌝ }
 {
     if p == 0 {
         return no_type();
@@ -120,9 +120,9 @@ fn column_fits(text: &[u8], f: Places, typed: bool) -> bool
 fn read_column(text: &[u8], ends: &[u16], at: usize, tables: &[Entry]) -> Read
     requires { ⌜ Says (now text) (now ends) ⌝ }
     requires { ⌜ isRead (memberAt (valueAt 12 (now text)) (now text) at .read) ≡ true ⌝ }
-    requires { ⌜ all isId (map cellName (now tables)) ≡ true ⌝ }
+    requires { ⌜ all isId (map entryName (now tables)) ≡ true ⌝ }
     requires { ⌜ length (now tables) ≤ mostTables ⌝ }
-    ensures { λ r. ⌜ ColumnRead (map cellName (now (tables .entry))) (memberOf (now (text .entry)) at) r ⌝ }
+    ensures { λ r. ⌜ ColumnRead (map entryName (now (tables .entry))) (memberOf (now (text .entry)) at) r ⌝ }
 {
     let name = names::name_at(text, at);
     let v = nav::member_value(text, at);
@@ -146,12 +146,12 @@ fn put_columns(
 ) -> bool
     requires { ⌜ Says (now text) (now ends) ⌝ }
     requires { ⌜ ((i : ℕ) → i < n → isRead (memberAt (valueAt 12 (now text)) (now text) (getD (now places) i 0) .read) ≡ true) ⌝ }
-    requires { ⌜ all isId (map cellName (now tables)) ≡ true ⌝ }
+    requires { ⌜ all isId (map entryName (now tables)) ≡ true ⌝ }
     requires { ⌜ length (now tables) ≤ mostTables ⌝ }
     requires { ⌜ n ≤ mostColumns ⌝ }
     requires { ⌜ n ≤ length (now places) ⌝ }
     requires { ⌜ mostColumns ≤ length (now cells) ⌝ }
-    ensures { λ r. ⌜ ColumnsPut (now (text .entry)) (map cellName (now (tables .entry))) n (now (places .entry)) r (now (cells .entry)) (now (cells .exit)) ⌝ }
+    ensures { λ r. ⌜ ColumnsPut (now (text .entry)) (map entryName (now (tables .entry))) n (now (places .entry)) r (now (cells .entry)) (now (cells .exit)) ⌝ }
 {
     let mut good = true;
     let mut i = 0;
@@ -204,7 +204,7 @@ pub fn collect(text: &[u8], ends: &[u16], at: usize, most: usize, places: &mut [
                 Found::At(p) => {
                     let name = names::name_at(text, p);
                     let w = atom::text_of(&name);
-                    let id = names::is_id(w);
+                    let id = catalog::rules::is_id(w);
                     let rest = nav::next_member(text, ends, p);
                     if id {
                         let again = has_from(text, ends, rest, w);
@@ -237,10 +237,10 @@ pub fn read_columns(
 ) -> usize
     requires { ⌜ Says (now text) (now ends) ⌝ }
     requires { ⌜ wellAt (now text) at ≡ true ⌝ }
-    requires { ⌜ all isId (map cellName (now tables)) ≡ true ⌝ }
+    requires { ⌜ all isId (map entryName (now tables)) ≡ true ⌝ }
     requires { ⌜ length (now tables) ≤ mostTables ⌝ }
     requires { ⌜ mostColumns ≤ length (now cells) ⌝ }
-    ensures { λ r. ⌜ ColumnsRead (map cellName (now (tables .entry))) (treeAt (now (text .entry)) at) r (now (cells .entry)) (now (cells .exit)) ⌝ }
+    ensures { λ r. ⌜ ColumnsRead (map entryName (now (tables .entry))) (treeAt (now (text .entry)) at) r (now (cells .entry)) (now (cells .exit)) ⌝ }
 {
     let mut places = [0usize; COLUMNS];
     let n = collect(text, ends, at, COLUMNS, &mut places);

@@ -32,7 +32,7 @@ module _ (s : Schema) (n : ℕ) (entry : List (List (List ℕ))) where
   pub commit-missing : all (referred s 1 rows) rows ≡ false → Committed s n entry entry (record { fault = Integrity; count = n })
   commit-missing e =
       let f : allFound s rows ≡ false = sym (strong-is s rows) ∙ e in
-      record { fault = rw f; rows = λ q. absurd (clash false q refl); few = omega arith; tidy = λ t q. absurd (clash false q refl) }
+      record { fault = rw f; rows = λ q. absurd (clash false q refl); few = omega arith; tidy = λ t q. absurd (clash false q refl); ordered = λ q. absurd (clash false q refl) }
 
   module _ (m : ℕ) (mid exit : List (List (List ℕ))) (h : n ≤ length entry) (found : all (referred s 1 rows) rows ≡ true) (c : Collected s n m entry mid) (w : Weakened s m mid exit) where
     left : working s m exit ≡ settled s rows
@@ -45,7 +45,7 @@ module _ (s : Schema) (n : ℕ) (entry : List (List (List ℕ))) where
       pub commit-few : Committed s n entry exit (record { fault = Constraint; count = m })
       commit-few =
           let e : allEnough s (settled s rows) ≡ false = ap (allEnough s) (sym left) ∙ enough in
-          record { fault = rw (strong, e); rows = λ q. absurd (clash false q refl); few = c .few; tidy = λ t q. absurd (clash false q refl) }
+          record { fault = rw (strong, e); rows = λ q. absurd (clash false q refl); few = c .few; tidy = λ t q. absurd (clash false q refl); ordered = λ q. absurd (clash false q refl) }
 
     module _ (enough : allEnough s (working s m exit) ≡ true) where
       e : allEnough s (settled s rows) ≡ true
@@ -54,12 +54,12 @@ module _ (s : Schema) (n : ℕ) (entry : List (List (List ℕ))) where
       pub commit-over : tablesGood 0 s (working s m exit) ≡ false → Committed s n entry exit (record { fault = Constraint; count = m })
       commit-over good =
           let g : tablesGood 0 s (settled s rows) ≡ false = ap (tablesGood 0 s) (sym left) ∙ good in
-          record { fault = rw (strong, e, g); rows = λ q. absurd (clash false q refl); few = c .few; tidy = λ t q. absurd (clash false q refl) }
+          record { fault = rw (strong, e, g); rows = λ q. absurd (clash false q refl); few = c .few; tidy = λ t q. absurd (clash false q refl); ordered = λ q. absurd (clash false q refl) }
 
       pub commit-fine : tablesGood 0 s (working s m exit) ≡ true → Committed s n entry exit (record { fault = Fine; count = m })
       commit-fine good =
           let g : tablesGood 0 s (settled s rows) ≡ true = ap (tablesGood 0 s) (sym left) ∙ good in
-          record { fault = rw (strong, e, g); rows = λ q. left; few = c .few; tidy = λ t q. w .tidy (c .tidy t) }
+          record { fault = rw (strong, e, g); rows = λ q. left; few = c .few; tidy = λ t q. w .tidy (c .tidy t); ordered = λ q. w .ordered }
 
 -- ── good order ──
 module _ (s : Schema) (rows : List Row) where

@@ -7,7 +7,7 @@ use lib.ListN.{take}
 use Rattle.model.specs.Faults.{isFine}
 use Rattle.model.specs.Schema.{Schema}
 use Rattle.model.specs.Commit.{commit}
-use Rattle.inner.specs.Working.{working, Tidy}
+use Rattle.inner.specs.Working.{working, Tidy, Ordered}
 use Rattle.commit.specs.declared.Settled.{Settled}
 
 -- "what happens at the commit": the fault of the four steps over the first n rows, and the rows after them where it is Fine
@@ -16,3 +16,4 @@ pub record Committed (s : Schema) (n : ℕ) (entry exit : List (List (List ℕ))
   pub rows : isFine (r .fault) ≡ true → working s (r .count) exit ≡ commit s (working s n entry) .got
   pub few : r .count ≤ n
   pub tidy : Tidy s (take n entry) → isFine (r .fault) ≡ true → Tidy s (take (r .count) exit)
+  pub ordered : isFine (r .fault) ≡ true → Ordered (r .count) exit

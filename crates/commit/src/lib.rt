@@ -9,7 +9,7 @@ ghost use lib.ListN.{length};
 ghost use Rattle.model.specs.Base.{any, all};
 ghost use Rattle.model.specs.Commit.{loose, lawful};
 ghost use Rattle.model.specs.Catalog.{packedTables};
-ghost use Rattle.inner.specs.Working.{working};
+ghost use Rattle.inner.specs.Working.{working, Ordered};
 ghost use Rattle.references.specs.Links.{referred};
 ghost use Rattle.catalog.specs.Accepted.{Accepted};
 ghost use Rattle.commit.specs.Steps.{Committed};
@@ -23,7 +23,7 @@ pub struct Settled {
 // Whether every row that the rows refer to, strongly (how 1) or weakly (how 2), is there.
 fn all_found(schema: &Catalog, how: u8, rows: &[Row], n: usize) -> bool
     requires { ⌜ Accepted (now schema) ⌝ }
-    requires { ⌜ n ≤ length (now rows) ⌝ }
+    requires { ⌜ Ordered n (now rows) ⌝ }
     ensures { λ r. ⌜ r ≡ all (referred (packedTables (now (schema .entry))) how (working (packedTables (now (schema .entry))) n (now (rows .entry)))) (working (packedTables (now (schema .entry))) n (now (rows .entry))) ⌝ }
 {
     let mut i = 0;
@@ -55,7 +55,7 @@ fn any_loose(schema: &Catalog, rows: &[Row], n: usize) -> bool
 // The four steps of a commit on the first n rows.
 pub fn commit(schema: &Catalog, rows: &mut [Row], n: usize) -> Settled
     requires { ⌜ Accepted (now schema) ⌝ }
-    requires { ⌜ n ≤ length (now rows) ⌝ }
+    requires { ⌜ Ordered n (now rows) ⌝ }
     ensures { λ r. ⌜ Committed (packedTables (now (schema .entry))) n (now (rows .entry)) (now (rows .exit)) r ⌝ }
 {
     if !all_found(schema, 1, rows, n) {
@@ -87,7 +87,7 @@ pub fn commit(schema: &Catalog, rows: &mut [Row], n: usize) -> Settled
 // Whether every commit rule holds of the first n rows.
 pub fn lawful(schema: &Catalog, rows: &[Row], n: usize) -> bool
     requires { ⌜ Accepted (now schema) ⌝ }
-    requires { ⌜ n ≤ length (now rows) ⌝ }
+    requires { ⌜ Ordered n (now rows) ⌝ }
     ensures { λ r. ⌜ r ≡ lawful (packedTables (now (schema .entry))) (working (packedTables (now (schema .entry))) n (now (rows .entry))) ⌝ }
 {
     if !all_found(schema, 1, rows, n) {

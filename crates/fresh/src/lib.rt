@@ -10,7 +10,7 @@ ghost use Rattle.model.specs.Limits.{idBytes, mostOperations, freshBytes};
 ghost use Rattle.model.specs.Octets.{value};
 ghost use Rattle.model.specs.Base.{any};
 ghost use Rattle.model.specs.Schema.{Schema};
-ghost use Rattle.inner.specs.Working.{working};
+ghost use Rattle.inner.specs.Working.{working, Ordered};
 ghost use Rattle.fresh.specs.Fresh.{freshFrom, FreshId, idGood, freshGood};
 
 // Whether two ids are the same number.
@@ -52,7 +52,7 @@ fn among(fresh: &[u8], k: usize, id: &[u8]) -> bool
 fn id_good(fresh: &[u8], k: usize, rows: &[Row], n: usize) -> bool
     requires { ⌜ length (now fresh) ≡ freshBytes ⌝ }
     requires { ⌜ k < mostOperations ⌝ }
-    requires { ⌜ n ≤ length (now rows) ⌝ }
+    requires { ⌜ Ordered n (now rows) ⌝ }
     ensures { λ r. ⌜ ((s : Schema) → r ≡ idGood (freshFrom k (now (fresh .entry))) (working s n (now (rows .entry)))) ⌝ }
 {
     let id = id_at(fresh, k);
@@ -67,7 +67,7 @@ fn id_good(fresh: &[u8], k: usize, rows: &[Row], n: usize) -> bool
 
 // Whether all fresh ids may be given.
 pub fn ids_good(fresh: &[u8], rows: &[Row], n: usize) -> bool
-    requires { ⌜ (length (now fresh) ≡ freshBytes) × (n ≤ length (now rows)) ⌝ }
+    requires { ⌜ (length (now fresh) ≡ freshBytes) × Ordered n (now rows) ⌝ }
     ensures { λ r. ⌜ ((s : Schema) → r ≡ freshGood (now (fresh .entry)) (working s n (now (rows .entry)))) ⌝ }
 {
     let mut k = 0;

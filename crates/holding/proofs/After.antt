@@ -18,6 +18,8 @@ use Rattle.inner.specs.Working.{working, Tidy}
 use Rattle.model.proofs.Tests.{and-l, and-r}
 use Rattle.model.proofs.GoodOrder.{meets-pass}
 use Rattle.model.proofs.Areas.{Fits, pass-fits, store-of-is}
+use Rattle.model.proofs.States.{store-parts}
+use Rattle.model.proofs.RunKeeps.{Sound}
 use Rattle.area.specs.Layout.{rowCount}
 use Rattle.area.specs.Writing.{numberIn, storeIn, placed, rowsPart}
 use Rattle.area.proofs.Writes.{rowsOf, rows-are, store-put}
@@ -41,6 +43,11 @@ module _ (a : List ℕ) (cells : List (List ℕ)) (rows : List (List (List ℕ))
 
   pub fits : Fits store
   fits = good-fits store (store-of-is a store (k .store) .1)
+
+  -- the rows are in order, and their values meet their types
+  pub sound : Sound s (working s (rowCount a) rows)
+  unfolding storeIn
+  sound = let p = store-parts store (store-of-is a store (k .store) .1) in record { good = p .rows; meet = p .meets }
 
   -- a reply is that to the schema and the rows in cells
   pub reply-is : (request fresh : List ℕ) (room : ℕ) → replyOf store request fresh room ≡ reply (databaseFrom cells) (numberIn a) (working s (rowCount a) rows) request fresh room

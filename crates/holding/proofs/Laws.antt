@@ -81,6 +81,8 @@ module _ (a : List ℕ) (cells : List (List ℕ)) (x : Kept a cells) (size : len
                   accepted = cells-accepted a cells x;
                   few = holds .few;
                   tidy = rw (ap packed.packedTables (x .there), j .rows good) (holds .tidy);
+                  ordered = j .ordered good;
+                  read = j .rows good;
                 };
                 bad = λ q. absurd (clash true refl q);
               }

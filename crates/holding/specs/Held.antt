@@ -9,9 +9,9 @@ use Rattle.model.specs.Octets.{value, part}
 use Rattle.model.specs.Limits.{mostRows, numberBytes, runOffset, storeBytes}
 use Rattle.model.specs.Catalog.{databaseFrom, packedTables}
 use Rattle.model.specs.Areas.{entriesIn, storeOf}
-use Rattle.inner.specs.Working.{Tidy}
+use Rattle.inner.specs.Working.{Tidy, Ordered}
 use Rattle.catalog.specs.Accepted.{Accepted, isAccepted}
-use Rattle.area.specs.Layout.{rowCount}
+use Rattle.area.specs.Layout.{rowCount, rowsAt}
 use Rattle.area.specs.Writing.{numberIn, storeIn}
 
 abbrev pub runIn : List ℕ → ℕ
@@ -29,6 +29,8 @@ pub record Holding (a : List ℕ) (catalog : List (List ℕ)) (rows : List (List
   pub accepted : Accepted catalog
   pub few : rowCount a ≤ mostRows
   pub tidy : Tidy (packedTables catalog) (take (rowCount a) rows)
+  pub ordered : Ordered (rowCount a) rows
+  pub read : take (rowCount a) rows ≡ rowsAt (rowCount a) a
 
 -- "Good order, for a store", or none (refusal 1)
 pub record Held (a : List ℕ) (catalog : List (List ℕ)) (rows : List (List (List ℕ))) (r : Bool) : Type 0 where

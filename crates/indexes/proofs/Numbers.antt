@@ -19,11 +19,11 @@ use Rattle.inner.specs.Positions.{treeAt, wellAt, firstOf, nextItem, itemsFrom,
 use Rattle.model.specs.Nav.{kindOf, isText, itemsIn, textIn}
 use Rattle.model.specs.Members.{hasMember}
 use Rattle.model.specs.Value.{textOf}
-use Rattle.model.specs.Catalog.{cellName}
+use Rattle.model.specs.Catalog.{entryName}
 use Rattle.model.specs.SchemaText.{names, isId, isIndexed, indexTests, indexFits, indexesTests, indexesFit, placeOr, indexOf, isLasting}
 use Rattle.model.proofs.Tests.{split, and-l, and-r, parts}
 use Rattle.names.specs.Names.{nameCell, shortCell}
-use Rattle.catalog.specs.Entries.{foundAt, cellNamed}
+use Rattle.catalog.specs.Entries.{foundAt, entryNamed}
 use Rattle.nav.proofs.FirstByte.{items-in}
 use Rattle.nav.proofs.Walk.{walk-end, walk-rest, walk-fine}
 use Rattle.indexes.specs.Indexes.{isShort, shortIndex, shortIndexes, Index}
@@ -41,7 +41,7 @@ place-small w (x ∷ xs) k h =
     go none ih p q = absurd (let z : _≡_ {A = ℕ} 0 1 = cc in omega arith)
     go (some i) ih p q = let z : suc i ≡ k = cc in omega (arith, ih i p)
 
-length-names : (cells : List (List ℕ)) → length (map cellName cells) ≡ length cells
+length-names : (cells : List (List ℕ)) → length (map entryName cells) ≡ length cells
 length-names [] = refl
 length-names (c ∷ cells) = ap suc (length-names cells)
 
@@ -53,27 +53,27 @@ module _ (cells : List (List ℕ)) (j : Json) (short : isShort j ≡ true) {name
       let t = and-l (isText (kindOf j)) _ short in
       q ∙ ap (λ (w : List ℕ). textOf (shortCell w)) (string-text j t) ∙ cell-short (textIn j) (and-r (isText (kindOf j)) _ short)
 
-  module _ {f : Found} (e : f ≡ cellNamed cells name) where
-    found-is : f ≡ foundAt (placeOf (textIn j) (map cellName cells))
-    unfolding cellNamed
-    found-is = e ∙ ap (λ (w : List ℕ). foundAt (placeOf w (map cellName cells))) name-is
+  module _ {f : Found} (e : f ≡ entryNamed cells name) where
+    found-is : f ≡ foundAt (placeOf (textIn j) (map entryName cells))
+    unfolding entryNamed
+    found-is = e ∙ ap (λ (w : List ℕ). foundAt (placeOf w (map entryName cells))) name-is
 
-    pub number-at : {k : ℕ} → f ≡ At k → (k ≡ placeOr (textIn j) (map cellName cells)) × (k < length cells)
+    pub number-at : {k : ℕ} → f ≡ At k → (k ≡ placeOr (textIn j) (map entryName cells)) × (k < length cells)
     unfolding foundAt
-    number-at {k} h = go (placeOf (textIn j) (map cellName cells)) refl
+    number-at {k} h = go (placeOf (textIn j) (map entryName cells)) refl
       where
-        go : (o : Option ℕ) → placeOf (textIn j) (map cellName cells) ≡ o → (k ≡ placeOr (textIn j) (map cellName cells)) × (k < length cells)
+        go : (o : Option ℕ) → placeOf (textIn j) (map entryName cells) ≡ o → (k ≡ placeOr (textIn j) (map entryName cells)) × (k < length cells)
         go none p = absurd (let m : At k ≡ Nothing = sym h ∙ found-is ∙ ap foundAt p in let z : _≡_ {A = ℕ} 0 1 = cc in omega arith)
         go (some i) p =
             let m : At k ≡ At i = sym h ∙ found-is ∙ ap foundAt p in
             let z : k ≡ i = cc in
-            (rw (placeOr, p) z, omega (arith, place-small (textIn j) (map cellName cells) i p, length-names cells))
+            (rw (placeOr, p) z, omega (arith, place-small (textIn j) (map entryName cells) i p, length-names cells))
 
-    pub number-none : f ≡ Nothing → 0 ≡ placeOr (textIn j) (map cellName cells)
+    pub number-none : f ≡ Nothing → 0 ≡ placeOr (textIn j) (map entryName cells)
     unfolding foundAt
-    number-none h = go (placeOf (textIn j) (map cellName cells)) refl
+    number-none h = go (placeOf (textIn j) (map entryName cells)) refl
       where
-        go : (o : Option ℕ) → placeOf (textIn j) (map cellName cells) ≡ o → 0 ≡ placeOr (textIn j) (map cellName cells)
+        go : (o : Option ℕ) → placeOf (textIn j) (map entryName cells) ≡ o → 0 ≡ placeOr (textIn j) (map entryName cells)
         go none p = rw (placeOr, p)
         go (some i) p = absurd (let m : Nothing ≡ At i = sym h ∙ found-is ∙ ap foundAt p in let z : _≡_ {A = ℕ} 0 1 = cc in omega arith)
 

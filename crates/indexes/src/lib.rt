@@ -14,7 +14,7 @@ ghost use Rattle.model.specs.Base.{all};
 ghost use Rattle.inner.specs.Positions.{Says, wellAt, treeAt};
 ghost use Rattle.model.specs.Nav.{itemsIn, textIn};
 ghost use Rattle.model.specs.Members.{membersIn};
-ghost use Rattle.model.specs.Catalog.{cellName};
+ghost use Rattle.model.specs.Catalog.{entryName};
 ghost use Rattle.model.specs.SchemaText.{names, isId, isLasting, isIndexed, indexFits, indexesFit, placeOr, indexOf};
 ghost use Rattle.indexes.specs.Indexes.{fewFit, isShort, shortIndex, shortIndexes, Index, Stored};
 
@@ -132,7 +132,7 @@ pub fn fits(text: &[u8], ends: &[u16], at: usize, columns: usize) -> bool
 fn number(text: &[u8], at: usize, columns: &[Entry]) -> u8
     requires { ⌜ isShort (treeAt (now text) at) ≡ true ⌝ }
     requires { ⌜ length (now columns) ≤ 256 ⌝ }
-    ensures { λ r. ⌜ r ≡ placeOr (textIn (treeAt (now (text .entry)) at)) (map cellName (now (columns .entry))) ⌝ }
+    ensures { λ r. ⌜ r ≡ placeOr (textIn (treeAt (now (text .entry)) at)) (map entryName (now (columns .entry))) ⌝ }
 {
     let name = names::name_at(text, at);
     let f = catalog::named(columns, atom::text_of(&name));
@@ -148,7 +148,7 @@ fn index(text: &[u8], ends: &[u16], at: usize, columns: &[Entry]) -> [u8; INDEX]
     requires { ⌜ wellAt (now text) at ≡ true ⌝ }
     requires { ⌜ shortIndex (treeAt (now text) at) ≡ true ⌝ }
     requires { ⌜ length (now columns) ≤ 256 ⌝ }
-    ensures { λ r. ⌜ Index r (indexOf (map cellName (now (columns .entry))) (treeAt (now (text .entry)) at)) ⌝ }
+    ensures { λ r. ⌜ Index r (indexOf (map entryName (now (columns .entry))) (treeAt (now (text .entry)) at)) ⌝ }
 {
     let mut q = [0u8; INDEX];
     let mut n: usize = 0;
@@ -174,7 +174,7 @@ pub fn put(text: &[u8], ends: &[u16], at: usize, columns: &[Entry], cell: &mut E
     requires { ⌜ wellAt (now text) at ≡ true ⌝ }
     requires { ⌜ shortIndexes (treeAt (now text) at) ≡ true ⌝ }
     requires { ⌜ length (now columns) ≤ 256 ⌝ }
-    ensures { λ _. ⌜ Stored (now (cell .entry)) (now (cell .exit)) (map (indexOf (map cellName (now (columns .entry)))) (itemsIn (treeAt (now (text .entry)) at))) ⌝ }
+    ensures { λ _. ⌜ Stored (now (cell .entry)) (now (cell .exit)) (map (indexOf (map entryName (now (columns .entry)))) (itemsIn (treeAt (now (text .entry)) at))) ⌝ }
 {
     let old = *cell;
     let f = nav::first(text, at, b'[', b']');

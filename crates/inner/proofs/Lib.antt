@@ -2,3 +2,4 @@ pub mod Working
 pub mod Places
 pub mod Columns
 pub mod NewRows
+pub mod Ordering

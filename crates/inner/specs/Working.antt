@@ -2,11 +2,11 @@
 use mathlib.Core.Path.{_≡_}
 use mathlib.Core.Bool.{true, false}
 use mathlib.Core.List.{List, [], _∷_, _++_, map}
-use Prim.Native.Nat.{ℕ, zero, suc, _+_, _-_, _*_}
+use Prim.Native.Nat.{ℕ, zero, suc, _+_, _-_, _*_, _≤_, _<_}
 use lib.Dec.{eqb, ltb}
 use lib.ListN.{length, getD, take, drop, set, replicate}
 use Rattle.model.specs.Octets.{value, part}
-use Rattle.model.specs.Limits.{mostColumns, mostElements}
+use Rattle.model.specs.Limits.{mostColumns, mostElements, idBytes, idOffset, countsOffset}
 use Rattle.model.specs.Schema.{Column, Schema}
 use Rattle.model.specs.Value.{Value, initial}
 use Rattle.model.specs.Rows.{Row, keyOf, key}
@@ -23,19 +23,19 @@ unfoldable pub tableIn : List (List ℕ) → ℕ
 tableIn cells = getD (getD cells 0 []) 0 0
 
 unfoldable pub idIn : List (List ℕ) → ℕ
-idIn cells = value (part 1 16 (getD cells 0 []))
+idIn cells = value (part idOffset idBytes (getD cells 0 []))
 
 unfoldable pub keyIn : List (List ℕ) → ℕ
 keyIn cells = keyOf (tableIn cells) (idIn cells)
 
 -- column c's count and atoms
 unfoldable pub valueIn : ℕ → List (List ℕ) → Value
-valueIn c cells = record { count = getD (getD cells 0 []) (17 + c) 0; atoms = take mostElements (drop (1 + mostElements * c) cells) }
+valueIn c cells = record { count = getD (getD cells 0 []) (countsOffset + c) 0; atoms = take mostElements (drop (1 + mostElements * c) cells) }
 
 -- the cells with column c's count and atoms set
 unfoldable pub withValue : ℕ → Value → List (List ℕ) → List (List ℕ)
 withValue c v cells =
-    set (getD cells 0 []) (17 + c) (v .count) ∷ take (mostElements * c) (drop 1 cells) ++ (v .atoms ++ drop (mostElements * c + mostElements) (drop 1 cells))
+    set (getD cells 0 []) (countsOffset + c) (v .count) ∷ take (mostElements * c) (drop 1 cells) ++ (v .atoms ++ drop (mostElements * c + mostElements) (drop 1 cells))
 
 -- the columns' minimums, and zeros for the columns that a table lacks
 unfoldable pub minimums : List Column → List ℕ
@@ -55,6 +55,21 @@ TidyRow s r = rowCells (rowFrom s r) ≡ r
 abbrev pub Tidy : Schema → List (List (List ℕ)) → Type 0
 Tidy s [] = Unit
 Tidy s (r ∷ rs) = TidyRow s r × Tidy s rs
+
+-- ── "table order, ids ascending" (good order), of working rows too ──
+-- every number is above k; each number is below all that come after it
+abbrev pub Above : ℕ → List ℕ → Type 0
+Above k [] = Unit
+Above k (x ∷ l) = (k < x) × Above k l
+
+abbrev pub Ascending : List ℕ → Type 0
+Ascending [] = Unit
+Ascending (x ∷ l) = Above x l × Ascending l
+
+-- the first n rows are there, and their keys ascend: what a search may rest on
+pub record Ordered (n : ℕ) (cells : List (List (List ℕ))) : Type 0 where
+  pub there : n ≤ length cells
+  pub ascending : Ascending (map keyIn (take n cells))
 
 -- ── places ──
 -- the place of the row under a key, counted on from i

@@ -10,7 +10,7 @@ use Rattle.model.specs.Schema.{columnsOf}
 use Rattle.model.specs.Commit.{enough, notOver}
 use Rattle.model.specs.Octets.{value, part}
 use Rattle.model.specs.Areas.{rowFrom}
-use Rattle.model.specs.Catalog.{columnFrom, columnCell, packedTables, maxRowsFrom, isSet, limitedOffset, maxRowsOffset}
+use Rattle.model.specs.Catalog.{columnFrom, columnPlace, packedTables, maxRowsFrom, isSet, limitedOffset, maxRowsOffset}
 use Rattle.inner.specs.Working.{tableIn, valueIn}
 use Rattle.inner.proofs.Working.{row-table}
 use Rattle.catalog.specs.Accepted.{Accepted}
@@ -32,7 +32,7 @@ module _ (schema cells : List (List ℕ)) where
 
   module _ (ok : Accepted schema) (c : ℕ) (h : c < length (columnsOf (packedTables schema) (tableIn cells))) where
     abbrev pub least : ℕ
-    least = columnFrom (getD schema (columnCell (tableIn cells) c) []) .min
+    least = columnFrom (getD schema (columnPlace (tableIn cells) c) []) .min
 
     pub enough-here : valueIn c cells .count < least → enoughFrom c ≡ false
     enough-here g = rw (columns-on schema ok (tableIn cells) c h, values-on (packedTables schema) cells c h, lt-leb least (valueIn c cells .count) g)

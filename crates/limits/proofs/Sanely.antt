@@ -11,7 +11,7 @@ use lib.ListN.{length, getD, take}
 use Rattle.model.specs.Limits.{mostColumns}
 use Rattle.model.specs.Base.{all}
 use Rattle.model.specs.Schema.{Table, columnsOf}
-use Rattle.model.specs.Catalog.{tableCell, tableFrom, tablesFrom, packedTables, indexFrom, indexesFrom, databaseFrom, tableCount, indexesOffset, firstIndexOffset, secondIndexOffset}
+use Rattle.model.specs.Catalog.{tablePlace, tableFrom, tablesFrom, packedTables, indexFrom, indexesFrom, databaseFrom, tableCount, indexesOffset, firstIndexOffset, secondIndexOffset}
 use Rattle.model.specs.Sane.{saneTable, tableSane, saneIndex, indexSane, sane, databaseSane}
 use Rattle.model.proofs.Tests.{parts}
 use Rattle.model.proofs.Lists.{all-head, all-tail, all-at}
@@ -33,7 +33,7 @@ index-fits w l f h = record { columns = λ k g. omega (arith, f, ltb-true (getD 
 
 module _ (cells : List (List ℕ)) (t : ℕ) where
   abbrev pub cellAt : List ℕ
-  cellAt = getD cells (tableCell t) []
+  cellAt = getD cells (tablePlace t) []
 
   abbrev pub widthAt : ℕ
   widthAt = length (columnsOf (packedTables cells) t)

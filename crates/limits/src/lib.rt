@@ -11,7 +11,7 @@ ghost use Rattle.model.specs.Schema.{columnsOf};
 ghost use Rattle.model.specs.Rows.{ofTable};
 ghost use Rattle.model.specs.Commit.{allEnough, notOver, tableGood, tablesGood};
 ghost use Rattle.model.specs.Areas.{rowFrom};
-ghost use Rattle.model.specs.Catalog.{columnCell, columnFrom, tableFrom, packedTables, maxRowsFrom};
+ghost use Rattle.model.specs.Catalog.{columnPlace, columnFrom, tableFrom, packedTables, maxRowsFrom};
 ghost use Rattle.inner.specs.Working.{working};
 ghost use Rattle.catalog.specs.Accepted.{Accepted};
 ghost use Rattle.limits.specs.Alike.{ofT, sameCells, uniqueCells, rowEnough, IndexFits};
@@ -20,7 +20,7 @@ ghost use Rattle.limits.specs.Alike.{ofT, sameCells, uniqueCells, rowEno
 fn minimum(schema: &Catalog, table: u8, c: usize) -> u8
     requires { ⌜ Accepted (now schema) ⌝ }
     requires { ⌜ c < length (columnsOf (packedTables (now schema)) table) ⌝ }
-    ensures { λ r. ⌜ r ≡ columnFrom (getD (now (schema .entry)) (columnCell table c) []) .min ⌝ }
+    ensures { λ r. ⌜ r ≡ columnFrom (getD (now (schema .entry)) (columnPlace table c) []) .min ⌝ }
 {
     catalog::minimum(catalog::column(schema, leaf::wide(table), c))
 }

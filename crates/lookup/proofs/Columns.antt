@@ -11,14 +11,14 @@ use Rattle.model.specs.Base.{placeOf}
 use Rattle.model.specs.Json.{Json, null, bool, num, str, arr, obj}
 use Rattle.model.specs.Text.{isWord}
 use Rattle.model.specs.Schema.{Column}
-use Rattle.model.specs.Catalog.{cellName, columnFrom}
-use Rattle.catalog.specs.Entries.{foundAt, cellNamed}
+use Rattle.model.specs.Catalog.{entryName, columnFrom}
+use Rattle.catalog.specs.Entries.{foundAt, entryNamed}
 use Rattle.catalog.proofs.Lookups.{foundFrom, left, named-start, named-here, named-next, named-end}
 use Rattle.lookup.specs.Lookup.{columnIn}
 
-names-of : (cells : List (List ℕ)) → map (λ (c : Column). c .name) (map columnFrom cells) ≡ map cellName cells
+names-of : (cells : List (List ℕ)) → map (λ (c : Column). c .name) (map columnFrom cells) ≡ map entryName cells
 names-of [] = refl
-names-of (x ∷ cells) = ap (λ l. cellName x ∷ l) (names-of cells)
+names-of (x ∷ cells) = ap (λ l. entryName x ∷ l) (names-of cells)
 
 -- what is found from i on
 abbrev pub columnFound : List (List ℕ) → Json → ℕ → Found
@@ -31,7 +31,7 @@ columnFound cells (obj ms) i = Nothing
 
 module _ (cells : List (List ℕ)) where
   pub column-start : (j : Json) → foundAt (columnIn (map columnFrom cells) j) ≡ columnFound cells j 0
-  unfolding foundAt cellNamed
+  unfolding foundAt entryNamed
   column-start null = refl
   column-start (bool b) = refl
   column-start (num t) = refl
@@ -48,7 +48,7 @@ module _ (cells : List (List ℕ)) where
     column-end (arr xs) h = refl
     column-end (obj ms) h = refl
 
-    pub column-here : (j : Json) → i < length cells → isWord (cellName (getD cells i [])) j ≡ true → columnFound cells j i ≡ At i
+    pub column-here : (j : Json) → i < length cells → isWord (entryName (getD cells i [])) j ≡ true → columnFound cells j i ≡ At i
     unfolding isWord
     column-here null h e = cc
     column-here (bool b) h e = cc
@@ -57,7 +57,7 @@ module _ (cells : List (List ℕ)) where
     column-here (arr xs) h e = cc
     column-here (obj ms) h e = cc
 
-    pub column-next : (j : Json) → i < length cells → isWord (cellName (getD cells i [])) j ≡ false → columnFound cells j i ≡ columnFound cells j (i + 1)
+    pub column-next : (j : Json) → i < length cells → isWord (entryName (getD cells i [])) j ≡ false → columnFound cells j i ≡ columnFound cells j (i + 1)
     unfolding isWord
     column-next null h e = refl
     column-next (bool b) h e = refl

@@ -21,7 +21,7 @@ use Rattle.model.proofs.Tests.{split, and-l, and-r, parts}
 use Rattle.model.proofs.Octets.{octet}
 use Rattle.catalog.specs.Accepted.{isAccepted}
 use Rattle.area.specs.Layout.{rowGood, rowsGood, rowCount, rowsIn, restZero, partGood}
-use Rattle.catalog.specs.Entries.{columnCells}
+use Rattle.catalog.specs.Entries.{columnsAt}
 use Rattle.area.specs.Writing.{when}
 use Rattle.area.proofs.Copies.{rows-length}
 use Rattle.area.proofs.Schemas.{tables-count, columns-in, rows-same}
@@ -77,14 +77,14 @@ module _ (schema : List (List ℕ)) where
   tables = getD (getD schema 0 []) 25 0
 
   module _ (row : List (List ℕ)) (here : tableIn row < tables) where
-    count : length (columnsOf s (tableIn row)) ≡ length (columnCells schema (tableIn row))
-    count = ap length (columns-in schema (tableIn row) here) ∙ length-map (columnCells schema (tableIn row)) columnFrom
+    count : length (columnsOf s (tableIn row)) ≡ length (columnsAt schema (tableIn row))
+    count = ap length (columns-in schema (tableIn row) here) ∙ length-map (columnsAt schema (tableIn row)) columnFrom
 
-    values-are : (p : Column → Value → Bool) → valuesPass p (columnsOf s (rowFrom s row .table)) (rowFrom s row .columns) ≡ passFrom p 0 (columnCells schema (tableIn row)) row
+    values-are : (p : Column → Value → Bool) → valuesPass p (columnsOf s (rowFrom s row .table)) (rowFrom s row .columns) ≡ passFrom p 0 (columnsAt schema (tableIn row)) row
     unfolding rowFrom tableIn
     values-are p =
         (λ j. valuesPass p (columns-in schema (tableIn row) here j) (columnsFrom (count j) (drop 17 (getD row 0 [])) (drop 1 row)))
-        ∙ values-by p (columnCells schema (tableIn row)) 0 row
+        ∙ values-by p (columnsAt schema (tableIn row)) 0 row
 
   row-is : (row : List (List ℕ)) → rowGood schema row ≡ true → rowMeets schema row ≡ rowPasses meets s (rowFrom s row)
   unfolding rowGood rowMeets rowFrom tableIn
@@ -96,8 +96,8 @@ module _ (schema : List (List ℕ)) where
       let l : ltb t (length s) ≡ true = and-l (ltb t (length s)) _ (and-l _ _ k) in
       let m : ltb (tableIn row) tables ≡ true = ap (ltb (tableIn row)) (sym (tables-count schema 0 tables)) ∙ l in
       let here = ltb-true (tableIn row) tables m in
-      let c : passFrom canonicalFor 0 (columnCells schema (tableIn row)) row ≡ true = sym (values-are row here canonicalFor) ∙ and-r (known s t i) _ passes in
-      (λ j. m j && (met-pass (columnCells schema (tableIn row)) 0 row c ∙ sym (values-are row here meets)) j)
+      let c : passFrom canonicalFor 0 (columnsAt schema (tableIn row)) row ≡ true = sym (values-are row here canonicalFor) ∙ and-r (known s t i) _ passes in
+      (λ j. m j && (met-pass (columnsAt schema (tableIn row)) 0 row c ∙ sym (values-are row here meets)) j)
       ∙ ap (λ (b : Bool). b && valuesPass meets (columnsOf s t) (rowFrom s row .columns)) (sym k)
 
   -- ── all rows ──

@@ -10,7 +10,7 @@ use Rattle.model.specs.Schema.{Column}
 use Rattle.model.specs.Catalog.{columnFrom, tableCount}
 use Rattle.model.specs.Value.{Value, elements, countInLimits, allInLimits}
 use Rattle.inner.specs.Working.{tableIn, valueIn}
-use Rattle.catalog.specs.Entries.{columnCells}
+use Rattle.catalog.specs.Entries.{columnsAt}
 
 -- "range, length in characters" of atoms, by their column's cell
 unfoldable pub allMet : List ℕ → List (List ℕ) → Bool
@@ -27,7 +27,7 @@ metFrom c (cell ∷ cells) row = metFor (columnFrom cell) (valueIn c row) && met
 
 -- of a row of a table of the schema
 unfoldable pub rowMeets : List (List ℕ) → List (List ℕ) → Bool
-rowMeets schema row = ltb (tableIn row) (tableCount schema) && metFrom 0 (columnCells schema (tableIn row)) row
+rowMeets schema row = ltb (tableIn row) (tableCount schema) && metFrom 0 (columnsAt schema (tableIn row)) row
 
 -- of the first n rows
 unfoldable pub rowsMeet : List (List ℕ) → ℕ → List (List (List ℕ)) → Bool

@@ -1,5 +1,5 @@
 -- What is found in a mirror's area, by the tests that the code makes of it. Assumes nothing.
-use mathlib.Core.Path.{_≡_, refl, sym, ap, _∙_}
+use mathlib.Core.Path.{_≡_, refl, sym, ap, subst, _∙_}
 use mathlib.Core.Bool.{Bool, true, false, _&&_}
 use mathlib.Core.List.{List, map}
 use mathlib.Core.Option.{none, some}
@@ -10,12 +10,12 @@ use Rattle.model.specs.Limits.{entryBytes, entryCount, catalogOffset, mirrorByt
 use Rattle.model.specs.Base.{all}
 use Rattle.model.specs.Catalog as packed
 use Rattle.model.specs.Areas.{rowFrom, entriesIn, databaseIn, decodeStore, decodeMirror, mirrorOf}
-use Rattle.inner.specs.Working.{working}
+use Rattle.inner.specs.Working.{working, Ordered}
 use Rattle.model.proofs.Tests.{clash}
 use Rattle.model.proofs.Octets.{octet}
 use Rattle.catalog.specs.Accepted.{Accepted, isAccepted}
 use Rattle.catalog.proofs.Laws.{accepted-of}
-use Rattle.area.specs.Layout.{partGood, Judged}
+use Rattle.area.specs.Layout.{rowCount, partGood, Judged}
 use Rattle.area.specs.Writing.{tailGood, when}
 use Rattle.area.proofs.Copies.{chunks-length}
 use Rattle.area.proofs.States.{part-passed, mirror-is, mirror-refused}
@@ -28,6 +28,10 @@ module _ {a : List ℕ} {schema : List (List ℕ)} {cells : List (List (List ℕ
 
   pub state-good : r ≡ true → mirrorOf a ≡ some (decodeMirror a)
   state-good e = o .state ∙ ap (λ (b : Bool). when b (decodeMirror a)) e
+
+-- its rows are in order, by how many the code says they are
+pub held-ordered : {a : List ℕ} {schema : List (List ℕ)} {cells : List (List (List ℕ))} → Held a schema cells → (n : ℕ) → n ≡ rowCount a → Ordered n cells
+held-ordered {cells = cells} h n e = subst (λ (k : ℕ). Ordered k cells) (sym e) (h .ordered)
 
 -- ── by the tests ──
 module _ (a : List ℕ) (size : length a ≡ mirrorBytes) (schema : List (List ℕ)) (cells : List (List (List ℕ))) (there : schema ≡ entriesIn a) where
@@ -64,4 +68,5 @@ module _ (a : List ℕ) (size : length a ≡ mirrorBytes) (schema : List (List �
               few = h .few;
               rows = (λ i. map (rowFrom (same i)) (q i)) ∙ sym (h .rows);
               tidy = rw (q, same) (h .tidy);
+              ordered = j .ordered b;
             }

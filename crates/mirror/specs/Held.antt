@@ -9,7 +9,7 @@ use Rattle.model.specs.Octets.{big}
 use Rattle.model.specs.Limits.{mostRows, numberBytes, rowBytes, numberOffset, countOffset, topOffset, heardOffset, wholeOffset}
 use Rattle.model.specs.Catalog as packed
 use Rattle.model.specs.Areas.{databaseIn, decodeMirror, mirrorOf}
-use Rattle.inner.specs.Working.{working, Tidy}
+use Rattle.inner.specs.Working.{working, Tidy, Ordered}
 use Rattle.catalog.specs.Accepted.{Accepted}
 use Rattle.area.specs.Layout.{rowCount}
 use Rattle.area.specs.Writing.{topIn, numberIn, tailBytes, placed, rowsPart, when}
@@ -22,6 +22,7 @@ pub record Held (a : List ℕ) (schema : List (List ℕ)) (cells : List (List (L
   pub few : rowCount a ≤ mostRows
   pub rows : working (packed.packedTables schema) (rowCount a) cells ≡ decodeMirror a .mirror .rows
   pub tidy : Tidy (packed.packedTables schema) (take (rowCount a) cells)
+  pub ordered : Ordered (rowCount a) cells
 
 -- whether it is in good order (refusal 1 where it is not), and what was read of it on the way
 pub record Opened (a : List ℕ) (schema : List (List ℕ)) (cells : List (List (List ℕ))) (r : Bool) : Type 0 where

@@ -16,7 +16,7 @@ use Rattle.model.specs.Schema.{Base, integer, boolean, text, uuid, Refer
 use Rattle.model.specs.SchemaText.{isLetter, isIdByte, isId, baseNumber}
 use Rattle.model.specs.Value.{fromTwos}
 use Rattle.model.specs.Sane.{columnSane, saneColumn, saneIndex, indexSane, maxRowsSane, tableSane, saneTable, databaseSane, sane}
-use Rattle.model.specs.Catalog.{columnCell, baseNumbered, cellName, isSet, refersFrom, columnFrom, indexFrom, indexesFrom, maxRowsFrom, tableFrom, tablesFrom, databaseFrom, nameBytes, bit, howRefers, target, columnEntry, indexBytes, numberOr0, tableEntry, databaseEntry, blankEntry, inRoom, columnEntries, catalogOf}
+use Rattle.model.specs.Catalog.{columnPlace, baseNumbered, entryName, isSet, refersFrom, columnFrom, indexFrom, indexesFrom, maxRowsFrom, tableFrom, tablesFrom, databaseFrom, nameBytes, bit, howRefers, target, columnEntry, indexBytes, numberOr0, tableEntry, databaseEntry, blankEntry, inRoom, columnEntries, catalogOf}
 use Rattle.model.proofs.Tests.{clash, and-l, and-r, parts}
 use Rattle.model.proofs.Lists.{all-append, all-cons, all-same}
 use Rattle.model.proofs.Octets.{value-big-fits}
@@ -47,7 +47,7 @@ module _ (w : List ℕ) (h : length w ≤ 24) where
   name-length = simp (length-append, length-replicate) (omega arith)
 
   module _ (rest : List ℕ) where
-    pub name-read : cellName (nameBytes w ++ rest) ≡ w
+    pub name-read : entryName (nameBytes w ++ rest) ≡ w
     name-read = ap (take (length w)) (append-assoc w (replicate (24 - length w) 0) rest) ∙ take-at w (replicate (24 - length w) 0 ++ rest) (length w) refl
 
     pub byte-past : (k : ℕ) → getD (nameBytes w ++ rest) (25 + k) 0 ≡ getD rest k 0
@@ -201,7 +201,7 @@ module _ (n : ℕ) (t : Table) (h : saneTable n t ≡ true) where
   -- its entry, and the entries of its columns at the front of some
   pub table-read : (cs : List (List ℕ)) → map columnFrom (take (length (t .columns)) cs) ≡ t .columns
       → record {
-        name = cellName (tableEntry t);
+        name = entryName (tableEntry t);
         columns = map columnFrom (take (getD (tableEntry t) 25 0) cs);
         root = isSet (tableEntry t) 26;
         maxRows = maxRowsFrom (tableEntry t);
@@ -276,10 +276,10 @@ module _ (n : ℕ) where
       let a : 1 + i + 0 ≡ 1 + i = omega arith in
       let x : getD cells (1 + i) [] ≡ tableEntry t = sym (getD-drop (1 + i) cells 0 [] ∙ ap (λ (m : ℕ). getD cells m []) a) ∙ ap (λ (m : List (List ℕ)). getD m 0 []) e in
       let b : 5 + 6 * i + 0 ≡ 5 + 6 * i = omega arith in
-      let y : drop (columnCell i 0) cells ≡ room ++ columnEntries k s = ap (λ (m : ℕ). drop m cells) b ∙ f in
+      let y : drop (columnPlace i 0) cells ≡ room ++ columnEntries k s = ap (λ (m : ℕ). drop m cells) b ∙ f in
       let first : tableFrom cells i ≡ t =
       (λ j. record {
-        name = cellName (x j);
+        name = entryName (x j);
         columns = map columnFrom (take (getD (x j) 25 0) (y j));
         root = isSet (x j) 26;
         maxRows = maxRowsFrom (x j);

@@ -27,7 +27,7 @@ ascends-above k (r ∷ rs) h =
     let z = ascends-above (key r) rs (and-r (ltb k (key r)) (ascendsFrom (key r) rs) h) in
     ((l, above-trans k (key r) rs (omega arith) (z .0)), z)
 
-ascends-sorted : (rows : List Row) → ascends rows ≡ true → Sorted rows
+pub ascends-sorted : (rows : List Row) → ascends rows ≡ true → Sorted rows
 ascends-sorted [] h = tt
 ascends-sorted (r ∷ rs) h = ascends-above (key r) rs h
 

@@ -15,11 +15,11 @@ use Rattle.model.specs.SchemaText.{baseNumber}
 use Rattle.model.specs.Value.{fromTwos}
 
 -- where the entries of tables and of columns stand
-abbrev pub tableCell : ℕ → ℕ
-tableCell t = 1 + t
+abbrev pub tablePlace : ℕ → ℕ
+tablePlace t = 1 + t
 
-abbrev pub columnCell : ℕ → ℕ → ℕ
-columnCell t c = 1 + mostTables + mostColumns * t + c
+abbrev pub columnPlace : ℕ → ℕ → ℕ
+columnPlace t c = 1 + mostTables + mostColumns * t + c
 
 -- ── where the parts of an entry begin: a name's length in byte 0 and the name behind it, as in the atom of a string ──
 -- a column's: base, how it refers (0 not, 1 strongly, 2 weakly), to which table, min, max, mutable, low and high in two's complement
@@ -78,65 +78,65 @@ tablesOffset = atomBytes
 unfoldable pub baseNumbered : ℕ → Base
 baseNumbered k = elim (eqb k 0) [ true ↦ integer | false ↦ elim (eqb k 1) [ true ↦ boolean | false ↦ elim (eqb k 2) [ true ↦ text | false ↦ uuid ] ] ]
 
-abbrev pub cellName : List ℕ → List ℕ
-cellName cell = part 1 (getD cell 0 0) cell
+abbrev pub entryName : List ℕ → List ℕ
+entryName entry = part 1 (getD entry 0 0) entry
 
 abbrev pub isSet : List ℕ → ℕ → Bool
-isSet cell at = eqb (getD cell at 0) 1
+isSet entry at = eqb (getD entry at 0) 1
 
 unfoldable pub refersFrom : ℕ → ℕ → Refers
 refersFrom how t = elim (eqb how 0) [ true ↦ plain | false ↦ elim (eqb how 1) [ true ↦ strong t | false ↦ weak t ] ]
 
 abbrev pub columnFrom : List ℕ → Column
-columnFrom cell =
+columnFrom entry =
     record {
-      name = cellName cell;
-      base = baseNumbered (getD cell baseOffset 0);
-      refers = refersFrom (getD cell refersOffset 0) (getD cell targetOffset 0);
-      min = getD cell minOffset 0;
-      max = getD cell maxOffset 0;
-      low = fromTwos (value (part lowOffset 8 cell));
-      high = fromTwos (value (part highOffset 8 cell));
-      mutable = isSet cell mutableOffset;
+      name = entryName entry;
+      base = baseNumbered (getD entry baseOffset 0);
+      refers = refersFrom (getD entry refersOffset 0) (getD entry targetOffset 0);
+      min = getD entry minOffset 0;
+      max = getD entry maxOffset 0;
+      low = fromTwos (value (part lowOffset 8 entry));
+      high = fromTwos (value (part highOffset 8 entry));
+      mutable = isSet entry mutableOffset;
     }
 
 abbrev pub indexFrom : List ℕ → ℕ → List ℕ
-indexFrom cell at = part (at + 1) (getD cell at 0) cell
+indexFrom entry at = part (at + 1) (getD entry at 0) entry
 
 abbrev pub indexesFrom : List ℕ → List (List ℕ)
-indexesFrom cell = take (getD cell indexesOffset 0) (indexFrom cell firstIndexOffset ∷ indexFrom cell secondIndexOffset ∷ [])
+indexesFrom entry = take (getD entry indexesOffset 0) (indexFrom entry firstIndexOffset ∷ indexFrom entry secondIndexOffset ∷ [])
 
 abbrev pub maxRowsFrom : List ℕ → Option ℕ
-maxRowsFrom cell = elim (isSet cell limitedOffset) [ true ↦ some (value (part maxRowsOffset 8 cell)) | false ↦ none ]
+maxRowsFrom entry = elim (isSet entry limitedOffset) [ true ↦ some (value (part maxRowsOffset 8 entry)) | false ↦ none ]
 
 -- how many columns table t has, and how many tables there are
 abbrev pub columnCount : List (List ℕ) → ℕ → ℕ
-columnCount cells t = getD (getD cells (tableCell t) []) columnsOffset 0
+columnCount entries t = getD (getD entries (tablePlace t) []) columnsOffset 0
 
 abbrev pub tableCount : List (List ℕ) → ℕ
-tableCount cells = getD (getD cells 0 []) tablesOffset 0
+tableCount entries = getD (getD entries 0 []) tablesOffset 0
 
 unfoldable pub tableFrom : List (List ℕ) → ℕ → Table
-tableFrom cells t =
-    let cell = getD cells (tableCell t) [] in
+tableFrom entries t =
+    let entry = getD entries (tablePlace t) [] in
     record {
-      name = cellName cell;
-      columns = map columnFrom (take (columnCount cells t) (drop (columnCell t 0) cells));
-      root = isSet cell rootOffset;
-      maxRows = maxRowsFrom cell;
-      indexes = indexesFrom cell;
+      name = entryName entry;
+      columns = map columnFrom (take (columnCount entries t) (drop (columnPlace t 0) entries));
+      root = isSet entry rootOffset;
+      maxRows = maxRowsFrom entry;
+      indexes = indexesFrom entry;
     }
 
 -- tables t, t + 1, .., k of them
 abbrev pub tablesFrom : List (List ℕ) → ℕ → ℕ → Schema
-tablesFrom cells t zero = []
-tablesFrom cells t (suc k) = tableFrom cells t ∷ tablesFrom cells (suc t) k
+tablesFrom entries t zero = []
+tablesFrom entries t (suc k) = tableFrom entries t ∷ tablesFrom entries (suc t) k
 
 abbrev pub packedTables : List (List ℕ) → Schema
-packedTables cells = tablesFrom cells 0 (tableCount cells)
+packedTables entries = tablesFrom entries 0 (tableCount entries)
 
 abbrev pub databaseFrom : List (List ℕ) → Database
-databaseFrom cells = record { name = cellName (getD cells 0 []); tables = packedTables cells }
+databaseFrom entries = record { name = entryName (getD entries 0 []); tables = packedTables entries }
 
 -- ── written; unused bytes are zero ──
 abbrev pub nameBytes : List ℕ → List ℕ

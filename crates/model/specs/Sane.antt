@@ -1,4 +1,4 @@
--- A schema that keeps every rule of document 01, as the database that its text is read as: what is accepted does (`read-sane`), and an area in good order holds one. Assumes nothing: these are definitions.
+-- The rules of document 01 on schemas, of the database that a text is read as: all but those on what a database does not keep (the text's form and length, version, cksum, ephemeral). What is accepted keeps them (`read-sane`), and an area in good order holds such a database. Assumes nothing: these are definitions.
 use Prim.Native.Nat.{ℕ}
 use mathlib.Core.Bool.{Bool, true, false, not, _&&_, _||_}
 use mathlib.Core.List.{List, [], _∷_, map}

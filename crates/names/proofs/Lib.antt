@@ -1,3 +1,3 @@
 -- What the proofs of several functions use.
-pub mod Ids
+pub mod Versions
 pub mod Cells

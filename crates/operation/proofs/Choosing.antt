@@ -28,7 +28,7 @@ use Rattle.model.specs.Operations as Model
 use Rattle.model.specs.Catalog.{columnFrom, packedTables}
 use Rattle.inner.specs.Working.{working}
 use Rattle.model.proofs.Tests.{split}
-use Rattle.catalog.specs.Entries.{foundAt, columnCells}
+use Rattle.catalog.specs.Entries.{foundAt, columnsAt}
 use Rattle.fields.specs.Fields.{choiceFrom, choice, slotTree, Slots}
 use Rattle.area.proofs.Schemas.{tables-count, columns-in}
 use Rattle.answer.specs.Put.{Put}
@@ -206,7 +206,7 @@ module _ (text : List ℕ) (ops : Found) (fresh : List ℕ) (cells columns : Lis
   on-select e o = by-number 1 e refl o
 
 -- the cells of its columns
-pub columns-same : (cells columns : List (List ℕ)) (t : ℕ) → t < getD (getD cells 0 []) 25 0 → columns ≡ columnCells cells t → columnsOf (packedTables cells) t ≡ map columnFrom columns
+pub columns-same : (cells columns : List (List ℕ)) (t : ℕ) → t < getD (getD cells 0 []) 25 0 → columns ≡ columnsAt cells t → columnsOf (packedTables cells) t ≡ map columnFrom columns
 columns-same cells columns t h e = columns-in cells t h ∙ ap (map columnFrom) (sym e)
 
 -- ── any operation, by its number ──

@@ -9,7 +9,7 @@ use native.Mathlib.Omega.{arith}
 use lib.ListN.{getD}
 use Rattle.model.specs.Octets.{part}
 use Rattle.model.specs.Base.{ascii}
-use Rattle.model.specs.Catalog.{cellName, columnCount}
+use Rattle.model.specs.Catalog.{entryName, columnCount}
 use Rattle.inner.specs.Working.{idIn, valueIn}
 use Rattle.model.specs.Answers.{quoted}
 use Rattle.answer.specs.Texts.{quotedText, idText, setText, commaText, joined}
@@ -20,12 +20,12 @@ unfolding quotedText nameText
 colon-is name = refl
 
 pub column-is : (cell : List ℕ) (row : List (List ℕ)) (c count : ℕ) (atoms : List (List ℕ)) → count ≡ valueIn c row .count → atoms ≡ valueIn c row .atoms
-    → (nameText (cellName cell) ++ setText (getD cell 25 0) count atoms) ≡ columnText cell row c
+    → (nameText (entryName cell) ++ setText (getD cell 25 0) count atoms) ≡ columnText cell row c
 unfolding nameText setText columnText
 column-is cell row c count atoms e f =
-    ap (λ (n : ℕ). nameText (cellName cell) ++ setText (getD cell 25 0) n atoms) e
-    ∙ ap (λ (a : List (List ℕ)). nameText (cellName cell) ++ setText (getD cell 25 0) (valueIn c row .count) a) f
-    ∙ append-assoc (quoted (cellName cell)) (58 ∷ []) (setText (getD cell 25 0) (valueIn c row .count) (valueIn c row .atoms))
+    ap (λ (n : ℕ). nameText (entryName cell) ++ setText (getD cell 25 0) n atoms) e
+    ∙ ap (λ (a : List (List ℕ)). nameText (entryName cell) ++ setText (getD cell 25 0) (valueIn c row .count) a) f
+    ∙ append-assoc (quoted (entryName cell)) (58 ∷ []) (setText (getD cell 25 0) (valueIn c row .count) (valueIn c row .atoms))
 
 module _ (show first : Bool) (t : List ℕ) where
   pub shown-yes : show ≡ true → (commaText first ++ t) ≡ shownText show first t

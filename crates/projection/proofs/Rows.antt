@@ -10,7 +10,7 @@ use lib.Seq.{drop-cons, drop-drop, getD-drop, length-take-le}
 use Rattle.model.specs.Base.{ascii, if_then_else_}
 use Rattle.model.specs.Schema.{Column, Schema, columnsOf}
 use Rattle.model.specs.Catalog.{baseNumbered, columnCount}
-use Rattle.model.specs.Catalog.{cellName, columnFrom, columnCell, tableFrom}
+use Rattle.model.specs.Catalog.{entryName, columnFrom, columnPlace, tableFrom}
 use Rattle.model.specs.Value.{Value}
 use Rattle.model.specs.Areas.{columnsFrom, rowFrom}
 use Rattle.inner.specs.Working.{tableIn, idIn, valueIn}
@@ -27,7 +27,7 @@ choose false x y r q e f = f
 
 module _ (show : List ℕ → Bool) (schema : List (List ℕ)) (from : ℕ) (row : List (List ℕ)) (shown : List Bool) where
   -- the columns from c on
-  pub columns-shown : (k c : ℕ) → from + c + k ≤ length schema → ((j : ℕ) → j < c + k → getD shown (j + 1) false ≡ show (cellName (getD schema (from + j) [])))
+  pub columns-shown : (k c : ℕ) → from + c + k ≤ length schema → ((j : ℕ) → j < c + k → getD shown (j + 1) false ≡ show (entryName (getD schema (from + j) [])))
       → shownFrom schema from row shown c k ≡ shownColumns show (map columnFrom (take k (drop (from + c) schema))) (columnsFrom k (drop (17 + c) (getD row 0 [])) (drop (1 + 4 * c) row))
   unfolding columnText valueIn
   columns-shown zero c h f = refl
@@ -44,11 +44,11 @@ module _ (show : List ℕ → Bool) (schema : List (List ℕ)) (from : ℕ) (row
       ∙ ap (λ (n : ℕ). shownColumns show (map columnFrom (take k (drop n schema))) (columnsFrom k (drop (17 + suc c) head) (drop (1 + 4 * suc c) row))) e1
       ∙ ap (λ (l : List ℕ). shownColumns show (map columnFrom (take k (drop (suc (from + c)) schema))) (columnsFrom k l (drop (1 + 4 * suc c) row))) (ap (λ (n : ℕ). drop n head) e2 ∙ sym (drop-drop 1 (17 + c) head))
       ∙ ap (λ (l : List (List ℕ)). shownColumns show (map columnFrom (take k (drop (suc (from + c)) schema))) (columnsFrom k (drop 1 (drop (17 + c) head)) l)) (ap (λ (n : ℕ). drop n row) e3 ∙ sym (drop-drop 4 (1 + 4 * c) row)) in
-      let same : columnText cell row c ≡ memberText (cellName cell) (valueText (baseNumbered (getD cell 25 0)) v) =
-      ap (λ (n : ℕ). memberText (cellName cell) (valueText (baseNumbered (getD cell 25 0)) (record { count = n; atoms = take 4 (drop (1 + 4 * c) row) })))
+      let same : columnText cell row c ≡ memberText (entryName cell) (valueText (baseNumbered (getD cell 25 0)) v) =
+      ap (λ (n : ℕ). memberText (entryName cell) (valueText (baseNumbered (getD cell 25 0)) (record { count = n; atoms = take 4 (drop (1 + 4 * c) row) })))
       (sym (getD-drop (17 + c) head 0 0 ∙ ap (λ (n : ℕ). getD head n 0) (add-zero (17 + c)))) in
       ap (λ (b : Bool). listed b (columnText cell row c) (shownFrom schema from row shown (suc c) k)) (f c (omega arith))
-      ∙ choose (show (cellName cell)) (columnText cell row c) (memberText (cellName cell) (valueText (baseNumbered (getD cell 25 0)) v)) (shownFrom schema from row shown (suc c) k) rest same later
+      ∙ choose (show (entryName cell)) (columnText cell row c) (memberText (entryName cell) (valueText (baseNumbered (getD cell 25 0)) v)) (shownFrom schema from row shown (suc c) k) rest same later
       ∙ ap (λ (l : List (List ℕ)). shownColumns show (map columnFrom (take (suc k) l)) (columnsFrom (suc k) (drop (17 + c) head) (drop (1 + 4 * c) row))) (sym (drop-cons schema (from + c) [] (omega arith)))
 
 -- the id, and the columns after it
@@ -61,13 +61,13 @@ module _ (show : List ℕ → Bool) (s : Schema) (schema : List (List ℕ)) (t :
   -- what is written is a row's object of the model, of the columns whose names pass
   pub row-text : columnsOf s (tableIn row) ≡ tableFrom schema t .columns
       → getD shown 0 false ≡ show (ascii "_uuid")
-      → ((j : ℕ) → j < columnCount schema t → getD shown (j + 1) false ≡ show (cellName (getD schema (columnCell t 0 + j) [])))
-      → columnCell t 0 + columnCount schema t ≤ length schema
+      → ((j : ℕ) → j < columnCount schema t → getD shown (j + 1) false ≡ show (entryName (getD schema (columnPlace t 0 + j) [])))
+      → columnPlace t 0 + columnCount schema t ≤ length schema
       → rowShown schema t row shown ≡ rowText show (tableFrom schema t .columns) (rowFrom s row)
   unfolding rowShown rowFrom tableFrom tableIn rowIdText idIn
   row-text same id flags fits =
       let n = columnCount schema t in
-      let from = columnCell t 0 in
+      let from = columnPlace t 0 in
       let cs : List Column = map columnFrom (take n (drop from schema)) in
       let x = rowIdText row in
       let b = show (ascii "_uuid") in

@@ -4,7 +4,7 @@ use mathlib.Core.Bool.{Bool, true, false, not}
 use mathlib.Core.List.{List, [], _∷_, _++_}
 use lib.ListN.{getD}
 use Rattle.model.specs.Base.{ascii}
-use Rattle.model.specs.Catalog.{baseNumbered, baseOffset, cellName, columnCell, columnCount}
+use Rattle.model.specs.Catalog.{baseNumbered, baseOffset, entryName, columnPlace, columnCount}
 use Rattle.inner.specs.Working.{idIn, valueIn}
 use Rattle.model.specs.Answers.{quoted, uuidText, memberText, valueText}
 use Rattle.answer.specs.Texts.{commaText, joined}
@@ -15,7 +15,7 @@ nameText name = quoted name ++ (58 ∷ [])
 
 -- a column's member, by its cell of the schema
 unfoldable pub columnText : List ℕ → List (List ℕ) → ℕ → List ℕ
-columnText cell row c = memberText (cellName cell) (valueText (baseNumbered (getD cell baseOffset 0)) (valueIn c row))
+columnText cell row c = memberText (entryName cell) (valueText (baseNumbered (getD cell baseOffset 0)) (valueIn c row))
 
 unfoldable pub rowIdText : List (List ℕ) → List ℕ
 rowIdText row = memberText (ascii "_uuid") (uuidText (idIn row))
@@ -37,4 +37,4 @@ shownFrom schema from row shown c (suc k) =
 unfoldable pub rowShown : List (List ℕ) → ℕ → List (List ℕ) → List Bool → List ℕ
 rowShown schema t row shown =
     let show = getD shown 0 false in
-    123 ∷ (shownText show true (rowIdText row) ++ (joined (not show) (shownFrom schema (columnCell t 0) row shown 0 (columnCount schema t)) ++ (125 ∷ [])))
+    123 ∷ (shownText show true (rowIdText row) ++ (joined (not show) (shownFrom schema (columnPlace t 0) row shown 0 (columnCount schema t)) ++ (125 ∷ [])))

@@ -9,7 +9,7 @@ ghost use mathlib.Core.Bool.{true};
 ghost use Prim.Native.Nat.{_+_, _*_, _^_, _<_, _≤_};
 ghost use lib.ListN.{length};
 ghost use Rattle.model.specs.Limits.{mostTables, mostColumns, entryBytes, entryCount};
-ghost use Rattle.model.specs.Catalog.{cellName, columnCount};
+ghost use Rattle.model.specs.Catalog.{entryName, columnCount};
 ghost use Rattle.answer.specs.Put.{Put};
 ghost use Rattle.answer.specs.Texts.{joined};
 ghost use Rattle.projection.specs.Shown.{nameText, columnText, rowIdText, shownText, shownFrom, rowShown};
@@ -20,7 +20,7 @@ pub const SHOWN: usize = 1 + COLUMNS;
 
 // The name in a schema's cell.
 pub fn name_of<'c>(cell: &'c Entry) -> &'c [u8]
-    ensures { λ r. ⌜ (now r ≡ cellName (now (cell .entry))) × (length (now r) < entryBytes) ⌝ }
+    ensures { λ r. ⌜ (now r ≡ entryName (now (cell .entry))) × (length (now r) < entryBytes) ⌝ }
 {
     let entry = &cell[..];
     catalog::name_of(cell)
@@ -29,7 +29,7 @@ pub fn name_of<'c>(cell: &'c Entry) -> &'c [u8]
 // A name and the colon.
 fn put_name(out: &mut [u8], at: usize, cell: &Entry) -> usize
     requires { ⌜ at + nameMost < 2 ^ 64 ⌝ }
-    ensures { λ r. ⌜ Put nameMost (now (out .entry)) at (nameText (cellName (now (cell .entry)))) r (now (out .exit)) ⌝ }
+    ensures { λ r. ⌜ Put nameMost (now (out .entry)) at (nameText (entryName (now (cell .entry)))) r (now (out .exit)) ⌝ }
 {
     let name = name_of(cell);
     let r = answer::put_quoted(out, at, name);

@@ -57,9 +57,9 @@ fn digit_of(n: u8) -> u8
     requires { ⌜ n < 16 ⌝ }
 {
     if n < 10 {
-        return 48 + n;
+        return b'0' + n;
     }
-    87 + n
+    b'a' + (n - 10)
 }
 
 // Bytes in hexadecimal, as far as there is room; how many characters.
@@ -120,13 +120,13 @@ fn find(s: &[u8], b: u8) -> usize
 
 // The first field of a line.
 fn first(line: &[u8]) -> &[u8] {
-    let n = find(line, 32);
+    let n = find(line, b' ');
     &line[..n]
 }
 
 // The fields after the first.
 fn rest(line: &[u8]) -> &[u8] {
-    let n = find(line, 32);
+    let n = find(line, b' ');
     if n == line.len() {
         return &line[n..];
     }
@@ -137,17 +137,17 @@ fn rest(line: &[u8]) -> &[u8] {
 fn value_of(c: u8) -> u8
     ensures { λ r. ⌜ r < 16 ⌝ }
 {
-    if c < 48 {
+    if c < b'0' {
         return 0;
     }
-    if c < 58 {
-        return c - 48;
+    if c <= b'9' {
+        return c - b'0';
     }
-    if c < 97 {
+    if c < b'a' {
         return 0;
     }
-    if c < 103 {
-        return c - 87;
+    if c <= b'f' {
+        return 10 + (c - b'a');
     }
     0
 }
@@ -256,15 +256,15 @@ fn one(area: &mut [u8], line: &[u8]) {
         return;
     }
     let letter = line[0];
-    if letter == 115 {
+    if letter == b's' {
         start(area, rest(line));
         return;
     }
-    if letter == 116 {
+    if letter == b't' {
         transact(area, rest(line));
         return;
     }
-    if letter == 109 {
+    if letter == b'm' {
         mark(area, rest(line));
         return;
     }
@@ -279,11 +279,11 @@ fn line(area: &mut [u8], line: &[u8])
         return;
     }
     let letter = line[0];
-    if letter == 112 {
+    if letter == b'p' {
         put_at(area, rest(line));
         return;
     }
-    if letter == 108 {
+    if letter == b'l' {
         one(&mut area[..STORE_BYTES - 1], rest(line));
         return;
     }
@@ -297,7 +297,7 @@ fn next(lines: &[u8], at: usize, area: &mut [u8]) -> usize
     ensures { λ r. ⌜ (at < r) × (r ≤ length (now (lines .entry))) ⌝ }
 {
     let more = &lines[at..];
-    let n = find(more, 10);
+    let n = find(more, b'\n');
     line(area, &more[..n]);
     put(b"\n");
     if n == more.len() {

@@ -16,7 +16,7 @@ use Rattle.model.specs.Value.{Value, elements, valueOf}
 use Rattle.model.specs.Rows.{Row}
 use Rattle.model.specs.Commit.{strongly, weakly, keysOf, targets}
 use Rattle.model.specs.Areas.{columnsFrom, rowFrom}
-use Rattle.model.specs.Catalog.{refersFrom, columnCell, packedTables}
+use Rattle.model.specs.Catalog.{refersFrom, columnPlace, packedTables}
 use Rattle.inner.specs.Working.{tableIn, valueIn}
 use Rattle.model.proofs.Tests.{split}
 use Rattle.inner.proofs.Working.{row-table}

@@ -9,17 +9,15 @@ use lib.ListN.{length, getD, take, drop, length-map, length-take, length-drop, L
 use lib.Seq.{drop-cons, getD-take, getD-drop}
 use Rattle.model.specs.Limits.{mostTables, mostColumns}
 use Rattle.model.specs.Schema.{Column, Table, columnsOf}
-use Rattle.model.specs.Catalog.{columnFrom, columnCell, tableFrom, tablesFrom, packedTables, databaseFrom, tableCount, columnCount}
+use Rattle.model.specs.Catalog.{columnFrom, columnPlace, tableFrom, tablesFrom, packedTables, databaseFrom, tableCount, columnCount}
 use Rattle.model.specs.Sane.{sane}
 use Rattle.model.proofs.Accepted.{narrow, Kept, sane-kept}
 use Rattle.model.proofs.Lengths.{narrow-at}
 use Rattle.catalog.specs.Accepted.{Accepted}
+use Rattle.catalog.proofs.Laws as laws
+use Rattle.catalog.proofs.Laws.{few-tables}
 
 module _ (cells : List (List ℕ)) where
-  pub tables-length : (a k : ℕ) → length (tablesFrom cells a k) ≡ k
-  tables-length a zero = refl
-  tables-length a (suc k) = ap suc (tables-length (suc a) k)
-
   -- tables one after another
   pub tables-on : (t k : ℕ) → t < k → tablesFrom cells t (k - t) ≡ tableFrom cells t ∷ tablesFrom cells (t + 1) (k - (t + 1))
   tables-on t k h = let e : k - t ≡ suc (k - (t + 1)) = omega arith in rw (e, add-one t)
@@ -39,7 +37,7 @@ module _ (cells : List (List ℕ)) where
   columns-past a (suc k) zero h = absurd (omega arith)
   columns-past a (suc k) (suc t) h = columns-past (suc a) k t (omega arith)
 
-  pub columns-in : (t : ℕ) → t < tableCount cells → columnsOf (packedTables cells) t ≡ map columnFrom (take (columnCount cells t) (drop (columnCell t 0) cells))
+  pub columns-in : (t : ℕ) → t < tableCount cells → columnsOf (packedTables cells) t ≡ map columnFrom (take (columnCount cells t) (drop (columnPlace t 0) cells))
   unfolding tableFrom
   columns-in t h =
       let e : 0 + t ≡ t = omega arith in
@@ -52,17 +50,15 @@ module _ (cells : List (List ℕ)) where
     kept : Kept (packedTables cells)
     kept = sane-kept (databaseFrom cells) (ok .sane)
 
-    pub few-tables : tableCount cells ≤ mostTables
-    few-tables = omega (arith, kept .few, tables-length 0 (tableCount cells))
-
     pub few-columns : (t : ℕ) → length (columnsOf (packedTables cells) t) ≤ mostColumns
     few-columns t = narrow-at (packedTables cells) t (kept .narrow)
 
-    pub width-is : (t : ℕ) → t < tableCount cells → length (columnsOf (packedTables cells) t) ≡ min (columnCount cells t) mostColumns
+    pub width-is : (t : ℕ) → t < tableCount cells → length (columnsOf (packedTables cells) t) ≡ columnCount cells t
     width-is t h =
-        let l : length (columnsOf (packedTables cells) t) ≡ min (columnCount cells t) (length cells - columnCell t 0) =
-        ap length (columns-in t h) ∙ length-map (take (columnCount cells t) (drop (columnCell t 0) cells)) columnFrom ∙ simp (length-take, length-drop) in
-        omega (arith, l, few-columns t, few-tables, ok .size)
+        let l : length (columnsOf (packedTables cells) t) ≡ min (columnCount cells t) (length cells - columnPlace t 0) =
+        ap length (columns-in t h) ∙ length-map (take (columnCount cells t) (drop (columnPlace t 0) cells)) columnFrom ∙ simp (length-take, length-drop) in
+        let n = few-tables cells ok in
+        omega (arith, l, laws.few-columns cells ok t (omega (arith, h, n)), n, ok .size)
 
     -- a table that has a column is one of the tables
     pub has-columns : (t c : ℕ) → c < length (columnsOf (packedTables cells) t) → t < tableCount cells
@@ -72,13 +68,13 @@ module _ (cells : List (List ℕ)) where
         below-of a b f = omega arith
 
     pub columns-on : (t c : ℕ) → c < length (columnsOf (packedTables cells) t)
-        → drop c (columnsOf (packedTables cells) t) ≡ columnFrom (getD cells (columnCell t c) []) ∷ drop (c + 1) (columnsOf (packedTables cells) t)
+        → drop c (columnsOf (packedTables cells) t) ≡ columnFrom (getD cells (columnPlace t c) []) ∷ drop (c + 1) (columnsOf (packedTables cells) t)
     columns-on t c h =
         let b : t < tableCount cells = has-columns t c h in
         let w = width-is t b in
-        let at : getD (columnsOf (packedTables cells) t) c (columnFrom []) ≡ columnFrom (getD cells (columnCell t c) []) =
-        ap (λ (l : List Column). getD l c (columnFrom [])) (columns-in t b) ∙ List·getD-map columnFrom (take (columnCount cells t) (drop (columnCell t 0) cells)) c []
-        ∙ ap columnFrom (getD-take (columnCount cells t) (drop (columnCell t 0) cells) c [] (omega (arith, w)) ∙ getD-drop (columnCell t 0) cells c []
+        let at : getD (columnsOf (packedTables cells) t) c (columnFrom []) ≡ columnFrom (getD cells (columnPlace t c) []) =
+        ap (λ (l : List Column). getD l c (columnFrom [])) (columns-in t b) ∙ List·getD-map columnFrom (take (columnCount cells t) (drop (columnPlace t 0) cells)) c []
+        ∙ ap columnFrom (getD-take (columnCount cells t) (drop (columnPlace t 0) cells) c [] (omega (arith, w)) ∙ getD-drop (columnPlace t 0) cells c []
         ∙ ap (λ (n : ℕ). getD cells n []) (omega arith)) in
         drop-cons (columnsOf (packedTables cells) t) c (columnFrom []) h
         ∙ rw (at, add-one c)

@@ -9,7 +9,7 @@ use Rattle.model.specs.Base.{all}
 use Rattle.model.specs.Schema.{Refers, Schema, columnsOf}
 use Rattle.model.specs.Rows.{Row, has}
 use Rattle.model.specs.Commit.{strongly, weakly, targets}
-use Rattle.model.specs.Catalog.{columnCell, columnFrom}
+use Rattle.model.specs.Catalog.{columnPlace, columnFrom}
 use Rattle.references.specs.declared.Target.{Target}
 use Rattle.references.specs.declared.Target.the-variants.{Table, Nothing}
 
@@ -23,7 +23,7 @@ told Nothing = none
 
 -- how column c of table t refers, in the cells of a schema
 unfoldable pub refersAt : List (List ℕ) → ℕ → ℕ → Refers
-refersAt cells t c = columnFrom (getD cells (columnCell t c) []) .refers
+refersAt cells t c = columnFrom (getD cells (columnPlace t c) []) .refers
 
 -- the rows that a row refers to, strongly (1) or weakly, are all there
 unfoldable pub referred : Schema → ℕ → List Row → Row → Bool

@@ -1,6 +1,5 @@
 // References: which rows the elements of a row's columns name.
 use model::Atom;
-use model::COLUMNS;
 use model::Catalog;
 use model::ELEMENTS;
 use model::ID;
@@ -19,7 +18,7 @@ ghost use Rattle.model.specs.Rows.{keyOf, has};
 ghost use Rattle.model.specs.Commit.{keysOf, strongOf, present};
 ghost use Rattle.model.specs.Areas.{rowFrom};
 ghost use Rattle.model.specs.Catalog.{refersFrom, packedTables};
-ghost use Rattle.inner.specs.Working.{working, keyIn, valueIn};
+ghost use Rattle.inner.specs.Working.{working, keyIn, valueIn, Ordered};
 ghost use Rattle.references.specs.Links.{pick, told, refersAt, referred};
 ghost use Rattle.catalog.specs.Accepted.{Accepted};
 
@@ -37,11 +36,7 @@ pub fn width(schema: &Catalog, table: u8) -> usize
     if catalog::table_count(&schema[0]) <= table {
         return 0;
     }
-    let w = leaf::wide(catalog::width(&schema[1 + leaf::wide(table)]));
-    if COLUMNS < w {
-        return COLUMNS;
-    }
-    w
+    leaf::wide(catalog::width(&schema[1 + leaf::wide(table)]))
 }
 
 // A reference of a kind (0 none, 1 strong, 2 weak) to a table, where strong ones (how 1) or weak ones are asked for.
@@ -83,7 +78,7 @@ pub fn is_named(table: u8, atom: &Atom, row: &Row) -> bool
 
 // Whether there is a row of a table that an atom names.
 pub fn has_named(rows: &[Row], n: usize, table: u8, atom: &Atom) -> bool
-    requires { ⌜ n ≤ length (now rows) ⌝ }
+    requires { ⌜ Ordered n (now rows) ⌝ }
     ensures { λ r. ⌜ ((s : Schema) → r ≡ has (keyOf table (uuidOf (now (atom .entry)))) (working s n (now (rows .entry)))) ⌝ }
 {
     let id = &atom[..];
@@ -118,7 +113,7 @@ fn one_names(atoms: &[Atom], count: usize, table: u8, row: &Row) -> bool
 
 // Whether each of the first atoms names a row of a table.
 fn all_named(atoms: &[Atom], count: usize, table: u8, rows: &[Row], n: usize) -> bool
-    requires { ⌜ (count ≤ length (now atoms)) × (n ≤ length (now rows)) ⌝ }
+    requires { ⌜ (count ≤ length (now atoms)) × Ordered n (now rows) ⌝ }
     ensures { λ r. ⌜ ((s : Schema) → r ≡ all (λ (k : ℕ). has k (working s n (now (rows .entry)))) (keysOf (some table) (take count (now (atoms .entry))))) ⌝ }
 {
     let mut k = 0;
@@ -140,7 +135,7 @@ pub fn keep_named(
     n: usize,
     out: &mut [Atom],
 ) -> usize
-    requires { ⌜ (count ≤ length (now atoms)) × (count ≤ length (now out)) × (n ≤ length (now rows)) ⌝ }
+    requires { ⌜ (count ≤ length (now atoms)) × (count ≤ length (now out)) × Ordered n (now rows) ⌝ }
     ensures { λ r. ⌜ ((s : Schema) → r ≡ length (keep (present (working s n (now (rows .entry))) table) (take count (now (atoms .entry))))) ⌝ }
     ensures { λ r. ⌜ ((s : Schema) → now (out .exit) ≡ keep (present (working s n (now (rows .entry))) table) (take count (now (atoms .entry))) ++ drop r (now (out .entry))) ⌝ }
 {
@@ -175,7 +170,7 @@ fn column_names(row: &Row, c: usize, to: Target, other: &Row) -> bool
 
 // Whether each element of column c names a row, as one of a column that refers to a table.
 fn column_found(row: &Row, c: usize, to: Target, rows: &[Row], n: usize) -> bool
-    requires { ⌜ (c < mostColumns) × (n ≤ length (now rows)) ⌝ }
+    requires { ⌜ (c < mostColumns) × Ordered n (now rows) ⌝ }
     ensures { λ r. ⌜ ((s : Schema) → r ≡ all (λ (k : ℕ). has k (working s n (now (rows .entry)))) (keysOf (told to) (elements (valueIn c (now (row .entry)))))) ⌝ }
 {
     match to {
@@ -211,7 +206,7 @@ pub fn refers_to(row: &Row, schema: &Catalog, other: &Row) -> bool
 // Whether every row that a row refers to, strongly (how 1) or weakly, is there.
 pub fn row_found(row: &Row, schema: &Catalog, how: u8, rows: &[Row], n: usize) -> bool
     requires { ⌜ Accepted (now schema) ⌝ }
-    requires { ⌜ n ≤ length (now rows) ⌝ }
+    requires { ⌜ Ordered n (now rows) ⌝ }
     ensures { λ r. ⌜ r ≡ referred (packedTables (now (schema .entry))) how (working (packedTables (now (schema .entry))) n (now (rows .entry))) (rowFrom (packedTables (now (schema .entry))) (now (row .entry))) ⌝ }
 {
     let table = rows::table_of(row);

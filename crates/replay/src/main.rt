@@ -4,6 +4,7 @@
 use libc::STDERR_FILENO;
 use libc::STDOUT_FILENO;
 use model::Answer;
+use model::COLUMN_RECORD;
 use model::COLUMNS;
 use model::Catalog;
 use model::ENTRIES;
@@ -13,9 +14,10 @@ use model::FRESH_BYTES;
 use model::ID;
 use model::LEAST_RECORDS;
 use model::MIRROR_BYTES;
+use model::ROW_RECORD;
 use model::STORE_BYTES;
 use model::TABLES;
-ghost use Rattle.model.specs.Limits.{freshBytes};
+ghost use Rattle.model.specs.Limits.{freshBytes, columnRecordBytes};
 ghost use mathlib.Core.Path.{_≡_};
 ghost use Prim.Native.Nat.{_*_, _+_, _^_, _≤_, _<_, min};
 ghost use lib.ListN.{length};
@@ -167,13 +169,13 @@ fn read_file(i: usize, buf: &mut [u8]) -> Filled
 fn digit(b: u8) -> u64
     ensures { λ r. ⌜ r ≤ 10 ⌝ }
 {
-    if b < 48 {
+    if b < b'0' {
         return 10;
     }
-    if 57 < b {
+    if b'9' < b {
         return 10;
     }
-    (b - 48) as u64
+    (b - b'0') as u64
 }
 
 // The run that a text is.
@@ -396,20 +398,23 @@ fn replay_lines(store: &mut [u8], whole: &mut [u8], display: &mut [u8], requests
 
 // ── tables ──
 
+// Where the count stands in a column record.
+const COUNT_AT: usize = ROW_RECORD + 1;
+
 // A column's count and atoms, at the end of a column record's bytes.
 fn ask_column(area: &[u8], table: u8, id: &[u8; ID], column: u8, bytes: &mut [u8])
-    requires { ⌜ length (now bytes) ≡ 128 ⌝ }
+    requires { ⌜ length (now bytes) ≡ columnRecordBytes ⌝ }
 {
-    mirror::column(area, table, id, column, &mut bytes[27..]);
+    mirror::column(area, table, id, column, &mut bytes[COUNT_AT..]);
 }
 
 // A column's name and value, as an answer has them.
 fn put_column(area: &[u8], cell: &Entry, table: u8, id: &[u8; ID], column: u8) {
-    let mut bytes = [0u8; 128];
+    let mut bytes = [0u8; COLUMN_RECORD];
     ask_column(area, table, id, column, &mut bytes);
     let atoms = record::atoms(&bytes);
     let mut text = [0u8; 600];
-    let n = answer::put_value(&mut text, 0, catalog::kind(cell), bytes[27], &atoms);
+    let n = answer::put_value(&mut text, 0, catalog::kind(cell), bytes[COUNT_AT], &atoms);
     let name = projection::name_of(cell);
     put(b",\"");
     put(name);

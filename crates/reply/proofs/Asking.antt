@@ -13,7 +13,7 @@ use Rattle.model.specs.Json.{Json, null, bool, num, str, arr, obj}
 use Rattle.inner.specs.Positions.{treeAt}
 use Rattle.model.specs.Nav.{kindOf, isText, textIn}
 use Rattle.model.specs.Text.{isWord}
-use Rattle.model.specs.Catalog.{cellName, packedTables, databaseFrom}
+use Rattle.model.specs.Catalog.{entryName, packedTables, databaseFrom}
 use Rattle.model.specs.Rows.{Row}
 use Rattle.inner.specs.Working.{working}
 use Rattle.model.specs.Transact as model
@@ -21,6 +21,7 @@ use Rattle.model.specs.Transact.{readRequest, freshIds, idsGood}
 use Rattle.model.specs.Replies.{Reply, refused, freshly, named, replyTo}
 use Rattle.model.proofs.Tests.{clash}
 use Rattle.model.proofs.TextUtf8.{by-test}
+use Rattle.model.proofs.RunKeeps.{request-good}
 use Rattle.uuids.specs.Named.{operationsAt}
 use Rattle.request.specs.declared.Request.{Request}
 use Rattle.request.specs.Reading.{RequestRead}
@@ -55,6 +56,8 @@ module _ (cells : List (List ℕ)) (n : ℕ) (before : List (List (List ℕ))) (
     told = λ t. absurd (clash false t refl);
     running = λ t. absurd (clash false t refl);
     few = λ t. absurd (clash false t refl);
+    ids = λ t. absurd (clash false t refl);
+    operations = λ t. absurd (clash false t refl);
   }
 
   module _ (h : q .fits ≡ true) where
@@ -65,28 +68,30 @@ module _ (cells : List (List ℕ)) (n : ℕ) (before : List (List (List ℕ))) (
     unfolding replyOn
     reads number room = ap (replyTo (databaseFrom cells) number rows (freshIds fresh) room) (read .request h)
 
-    same-name : {b : Bool} → isWord (cellName (getD cells 0 [])) (treeAt request (q .name)) ≡ b → eqBytes (textIn (treeAt request (q .name))) (cellName (getD cells 0 [])) ≡ b
-    same-name e = sym (word-is (cellName (getD cells 0 [])) (treeAt request (q .name)) (read .named h)) ∙ e
+    same-name : {b : Bool} → isWord (entryName (getD cells 0 [])) (treeAt request (q .name)) ≡ b → eqBytes (textIn (treeAt request (q .name))) (entryName (getD cells 0 [])) ≡ b
+    same-name e = sym (word-is (entryName (getD cells 0 [])) (treeAt request (q .name)) (read .named h)) ∙ e
 
-    pub asked-other : isWord (cellName (getD cells 0 [])) (treeAt request (q .name)) ≡ false → Asked cells n before request fresh ends (record { runs = false; answer = OtherDatabase; ops = Nothing })
+    pub asked-other : isWord (entryName (getD cells 0 [])) (treeAt request (q .name)) ≡ false → Asked cells n before request fresh ends (record { runs = false; answer = OtherDatabase; ops = Nothing })
     asked-other w = record {
       refuses = λ t. refl;
       refused = λ t number room. reads number room ∙ other number room;
       told = λ t. absurd (clash false t refl);
       running = λ t. absurd (clash false t refl);
       few = λ t. absurd (clash false t refl);
+      ids = λ t. absurd (clash false t refl);
+      operations = λ t. absurd (clash false t refl);
     }
       where
         other : (number room : ℕ) → named (databaseFrom cells) number rows (freshIds fresh) room asks ≡ refused OtherDatabase rows
         other number room =
-            by-test (λ (r : Reply). r ≡ refused OtherDatabase rows) (eqBytes (textIn (treeAt request (q .name))) (cellName (getD cells 0 [])))
+            by-test (λ (r : Reply). r ≡ refused OtherDatabase rows) (eqBytes (textIn (treeAt request (q .name))) (entryName (getD cells 0 [])))
             (λ t. absurd (clash _ t (same-name w))) (λ t. refl)
 
-    module _ (w : isWord (cellName (getD cells 0 [])) (treeAt request (q .name)) ≡ true) where
+    module _ (w : isWord (entryName (getD cells 0 [])) (treeAt request (q .name)) ≡ true) where
       goes : (number room : ℕ) → replyOn cells number n before request fresh room ≡ freshly (packedTables cells) number rows (freshIds fresh) room asks
       goes number room =
           reads number room
-          ∙ by-test (λ (r : Reply). r ≡ freshly (packedTables cells) number rows (freshIds fresh) room asks) (eqBytes (textIn (treeAt request (q .name))) (cellName (getD cells 0 [])))
+          ∙ by-test (λ (r : Reply). r ≡ freshly (packedTables cells) number rows (freshIds fresh) room asks) (eqBytes (textIn (treeAt request (q .name))) (entryName (getD cells 0 [])))
           (λ t. refl) (λ t. absurd (clash _ (same-name w) t))
 
       stale : freshGood fresh rows ≡ false → (number room : ℕ) → freshly (packedTables cells) number rows (freshIds fresh) room asks ≡ refused BadFreshIds rows
@@ -100,6 +105,8 @@ module _ (cells : List (List ℕ)) (n : ℕ) (before : List (List (List ℕ))) (
         told = λ t. absurd (clash false t refl);
         running = λ t. absurd (clash false t refl);
         few = λ t. absurd (clash false t refl);
+        ids = λ t. absurd (clash false t refl);
+        operations = λ t. absurd (clash false t refl);
       }
 
       runs : freshGood fresh rows ≡ true → (number room : ℕ) → freshly (packedTables cells) number rows (freshIds fresh) room asks ≡ toldOf (packedTables cells) number rows room (transactOn (packedTables cells) request (q .ops) fresh rows)
@@ -108,6 +115,10 @@ module _ (cells : List (List ℕ)) (n : ℕ) (before : List (List (List ℕ))) (
           by-test (λ (r : Reply). r ≡ toldOf (packedTables cells) number rows room (transactOn (packedTables cells) request (q .ops) fresh rows)) (idsGood (freshIds fresh) rows)
           (λ t. refl) (λ t. absurd (clash _ g t))
 
+      ids-are : freshGood fresh rows ≡ true → idsGood (freshIds fresh) rows ≡ true
+      unfolding freshGood
+      ids-are g = g
+
       pub asked-runs : freshGood fresh rows ≡ true → length fresh ≡ 256 → Asked cells n before request fresh ends (record { runs = true; answer = Accepted; ops = q .ops })
       asked-runs g l = record {
         refuses = λ t. absurd (clash true refl t);
@@ -115,4 +126,6 @@ module _ (cells : List (List ℕ)) (n : ℕ) (before : List (List (List ℕ))) (
         told = λ t number room. goes number room ∙ runs g number room;
         running = λ t. record { says = read .says h; fine = read .fine h; short = read .short h; ids = l };
         few = λ t. read .few h;
+        ids = λ t. ids-are g;
+        operations = λ t. request-good request asks (read .request h) .operations;
       }

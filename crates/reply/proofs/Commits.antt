@@ -4,29 +4,40 @@ use mathlib.Core.Bool.{Bool, true, false}
 use mathlib.Core.List.{List, [], _∷_, _++_}
 use Prim.Native.Nat.{ℕ, _≤_}
 use native.Mathlib.Omega.{arith}
+use lib.ListN.{length, length-map}
+use Rattle.model.specs.Limits.{mostOperations, freshBytes}
+use Rattle.model.specs.Base.{all}
+use Rattle.model.specs.Catalog.{packedTables, databaseFrom}
+use Rattle.model.specs.Members.{membersIn}
 use Rattle.model.specs.declared.Found.{Found}
 use Rattle.model.specs.declared.Fault.{Fault}
-use Rattle.inner.specs.Positions.{isNothing}
+use Rattle.inner.specs.Positions.{isNothing, itemsFrom}
 use Rattle.model.specs.Schema.{Schema}
 use Rattle.model.specs.Rows.{Row}
 use Rattle.model.specs.Faults.{isFine}
-use Rattle.inner.specs.Working.{working}
+use Rattle.inner.specs.Working.{working, Ordered}
+use Rattle.inner.proofs.Ordering.{sorted-ordered}
+use Rattle.catalog.specs.Accepted.{Accepted}
+use Rattle.model.proofs.Order.{Sorted}
+use Rattle.model.proofs.Octets.{octet}
+use Rattle.model.proofs.RunKeeps.{fresh-short, fresh-length, run-keeps}
+use Rattle.model.proofs.TransactKeeps.{sane-modest}
 use Rattle.model.specs.Answers.{bracketed, errorText}
 use Rattle.model.specs.Transact as model
-use Rattle.model.specs.Transact.{atCommit}
+use Rattle.model.specs.Transact.{freshIds, namesOf, atCommit}
 use Rattle.model.proofs.Tests.{split, clash}
 use Rattle.model.proofs.TextUtf8.{by-test}
 use Rattle.answer.specs.Put.{Put}
 use Rattle.answer.specs.Texts.{commaText, errorResult}
 use Rattle.answer.proofs.Putting.{put-then, put-is}
 use Rattle.answer.proofs.Joins.{bracketed-is}
-use Rattle.uuids.specs.Named.{namesAt}
+use Rattle.uuids.specs.Named.{operationsAt, namesAt}
 use Rattle.commit.specs.declared.Settled.{Settled}
 use Rattle.commit.specs.Steps.{Committed}
 use Rattle.run.specs.declared.Ran.{Ran}
 use Rattle.reply.specs.declared.Outcome.{Outcome}
 use Rattle.run.specs.Running.{runWhole, RunAll}
-use Rattle.reply.specs.Replying.{committed, transactOn, closing, Closed, Ended}
+use Rattle.reply.specs.Replying.{committed, transactOn, closing, Sure, Closed, Ended}
 use Rattle.reply.proofs.Texts.{end-fine, end-failed, run-empty}
 
 -- ── the commit and the closing text ──
@@ -58,6 +69,7 @@ module _ {s : Schema} {n : ℕ} {entry exit : List (List (List ℕ))} {c : Settl
           rows = λ t. rows-are h;
           few = d .few;
           tidy = λ t q. d .tidy q h;
+          ordered = λ t. d .ordered h;
           text = put-is p (closing-fine _ first f) (omega arith);
         }
 
@@ -70,8 +82,23 @@ module _ {s : Schema} {n : ℕ} {entry exit : List (List (List ℕ))} {c : Settl
           rows = λ t. absurd (clash false t refl);
           few = omega arith;
           tidy = λ t. absurd (clash false t refl);
+          ordered = λ t. absurd (clash false t refl);
           text = put-is (put-then p (put-then q z)) (ap (λ (x : Fault). commaText first ++ (errorResult x ++ 93 ∷ [])) fault-is ∙ closing-failed _ first f) (omega arith);
         }
+
+-- ── the operations leave rows in order ──
+module _ (cells : List (List ℕ)) (ok : Accepted cells) (text : List ℕ) (ops : Found) (fresh : List ℕ) (few : length (itemsFrom text ops) ≤ mostOperations) (size : length fresh ≡ freshBytes) (bytes : all octet fresh ≡ true) where
+  run-sorted : (rows : List Row) → Sure (packedTables cells) text ops fresh rows → isFine (runWhole (packedTables cells) text ops fresh rows .fault) ≡ true → Sorted (runWhole (packedTables cells) text ops fresh rows .rows)
+  unfolding runWhole namesAt operationsAt
+  run-sorted rows sure f =
+      let os = operationsAt text ops in
+      run-keeps (packedTables cells) (namesOf (freshIds fresh) os) [] (freshIds fresh) rows os (sane-modest (databaseFrom cells) (ok .sane)) (sure .operations)
+      (omega (arith, few, length-map (itemsFrom text ops) membersIn, fresh-length fresh)) (fresh-short fresh size bytes) (sure .ids) (sure .sound .good) (sure .sound .meet) f .good .sorted
+
+  pub run-ordered : (n : ℕ) (entry mid : List (List (List ℕ))) {before answer : List ℕ} {q : Ran} → Sure (packedTables cells) text ops fresh (working (packedTables cells) n entry)
+      → RunAll (packedTables cells) (runWhole (packedTables cells) text ops fresh (working (packedTables cells) n entry)) n entry mid before answer q → q .count ≤ length mid → isFine (q .fault) ≡ true → Ordered (q .count) mid
+  run-ordered n entry mid {q = q} sure ran h f =
+      sorted-ordered (packedTables cells) (q .count) mid h (subst Sorted (sym (ran .rows f)) (run-sorted (working (packedTables cells) n entry) sure (ap isFine (sym (ran .fault)) ∙ f)))
 
 -- ── the whole transaction ──
 module _ (s : Schema) (text : List ℕ) (ops : Found) (fresh : List ℕ) (rows : List Row) where
@@ -119,6 +146,7 @@ module _ (s : Schema) (text : List ℕ) (ops : Found) (fresh : List ℕ) (n : �
         stays = λ t. ap (λ (t : model.Transaction). t .rows) e;
         few = k;
         tidy = λ t. absurd (clash false t refl);
+        ordered = λ t. absurd (clash false t refl);
         text = put-is (put-then (ran .answer) p) (bracketed-is (run .results) ∙ sym (ap (λ (t : model.Transaction). t .text) e)) (omega arith);
       }
 
@@ -136,6 +164,7 @@ module _ (s : Schema) (text : List ℕ) (ops : Found) (fresh : List ℕ) (n : �
             stays = λ t. absurd (clash (r .commits) (c .commits ∙ h) t);
             few = omega (arith, c .few, ran .few);
             tidy = λ t x. c .tidy t (ran .tidy f x);
+            ordered = c .ordered;
             text = put-is (put-then (ran .answer) (c .text)) (end-fine (run .results) _ (isNothing ops) h ∙ sym (ap (λ (t : model.Transaction). t .text) e)) (omega arith);
           }
 
@@ -148,6 +177,7 @@ module _ (s : Schema) (text : List ℕ) (ops : Found) (fresh : List ℕ) (n : �
             stays = λ t. ap (λ (t : model.Transaction). t .rows) e;
             few = omega (arith, c .few, ran .few);
             tidy = λ t. absurd (clash (r .commits) t (c .commits ∙ h));
+            ordered = λ t. absurd (clash (r .commits) t (c .commits ∙ h));
             text = put-is (put-then (ran .answer) (c .text)) (end-failed (run .results) _ (isNothing ops) h (run-empty s text ops fresh (working s n entry)) ∙ sym (ap (λ (t : model.Transaction). t .text) e)) (omega arith);
           }
 

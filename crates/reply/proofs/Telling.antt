@@ -6,18 +6,20 @@ use Prim.Native.Nat.{ℕ, _+_, _≤_, _<_}
 use native.Mathlib.Omega.{arith}
 use borrow.Author.Tests.{le-leb, lt-leb}
 use lib.Dec.{leb}
-use lib.ListN.{length, take, replicate, length-replicate}
+use lib.ListN.{length, take, drop, replicate, length-replicate}
 use lib.Seq.{take-all}
-use Rattle.model.specs.declared.Found.{Found}
 use Rattle.model.specs.declared.Answer.{Answer}
 use Rattle.model.specs.declared.Answer.the-variants.{Accepted, AnswerTooLong, NumbersSpent}
 use Rattle.model.specs.Octets.{filled}
-use Rattle.model.specs.Limits.{lastNumber}
+use Rattle.model.specs.Limits.{lastNumber, rowsOffset}
 use Rattle.model.specs.Base.{flat}
 use Rattle.model.specs.Schema.{Schema}
 use Rattle.model.specs.Rows.{Row}
 use Rattle.model.specs.Areas.{rowFrom}
-use Rattle.inner.specs.Working.{working, Tidy}
+use Rattle.inner.specs.Working.{working, keyIn, Ordered}
+use Rattle.inner.proofs.Ordering.{keys-ordered}
+use Rattle.area.specs.Layout.{rowsAt}
+use Rattle.area.proofs.Copies.{rows-length}
 use Rattle.model.specs.Records.{Change, diff, numberFrom, encode}
 use Rattle.model.specs.Refusals.{isRefusal}
 use Rattle.model.specs.Transact.{Transaction}
@@ -28,7 +30,7 @@ use Rattle.answer.specs.Put.{putAt}
 use Rattle.answer.proofs.Putting.{put-zeros}
 use Rattle.reply.specs.declared.Outcome.{Outcome}
 use Rattle.reply.specs.declared.Effect.{Effect}
-use Rattle.reply.specs.Replying.{transactOn, toldOf, Ended, Refused, Replied}
+use Rattle.reply.specs.Replying.{toldOf, Ended, Refused, Replied}
 
 -- a buffer to which nothing was written
 filled-none : (n : ℕ) → replicate n 0 ≡ filled n []
@@ -71,24 +73,15 @@ module _ (s : Schema) (number : ℕ) (rows : List Row) (room : ℕ) (t : Transac
       pub told-spent : lastNumber < number + length (diff s rows (t .rows)) → toldOf s number rows room t ≡ refused NumbersSpent rows
       told-spent k = told-fits some-changes ∙ spent (diff s rows (t .rows)) k
 
--- ── a transaction on a copy of the rows ──
-pub working-same : (s : Schema) (n : ℕ) (rows before : List (List (List ℕ))) → take n rows ≡ take n before → working s n rows ≡ working s n before
+-- ── the rows that the area has are those that were read from it ──
+pub area-rows : (s : Schema) (n : ℕ) (rows : List (List (List ℕ))) (a : List ℕ) → take n rows ≡ rowsAt n a → working s n (rowsAt n a) ≡ working s n rows
 unfolding working
-working-same s n rows before e = ap (map (rowFrom s)) e
+area-rows s n rows a e = ap (map (rowFrom s)) (take-all n (rowsAt n a) (omega (arith, rows-length n (drop rowsOffset a))) ∙ sym e)
 
-pub ended-same : (s : Schema) (text : List ℕ) (ops : Found) (fresh : List ℕ) (n : ℕ) {rows before exit : List (List (List ℕ))} {from to : List ℕ} {r : Outcome} → take n rows ≡ take n before
-    → Ended s (transactOn s text ops fresh (working s n rows)) n rows exit from to r → Ended s (transactOn s text ops fresh (working s n before)) n before exit from to r
-ended-same s text ops fresh n {rows} {before} {exit} {from} {to} {r} e d =
-    let w = working-same s n rows before e in
-    let x = subst (λ (l : List Row). Ended s (transactOn s text ops fresh l) n rows exit from to r) w d in
-    record {
-      commits = x .commits;
-      rows = x .rows;
-      stays = λ t. x .stays t ∙ w;
-      few = x .few;
-      tidy = λ t q. x .tidy t (subst (Tidy s) (sym e) q);
-      text = x .text;
-    }
+pub area-ordered : (n : ℕ) (rows : List (List (List ℕ))) (a : List ℕ) → take n rows ≡ rowsAt n a → Ordered n rows → Ordered n (rowsAt n a)
+area-ordered n rows a e o =
+    let l = rows-length n (drop rowsOffset a) in
+    keys-ordered n n rows (rowsAt n a) (omega (arith, l)) (ap (map keyIn) (take-all n (rowsAt n a) (omega (arith, l)) ∙ sym e)) o
 
 -- ── the whole ──
 module _ (s : Schema) (d : Reply) (run number n : ℕ) (before exit : List (List (List ℕ))) (recordsIn textIn : List ℕ) (low : number ≤ lastNumber) (records : List ℕ) (same : length records ≡ length recordsIn) where

@@ -9,18 +9,19 @@ use Rattle.model.specs.declared.Answer.{Answer}
 use Rattle.model.specs.declared.Fault.{Fault}
 use Rattle.model.specs.Octets.{filled}
 use Rattle.model.specs.Limits.{lastNumber, mostRows, mostOperations}
-use Rattle.model.specs.Base.{flat}
+use Rattle.model.specs.Base.{all, flat}
 use Rattle.inner.specs.Positions.{itemsFrom}
 use Rattle.model.specs.Faults.{Judged, isFine}
 use Rattle.model.specs.Schema.{Schema}
 use Rattle.model.specs.Rows.{Row}
 use Rattle.model.specs.Commit.{commit}
 use Rattle.model.specs.Catalog.{packedTables, databaseFrom}
-use Rattle.inner.specs.Working.{working, Tidy}
+use Rattle.inner.specs.Working.{working, Tidy, Ordered}
 use Rattle.model.specs.Records.{numberFrom, encode}
 use Rattle.model.specs.Refusals.{isRefusal}
 use Rattle.model.specs.Transact as model
-use Rattle.model.specs.Transact.{freshIds, transactRows}
+use Rattle.model.specs.Transact.{freshIds, idsGood, transactRows}
+use Rattle.model.proofs.RunKeeps.{operationGood, Sound}
 use Rattle.model.specs.Replies as replies
 use Rattle.model.specs.Replies.{refused, told, reply}
 use Rattle.answer.specs.Put.{Put}
@@ -46,6 +47,13 @@ toldOf s number rows room t = told s number rows room t
 unfoldable pub replyOn : List (List ℕ) → ℕ → ℕ → List (List (List ℕ)) → List ℕ → List ℕ → ℕ → replies.Reply
 replyOn cells number n before request fresh room = reply (databaseFrom cells) number (working (packedTables cells) n before) request fresh room
 
+-- ── what is known of a request that is run ──
+-- the rows are in order and their values meet their types, the fresh ids may be given (refusal 6), and the operations' strings are good
+pub record Sure (s : Schema) (text : List ℕ) (ops : Found) (fresh : List ℕ) (rows : List Row) : Type 0 where
+  pub sound : Sound s rows
+  pub ids : idsGood (freshIds fresh) rows ≡ true
+  pub operations : all operationGood (operationsAt text ops) ≡ true
+
 -- ── what the code's parts promise ──
 -- "A failed commit adds one such error object after the operations' results"; and the closing bracket
 unfoldable pub closing : Fault → Bool → List ℕ
@@ -57,6 +65,7 @@ pub record Closed (s : Schema) (j : Judged (List Row)) (n : ℕ) (entry exit : L
   pub rows : r .commits ≡ true → working s (r .count) exit ≡ j .got
   pub few : r .count ≤ n
   pub tidy : r .commits ≡ true → Tidy s (take n entry) → Tidy s (take (r .count) exit)
+  pub ordered : r .commits ≡ true → Ordered (r .count) exit
   pub text : Put 45 before at (closing (j .fault) first) (r .at) after
 
 -- a transaction, and the whole of the answer's text
@@ -66,6 +75,7 @@ pub record Ended (s : Schema) (t : model.Transaction) (n : ℕ) (entry exit : Li
   pub stays : r .commits ≡ false → t .rows ≡ working s n entry
   pub few : r .count ≤ mostRows
   pub tidy : r .commits ≡ true → Tidy s (take n entry) → Tidy s (take (r .count) exit)
+  pub ordered : r .commits ≡ true → Ordered (r .count) exit
   pub text : Put 4000045 before 0 (t .text) (r .at) after
 
 -- a request: whether it is run, and else the refusal (4, 5 or 6)
@@ -76,6 +86,8 @@ pub record Asked (cells : List (List ℕ)) (n : ℕ) (before : List (List (List 
       → replyOn cells number n before request fresh room ≡ toldOf (packedTables cells) number (working (packedTables cells) n before) room (transactOn (packedTables cells) request (r .ops) fresh (working (packedTables cells) n before))
   pub running : r .runs ≡ true → Running request ends (r .ops) fresh
   pub few : r .runs ≡ true → length (itemsFrom request (r .ops)) ≤ mostOperations
+  pub ids : r .runs ≡ true → idsGood (freshIds fresh) (working (packedTables cells) n before) ≡ true
+  pub operations : r .runs ≡ true → all operationGood (operationsAt request (r .ops)) ≡ true
 
 -- "zeroes every other buffer written to"
 pub record Refused (why : Answer) (recordsIn recordsOut textIn textOut : List ℕ) (r : Effect) : Type 0 where

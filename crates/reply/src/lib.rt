@@ -9,15 +9,17 @@ use model::Row;
 ghost use mathlib.Core.Path.{_≡_};
 ghost use Prim.Native.Nat.{_≤_, _<_, _+_, _^_};
 ghost use lib.ListN.{length, take};
-ghost use Rattle.model.specs.Limits.{mostOperations, mostRows, freshBytes, leastRecords};
+ghost use Rattle.model.specs.Limits.{mostOperations, mostRows, freshBytes, leastRecords, storeBytes};
 ghost use Rattle.inner.specs.Positions.{itemsFrom};
 ghost use Rattle.inner.specs.Positions.{isNothing};
 ghost use Rattle.model.specs.Faults.{isFine};
-ghost use Rattle.inner.specs.Working.{working};
+ghost use Rattle.inner.specs.Working.{working, Ordered};
+ghost use Rattle.model.proofs.RunKeeps.{Sound};
+ghost use Rattle.area.specs.Layout.{rowsAt};
 ghost use Rattle.model.specs.Catalog.{packedTables};
 ghost use Rattle.catalog.specs.Accepted.{Accepted};
 ghost use Rattle.uuids.specs.Named.{Running};
-ghost use Rattle.reply.specs.Replying.{committed, transactOn, replyOn, Closed, Ended, Asked, Refused, Replied};
+ghost use Rattle.reply.specs.Replying.{committed, transactOn, replyOn, Sure, Closed, Ended, Asked, Refused, Replied};
 
 // What a transaction comes to: whether it commits, how many rows there are then, and where the answer ends.
 pub struct Outcome {
@@ -61,7 +63,7 @@ fn at_commit(
     at: usize,
 ) -> Outcome
     requires { ⌜ Accepted (now schema) ⌝ }
-    requires { ⌜ n ≤ length (now rows) ⌝ }
+    requires { ⌜ Ordered n (now rows) ⌝ }
     requires { ⌜ at + 45 < 2 ^ 64 ⌝ }
     ensures { λ r. ⌜ Closed (packedTables (now (schema .entry))) (committed (packedTables (now (schema .entry))) (working (packedTables (now (schema .entry))) n (now (rows .entry)))) n (now (rows .entry)) (now (rows .exit)) first at (now (answer .entry)) (now (answer .exit)) r ⌝ }
 {
@@ -100,6 +102,7 @@ fn transact(
     requires { ⌜ Accepted (now schema) ⌝ }
     requires { ⌜ length (itemsFrom (now text) ops) ≤ mostOperations ⌝ }
     requires { ⌜ (n ≤ mostRows) × (mostRows ≤ length (now rows)) ⌝ }
+    requires { ⌜ Sure (packedTables (now schema)) (now text) ops (now fresh) (working (packedTables (now schema)) n (now rows)) ⌝ }
     ensures { λ r. ⌜ Ended (packedTables (now (schema .entry))) (transactOn (packedTables (now (schema .entry))) (now (text .entry)) ops (now (fresh .entry)) (working (packedTables (now (schema .entry))) n (now (rows .entry)))) n (now (rows .entry)) (now (rows .exit)) (now (answer .entry)) (now (answer .exit)) r ⌝ }
 {
     let ran = run::run(text, ends, ops, fresh, schema, rows, n, answer);
@@ -119,14 +122,14 @@ fn transact(
 // Reads a request, and judges its database's name and the fresh ids.
 fn judge(
     schema: &Catalog,
-    before: &[Row],
+    rows: &[Row],
     n: usize,
     request: &[u8],
     ends: &mut [u16],
     fresh: &[u8],
 ) -> Question
-    requires { ⌜ (length (now fresh) ≡ freshBytes) × (n ≤ length (now before)) ⌝ }
-    ensures { λ r. ⌜ Asked (now (schema .entry)) n (now (before .entry)) (now (request .entry)) (now (fresh .entry)) (now (ends .exit)) r ⌝ }
+    requires { ⌜ (length (now fresh) ≡ freshBytes) × Ordered n (now rows) ⌝ }
+    ensures { λ r. ⌜ Asked (now (schema .entry)) n (now (rows .entry)) (now (request .entry)) (now (fresh .entry)) (now (ends .exit)) r ⌝ }
 {
     let q = request::read(request, ends);
     if !q.fits {
@@ -143,7 +146,7 @@ fn judge(
             ops: Found::Nothing,
         };
     }
-    if !fresh::ids_good(fresh, before, n) {
+    if !fresh::ids_good(fresh, rows, n) {
         return Question {
             runs: false,
             answer: Answer::BadFreshIds,
@@ -172,12 +175,12 @@ fn refuse(why: Answer, records: &mut [u8], answer: &mut [u8]) -> Effect
     }
 }
 
-// A request on the first n rows of a store, `before`, of which `rows` is a copy to work on.
+// A request on the first n rows of a store, read from its area, which has them until it is written.
 pub fn reply(
     schema: &Catalog,
+    area: &[u8],
     run: u32,
     number: u32,
-    before: &[Row],
     n: usize,
     rows: &mut [Row],
     request: &[u8],
@@ -186,13 +189,14 @@ pub fn reply(
     answer: &mut [u8],
 ) -> Effect
     requires { ⌜ Accepted (now schema) ⌝ }
-    requires { ⌜ (n ≤ mostRows) × (mostRows ≤ length (now before)) × (mostRows ≤ length (now rows)) ⌝ }
-    requires { ⌜ take n (now rows) ≡ take n (now before) ⌝ }
+    requires { ⌜ (storeBytes ≤ length (now area)) × (n ≤ mostRows) × (mostRows ≤ length (now rows)) ⌝ }
+    requires { ⌜ take n (now rows) ≡ rowsAt n (now area) ⌝ }
+    requires { ⌜ Sound (packedTables (now schema)) (working (packedTables (now schema)) n (now rows)) ⌝ }
     requires { ⌜ (length (now fresh) ≡ freshBytes) × (leastRecords ≤ length (now records)) ⌝ }
-    ensures { λ r. ⌜ Replied (packedTables (now (schema .entry))) (replyOn (now (schema .entry)) number n (now (before .entry)) (now (request .entry)) (now (fresh .entry)) (length (now (answer .entry)))) run number n (now (before .entry)) (now (rows .exit)) (now (records .entry)) (now (records .exit)) (now (answer .entry)) (now (answer .exit)) r ⌝ }
+    ensures { λ r. ⌜ Replied (packedTables (now (schema .entry))) (replyOn (now (schema .entry)) number n (now (rows .entry)) (now (request .entry)) (now (fresh .entry)) (length (now (answer .entry)))) run number n (now (rows .entry)) (now (rows .exit)) (now (records .entry)) (now (records .exit)) (now (answer .entry)) (now (answer .exit)) r ⌝ }
 {
     let mut ends = [0u16; REQUEST_TEXT];
-    let q = judge(schema, before, n, request, &mut ends[..], fresh);
+    let q = judge(schema, rows, n, request, &mut ends[..], fresh);
     let why = q.answer;
     if !q.runs {
         return refuse(why, records, answer);
@@ -212,7 +216,7 @@ pub fn reply(
             changes: 0,
         };
     }
-    let k = changes::write(schema, before, n, rows, o.count, run, number, records);
+    let k = changes::write(schema, area, n, rows, o.count, run, number, records);
     let left = (LAST_NUMBER - number) as usize;
     if left < k {
         return refuse(Answer::NumbersSpent, records, answer);

@@ -9,7 +9,7 @@ use Rattle.model.specs.Schema.{Schema, columnsOf}
 use Rattle.model.specs.Value.{Value}
 use Rattle.model.specs.Rows.{add, remove, setColumn}
 use Rattle.model.specs.Areas.{rowFrom}
-use Rattle.inner.specs.Working.{working, tableIn, withValue, TidyRow, Tidy, place, removed}
+use Rattle.inner.specs.Working.{working, tableIn, withValue, TidyRow, Tidy, Ordered, place, removed}
 use Rattle.model.specs.declared.Found.the-variants.{At}
 
 -- a row's table and id, and its id alone, in the first of its cells
@@ -32,6 +32,7 @@ pub record Removed (n i : ℕ) (entry exit : List (List (List ℕ))) : Type 0 wh
   pub rows : (s : Schema) → working s (n - 1) exit ≡ removed i (working s n entry)
   pub key : (s : Schema) (k : ℕ) → place k (working s n entry) ≡ At i → working s (n - 1) exit ≡ remove k (working s n entry)
   pub tidy : (s : Schema) → Tidy s (take n entry) → Tidy s (take (n - 1) exit)
+  pub ordered : Ordered n entry → Ordered (n - 1) exit
 
 -- column c of a row set
 pub record ColumnSet (c : ℕ) (v : Value) (entry exit : List (List ℕ)) : Type 0 where

@@ -22,7 +22,7 @@ ghost use Rattle.model.specs.Schema.{Column, Schema};
 ghost use Rattle.model.specs.Value.{sameValue};
 ghost use Rattle.model.specs.Areas.{headCell, rowCells};
 ghost use Rattle.model.specs.Rows.{keyOf, has, hasId};
-ghost use Rattle.inner.specs.Working.{working, tableIn, idIn, keyIn, valueIn, withValue, minimums, bornCount, newRow, place, slot, inserted, removed};
+ghost use Rattle.inner.specs.Working.{working, tableIn, idIn, keyIn, valueIn, withValue, Ordered, minimums, bornCount, newRow, place, slot, inserted, removed};
 ghost use Rattle.rows.specs.Post.{KeyBytes, IdBytes, Added, Removed, ColumnSet};
 
 // A row's table.
@@ -86,7 +86,7 @@ pub fn same_keys(table: u8, id: &[u8], key: &[u8]) -> bool
 }
 
 // The order of keys.
-fn less_keys(x: &[u8], y: &[u8]) -> bool
+pub fn less_keys(x: &[u8], y: &[u8]) -> bool
     requires { ⌜ (length (now x) ≡ countsOffset) × (length (now y) ≡ countsOffset) ⌝ }
     ensures { λ r. ⌜ r ≡ ltb (value (now (x .entry))) (value (now (y .entry))) ⌝ }
 {
@@ -140,7 +140,7 @@ pub fn less(x: &Row, y: &Row) -> bool
 
 // The place of the row of a table and an id, and whether there is one; the id in a slice.
 pub fn find_key(rows: &[Row], n: usize, table: u8, id: &[u8]) -> Found
-    requires { ⌜ (n ≤ length (now rows)) × (length (now id) ≡ idBytes) ⌝ }
+    requires { ⌜ Ordered n (now rows) × (length (now id) ≡ idBytes) ⌝ }
     ensures { λ r. ⌜ ((s : Schema) → r ≡ place (keyOf table (value (now (id .entry)))) (working s n (now (rows .entry)))) ⌝ }
 {
     let mut i = 0;
@@ -154,7 +154,7 @@ pub fn find_key(rows: &[Row], n: usize, table: u8, id: &[u8]) -> Found
 }
 
 pub fn has_key(rows: &[Row], n: usize, table: u8, id: &[u8]) -> bool
-    requires { ⌜ (n ≤ length (now rows)) × (length (now id) ≡ idBytes) ⌝ }
+    requires { ⌜ Ordered n (now rows) × (length (now id) ≡ idBytes) ⌝ }
     ensures { λ r. ⌜ ((s : Schema) → r ≡ has (keyOf table (value (now (id .entry)))) (working s n (now (rows .entry)))) ⌝ }
 {
     let found = find_key(rows, n, table, id);
@@ -166,14 +166,14 @@ pub fn has_key(rows: &[Row], n: usize, table: u8, id: &[u8]) -> bool
 
 // The same of an id in an array.
 pub fn find(rows: &[Row], n: usize, table: u8, id: &[u8; ID]) -> Found
-    requires { ⌜ n ≤ length (now rows) ⌝ }
+    requires { ⌜ Ordered n (now rows) ⌝ }
     ensures { λ r. ⌜ ((s : Schema) → r ≡ place (keyOf table (value (now (id .entry)))) (working s n (now (rows .entry)))) ⌝ }
 {
     find_key(rows, n, table, &id[..])
 }
 
 pub fn has_row(rows: &[Row], n: usize, table: u8, id: &[u8; ID]) -> bool
-    requires { ⌜ n ≤ length (now rows) ⌝ }
+    requires { ⌜ Ordered n (now rows) ⌝ }
     ensures { λ r. ⌜ ((s : Schema) → r ≡ has (keyOf table (value (now (id .entry)))) (working s n (now (rows .entry)))) ⌝ }
 {
     has_key(rows, n, table, &id[..])
@@ -181,7 +181,7 @@ pub fn has_row(rows: &[Row], n: usize, table: u8, id: &[u8; ID]) -> bool
 
 // The place of the first row that has the table and id of this one.
 pub fn find_row(rows: &[Row], n: usize, row: &Row) -> Found
-    requires { ⌜ n ≤ length (now rows) ⌝ }
+    requires { ⌜ Ordered n (now rows) ⌝ }
     ensures { λ r. ⌜ ((s : Schema) → r ≡ place (keyIn (now (row .entry))) (working s n (now (rows .entry)))) ⌝ }
 {
     find_key(rows, n, table_of(row), id_of(row))
@@ -189,7 +189,7 @@ pub fn find_row(rows: &[Row], n: usize, row: &Row) -> Found
 
 // Whether a row of any table has an id.
 pub fn has_id(rows: &[Row], n: usize, id: &[u8; ID]) -> bool
-    requires { ⌜ n ≤ length (now rows) ⌝ }
+    requires { ⌜ Ordered n (now rows) ⌝ }
     ensures { λ r. ⌜ ((s : Schema) → r ≡ hasId (value (now (id .entry))) (working s n (now (rows .entry)))) ⌝ }
 {
     let mut i = 0;

@@ -16,7 +16,7 @@ use Rattle.model.specs.Members.{membersIn, memberValue, counting}
 use Rattle.inner.specs.Positions.{wordIn}
 use Rattle.model.specs.Value.{textOf}
 use Rattle.model.specs.Schema.{Database, Table}
-use Rattle.model.specs.Catalog.{cellName, tableFrom, tablesFrom, databaseFrom}
+use Rattle.model.specs.Catalog.{entryName, tableFrom, tablesFrom, databaseFrom}
 use Rattle.model.specs.SchemaText.{must, may, isString, isStringOf, isId, versionFrom, isVersion, names, tableOf, tablesFit, schemaFits, schemaTables, databaseOf}
 use Rattle.model.proofs.Tests.{split, clash, and-l, and-r}
 use Rattle.names.specs.Names.{shortCell, nameCell}
@@ -200,11 +200,11 @@ module _ (s : List ℕ) (j : Json) (f : List ℕ) (k : Slots s schemaWords (memb
       unfolding nameCell
       name-short = rw en (short-cell (wordIn (slotTree s (slot 0))) .1)
 
-      name-is : cellName (getD cells 0 []) ≡ textIn (memberValue (ascii "name") ms)
+      name-is : entryName (getD cells 0 []) ≡ textIn (memberValue (ascii "name") ms)
       name-is =
-          ap cellName cell-first
+          ap entryName cell-first
           ∙ name-front name (n ∷ replicate 22 0) [] long name-short
-          ∙ ap cellName (append-nil name)
+          ∙ ap entryName (append-nil name)
           ∙ ap textOf en
           ∙ name-text (slotTree s (slot 0)) id-is
           ∙ ap textIn (sym (k .value 0 (omega arith)))

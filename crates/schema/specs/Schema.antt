@@ -1,4 +1,4 @@
--- A schema's text as cells. Assumes nothing: these are definitions.
+-- A schema's text as the entries of a catalog. Assumes nothing: these are definitions.
 use Prim.Native.Nat.{ℕ, _+_, _≤_, _<_}
 use mathlib.Core.Path.{_≡_}
 use mathlib.Core.Bool.{Bool, true, false, _||_}
@@ -8,7 +8,8 @@ use lib.Dec.{eqb}
 use lib.ListN.{length, getD}
 use Rattle.model.specs.Base.{every, isSome}
 use Rattle.model.specs.Json.{Json}
-use Rattle.model.specs.Catalog.{databaseFrom}
+use Rattle.model.specs.Catalog.{tableCount, columnCount, databaseFrom}
+use Rattle.model.specs.Limits.{mostTables, mostColumns, entryCount}
 use Rattle.model.specs.SchemaText.{isString, isStringOf, isVersion, schemaFits, databaseOf, readSchema}
 use Rattle.catalog.specs.Accepted.{Accepted}
 use Rattle.fields.specs.Fields.{slotTree}
@@ -25,19 +26,19 @@ restTold s f id =
     ∷ [])
 
 -- what was read of the schema j
-pub record Filled (j : Json) (r : Bool) (cells : List (List ℕ)) : Type 0 where
+pub record Filled (j : Json) (r : Bool) (entries : List (List ℕ)) : Type 0 where
   pub fits : r ≡ schemaFits j
-  pub database : r ≡ true → databaseFrom cells ≡ databaseOf j
-  pub tables : getD (getD cells 0 []) 25 0 ≤ 4
-  pub columns : FewColumns cells
+  pub database : r ≡ true → databaseFrom entries ≡ databaseOf j
+  pub tables : tableCount entries ≤ mostTables
+  pub columns : FewColumns entries
 
 -- what was read of a schema's text: whether it is accepted, and its entries, which have room for what they say even where it is not
-pub record EntriesRead (s : List ℕ) (r : Bool) (cells : List (List ℕ)) : Type 0 where
+pub record EntriesRead (s : List ℕ) (r : Bool) (entries : List (List ℕ)) : Type 0 where
   pub accepted : r ≡ isSome (readSchema s)
-  pub database : r ≡ true → readSchema s ≡ some (databaseFrom cells)
-  pub size : length cells ≡ 29
-  pub tables : getD (getD cells 0 []) 25 0 ≤ 4
-  pub columns : (t : ℕ) → t < 4 → getD (getD cells (1 + t) []) 25 0 ≤ 6
+  pub database : r ≡ true → readSchema s ≡ some (databaseFrom entries)
+  pub size : length entries ≡ entryCount
+  pub tables : tableCount entries ≤ mostTables
+  pub columns : (t : ℕ) → t < mostTables → columnCount entries t ≤ mostColumns
 
 -- and its catalog
 pub record SchemaRead (s : List ℕ) (r : Bool) (catalog : List (List ℕ)) : Type 0 where

@@ -1,4 +1,4 @@
-// A schema's text read into cells, and its tables by name.
+// A schema's text read into a catalog.
 use fields::Places;
 use model::ATOM;
 use model::Atom;
@@ -83,7 +83,7 @@ fn fill(text: &[u8], ends: &[u16], cells: &mut [Entry]) -> bool
 {
     let f = fields::fields(text, ends, 0, b"\x04name\x07version\x06tables\x05cksum");
     let name = name_in(text, f[0]);
-    let id = names::is_id(atom::text_of(&name));
+    let id = catalog::rules::is_id(atom::text_of(&name));
     let ok = rest_fits(text, f, id);
     if ok {
         let n = tables_in(text, ends, f[2], cells);

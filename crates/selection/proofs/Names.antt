@@ -23,7 +23,7 @@ use Rattle.model.specs.Schema.{Column, columnNamed}
 use Rattle.model.specs.Faults.{isFine, check}
 use Rattle.model.specs.Written.{stringIn, arrayIn}
 use Rattle.model.specs.Operations.{namesIn, shownFault, columnsFault, namesOr, shows}
-use Rattle.model.specs.Catalog.{cellName, columnFrom}
+use Rattle.model.specs.Catalog.{entryName, columnFrom}
 use Rattle.model.proofs.Tests.{split, clash, bytes-same}
 use Rattle.nav.proofs.FirstByte.{items-in}
 use Rattle.nav.proofs.Walk.{walk-rest, walk-end}
@@ -176,13 +176,13 @@ module _ (cs : List Column) (j : Json) (js : List Json) where
           sym (fair-is cs j js d ∙ (λ i. (string-not t d h i || found-not (columnNamed cs t) u i) && not (any (isWord t) js)))
 
 -- the place of a name, and the name there
-place-name : (w : List ℕ) (cells : List (List ℕ)) (k : ℕ) → columnNamed (map columnFrom cells) w ≡ some k → (k < length cells) × (cellName (getD cells k []) ≡ w)
+place-name : (w : List ℕ) (cells : List (List ℕ)) (k : ℕ) → columnNamed (map columnFrom cells) w ≡ some k → (k < length cells) × (entryName (getD cells k []) ≡ w)
 place-name w [] k e = let z : _≡_ {A = ℕ} 0 1 = cc in absurd (omega arith)
-place-name w (x ∷ cells) k e = go (place-name w cells) (eqBytes w (cellName x)) refl (columnNamed (map columnFrom cells) w) refl e
+place-name w (x ∷ cells) k e = go (place-name w cells) (eqBytes w (entryName x)) refl (columnNamed (map columnFrom cells) w) refl e
   where
-    go : ((i : ℕ) → columnNamed (map columnFrom cells) w ≡ some i → (i < length cells) × (cellName (getD cells i []) ≡ w)) → (b : Bool) → eqBytes w (cellName x) ≡ b → (o : Option ℕ) → columnNamed (map columnFrom cells) w ≡ o
-        → elim b [ true ↦ some 0 | false ↦ elim o [ none ↦ none | some i ↦ some (suc i) ] ] ≡ some k → (k < suc (length cells)) × (cellName (getD (x ∷ cells) k []) ≡ w)
-    go rec true p o q r = let z : 0 ≡ k = cc in rw (← z) (omega arith, sym (bytes-same w (cellName x) p))
+    go : ((i : ℕ) → columnNamed (map columnFrom cells) w ≡ some i → (i < length cells) × (entryName (getD cells i []) ≡ w)) → (b : Bool) → eqBytes w (entryName x) ≡ b → (o : Option ℕ) → columnNamed (map columnFrom cells) w ≡ o
+        → elim b [ true ↦ some 0 | false ↦ elim o [ none ↦ none | some i ↦ some (suc i) ] ] ≡ some k → (k < suc (length cells)) × (entryName (getD (x ∷ cells) k []) ≡ w)
+    go rec true p o q r = let z : 0 ≡ k = cc in rw (← z) (omega arith, sym (bytes-same w (entryName x) p))
     go rec false p none q r = let z : _≡_ {A = ℕ} 0 1 = cc in absurd (omega arith)
     go rec false p (some i) q r =
         let z : suc i ≡ k = cc in
@@ -207,7 +207,7 @@ module _ (cells : List (List ℕ)) (j : Json) where
     pub named-small : k < length cells
     named-small = place-name (named-by .0) cells k (named-by .2) .0
 
-    pub fair-column : (js : List Json) → isWord (ascii "_uuid") j ≡ false → {w : List ℕ} → w ≡ cellName (getD cells k []) → {b : Bool} → b ≡ any (isWord w) js → not b ≡ fairName (map columnFrom cells) j js
+    pub fair-column : (js : List Json) → isWord (ascii "_uuid") j ≡ false → {w : List ℕ} → w ≡ entryName (getD cells k []) → {b : Bool} → b ≡ any (isWord w) js → not b ≡ fairName (map columnFrom cells) j js
     fair-column js h {w} ew {b} eb =
         let n = named-by in
         let q : w ≡ n .0 = ew ∙ place-name (n .0) cells k (n .2) .1 in
@@ -327,9 +327,9 @@ module _ (show : List ℕ → Bool) (cells : List (List ℕ)) where
   pub record Flagging (c : ℕ) (flags : List Bool) : Type 0 where
     pub size : length flags ≡ 7
     pub id : getD flags 0 false ≡ show (ascii "_uuid")
-    pub column : (j : ℕ) → j < c → getD flags (j + 1) false ≡ show (cellName (getD cells j []))
+    pub column : (j : ℕ) → j < c → getD flags (j + 1) false ≡ show (entryName (getD cells j []))
 
-  pub flagging-on : (c : ℕ) {flags : List Bool} {b : Bool} → c < 6 → Flagging c flags → b ≡ show (cellName (getD cells c [])) → Flagging (c + 1) (set flags (c + 1) b)
+  pub flagging-on : (c : ℕ) {flags : List Bool} {b : Bool} → c < 6 → Flagging c flags → b ≡ show (entryName (getD cells c [])) → Flagging (c + 1) (set flags (c + 1) b)
   flagging-on c {flags} {b} h g e = record {
     size = length-set flags (c + 1) b ∙ g .size;
     id = getD-set-other flags (c + 1) 0 b false (λ q. omega arith) ∙ g .id;

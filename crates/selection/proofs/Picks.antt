@@ -17,7 +17,7 @@ use Rattle.model.specs.Rows.{Row}
 use Rattle.model.specs.Conditions.{Test, holds, matches}
 use Rattle.model.specs.Operations.{rowText, sameColumns, sameShown, firsts}
 use Rattle.model.specs.Areas.{rowFrom}
-use Rattle.model.specs.Catalog.{cellName, columnFrom, columnCell, tableFrom, packedTables}
+use Rattle.model.specs.Catalog.{entryName, columnFrom, columnPlace, tableFrom, packedTables}
 use Rattle.model.specs.Answers.{rowsText}
 use Rattle.inner.specs.Working.{working, tableIn, idIn, valueIn}
 use Rattle.model.proofs.Tests.{split, and-l}
@@ -25,7 +25,7 @@ use Rattle.inner.proofs.Working.{row-table, row-id, working-on, working-end}
 use Rattle.references.proofs.Links.{values-on}
 use Rattle.answer.specs.Texts.{commaText, joined}
 use Rattle.answer.proofs.Joins.{rows-is}
-use Rattle.catalog.specs.Entries.{columnCells}
+use Rattle.catalog.specs.Entries.{columnsAt}
 use Rattle.area.proofs.Schemas.{columns-in}
 use Rattle.projection.specs.Shown.{shownText, rowShown}
 use Rattle.projection.proofs.Rows.{row-text}
@@ -194,35 +194,35 @@ module _ (flags : List Bool) (k : ℕ) (marks : List Bool) (rows : List (List (L
 
 -- ── the whole answer ──
 module _ (schema : List (List ℕ)) (t : ℕ) (size : length schema ≡ 29) (few : getD (getD schema (1 + t) []) 25 0 ≤ 6) (four : t < 4) where
-  cells-count : length (columnCells schema t) ≡ getD (getD schema (1 + t) []) 25 0
+  cells-count : length (columnsAt schema t) ≡ getD (getD schema (1 + t) []) 25 0
   cells-count = length-take-le (getD (getD schema (1 + t) []) 25 0) (drop (5 + 6 * t) schema) (omega (arith, length-drop (5 + 6 * t) schema))
 
-  table-columns : tableFrom schema t .columns ≡ map columnFrom (columnCells schema t)
+  table-columns : tableFrom schema t .columns ≡ map columnFrom (columnsAt schema t)
   unfolding tableFrom
   table-columns = ap (λ (z : ℕ). map columnFrom (take (getD (getD schema (1 + t) []) 25 0) (drop z schema))) (add-zero (5 + 6 * t))
 
-  cell-at : (j : ℕ) → j < getD (getD schema (1 + t) []) 25 0 → getD (columnCells schema t) j [] ≡ getD schema (columnCell t 0 + j) []
+  cell-at : (j : ℕ) → j < getD (getD schema (1 + t) []) 25 0 → getD (columnsAt schema t) j [] ≡ getD schema (columnPlace t 0 + j) []
   cell-at j h =
       getD-take (getD (getD schema (1 + t) []) 25 0) (drop (5 + 6 * t) schema) j [] h ∙ getD-drop (5 + 6 * t) schema j []
       ∙ ap (λ (z : ℕ). getD schema (z + j) []) (sym (add-zero (5 + 6 * t)))
 
-  module _ (show : List ℕ → Bool) (flags : List Bool) (fl : Flagged show (columnCells schema t) flags) (s : Schema) where
-    object-is : (row : List (List ℕ)) → columnsOf s (tableIn row) ≡ map columnFrom (columnCells schema t) → rowShown schema t row flags ≡ rowText show (map columnFrom (columnCells schema t)) (rowFrom s row)
+  module _ (show : List ℕ → Bool) (flags : List Bool) (fl : Flagged show (columnsAt schema t) flags) (s : Schema) where
+    object-is : (row : List (List ℕ)) → columnsOf s (tableIn row) ≡ map columnFrom (columnsAt schema t) → rowShown schema t row flags ≡ rowText show (map columnFrom (columnsAt schema t)) (rowFrom s row)
     object-is row e =
         row-text show s schema t row flags (e ∙ sym table-columns) (fl .id)
-        (λ j h. fl .column j (omega (arith, cells-count)) ∙ ap (λ (x : List ℕ). show (cellName x)) (cell-at j h))
+        (λ j h. fl .column j (omega (arith, cells-count)) ∙ ap (λ (x : List ℕ). show (entryName x)) (cell-at j h))
         (omega arith)
         ∙ ap (λ (l : List Column). rowText show l (rowFrom s row)) table-columns
 
 pub answer-is : (schema : List (List ℕ)) (t : ℕ) → length schema ≡ 29 → getD (getD schema (1 + t) []) 25 0 ≤ 6 → t < 4 → t < getD (getD schema 0 []) 25 0 → (show : List ℕ → Bool) (flags marks : List Bool) (rows : List (List (List ℕ))) (n : ℕ) → n ≤ length rows → (ts : List Test)
-    → Flagged show (columnCells schema t) flags → Marked (map columnFrom (columnCells schema t)) ts t n rows marks
-    → (ascii "{\"rows\":[" ++ (joined true (pickedFrom schema t flags (length (columnCells schema t)) marks rows 0 n) ++ ascii "]}")) ≡ selected show (columnsOf (packedTables schema) t) t ts (working (packedTables schema) n rows)
+    → Flagged show (columnsAt schema t) flags → Marked (map columnFrom (columnsAt schema t)) ts t n rows marks
+    → (ascii "{\"rows\":[" ++ (joined true (pickedFrom schema t flags (length (columnsAt schema t)) marks rows 0 n) ++ ascii "]}")) ≡ selected show (columnsOf (packedTables schema) t) t ts (working (packedTables schema) n rows)
 unfolding Marked selected
 answer-is schema t size few four lt show flags marks rows n room ts fl mk =
     let s = packedTables schema in
-    let cs = map columnFrom (columnCells schema t) in
+    let cs = map columnFrom (columnsAt schema t) in
     let here : columnsOf s t ≡ cs = columns-in schema t lt in
     ap (λ (l : List (List ℕ)). ascii "{\"rows\":[" ++ (joined true l ++ ascii "]}"))
-    (picks-are schema (columnCells schema t) t show flags marks rows n room s ts fl here (mk s here) (object-is schema t size few four show flags fl s) n 0 (omega arith))
+    (picks-are schema (columnsAt schema t) t show flags marks rows n room s ts fl here (mk s here) (object-is schema t size few four show flags fl s) n 0 (omega arith))
     ∙ rows-is (map (rowText show cs) (firsts (sameShown show cs) [] (keep (matches t ts) (working s n rows))))
     ∙ ap (λ (l : List Column). rowsText (map (rowText show l) (firsts (sameShown show l) [] (keep (matches t ts) (working s n rows))))) (sym here)

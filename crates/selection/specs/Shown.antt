@@ -15,7 +15,7 @@ use Rattle.model.specs.Text.{isWord}
 use Rattle.model.specs.Schema.{Column, columnNamed}
 use Rattle.model.specs.Written.{stringIn}
 use Rattle.model.specs.Operations.{namesIn}
-use Rattle.model.specs.Catalog.{cellName}
+use Rattle.model.specs.Catalog.{entryName}
 
 -- a slot stands for nothing, or for a value that can be read
 unfoldable pub slotWell : List ℕ → ℕ → Bool
@@ -38,4 +38,4 @@ allNames (some j) = isSome (namesIn (itemsIn j))
 -- flags of what is shown: 0 for "_uuid", 1 + c for column c
 pub record Flagged (show : List ℕ → Bool) (cells : List (List ℕ)) (flags : List Bool) : Type 0 where
   pub id : getD flags 0 false ≡ show (ascii "_uuid")
-  pub column : (j : ℕ) → j < length cells → getD flags (j + 1) false ≡ show (cellName (getD cells j []))
+  pub column : (j : ℕ) → j < length cells → getD flags (j + 1) false ≡ show (entryName (getD cells j []))

@@ -27,7 +27,7 @@ ghost use Rattle.uuids.specs.Named.{Running};
 ghost use Rattle.answer.specs.Put.{Put};
 ghost use Rattle.answer.specs.Texts.{joined};
 ghost use Rattle.catalog.specs.Accepted.{Accepted};
-ghost use Rattle.catalog.specs.Entries.{columnCells};
+ghost use Rattle.catalog.specs.Entries.{columnsAt};
 ghost use Rattle.projection.specs.Shown.{shownText, rowShown};
 ghost use Rattle.assign.specs.Assigned.{slotted};
 ghost use Rattle.conditions.specs.Tests.{testsAt};
@@ -318,10 +318,10 @@ pub fn select_rows(
     requires { ⌜ slotWell (now text) p ≡ true ⌝ }
     requires { ⌜ Accepted (now schema) ⌝ }
     requires { ⌜ table < tableCount (now schema) ⌝ }
-    requires { ⌜ isFine (testsAt (now text) ops (now fresh) (columnCells (now schema) table) tests .fault) ≡ true ⌝ }
+    requires { ⌜ isFine (testsAt (now text) ops (now fresh) (columnsAt (now schema) table) tests .fault) ≡ true ⌝ }
     requires { ⌜ isFine (columnsFault (columnsOf (packedTables (now schema)) table) (slotted (now text) p)) ≡ true ⌝ }
     requires { ⌜ (n ≤ mostRows) × (n ≤ length (now rows)) × (at + resultMost < 2 ^ 64) ⌝ }
-    ensures { λ r. ⌜ Put resultMost (now (out .entry)) at (selected (shows (slotted (now (text .entry)) p)) (columnsOf (packedTables (now (schema .entry))) table) table (testsAt (now (text .entry)) ops (now (fresh .entry)) (columnCells (now (schema .entry)) table) tests .got) (working (packedTables (now (schema .entry))) n (now (rows .entry)))) r (now (out .exit)) ⌝ }
+    ensures { λ r. ⌜ Put resultMost (now (out .entry)) at (selected (shows (slotted (now (text .entry)) p)) (columnsOf (packedTables (now (schema .entry))) table) table (testsAt (now (text .entry)) ops (now (fresh .entry)) (columnsAt (now (schema .entry)) table) tests .got) (working (packedTables (now (schema .entry))) n (now (rows .entry)))) r (now (out .exit)) ⌝ }
 {
     let t = leaf::wide(table);
     let columns = catalog::columns_of(schema, t);

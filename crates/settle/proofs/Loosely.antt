@@ -10,11 +10,12 @@ use Rattle.model.specs.Schema.{Schema}
 use Rattle.model.specs.Rows.{Row, remove}
 use Rattle.model.specs.Commit.{loose, firstLoose, collect}
 use Rattle.model.specs.Areas.{rowFrom}
-use Rattle.inner.specs.Working.{working, keyIn, place}
+use Rattle.inner.specs.Working.{working, keyIn, Ordered, place}
 use Rattle.model.specs.declared.Found.{Found}
 use Rattle.model.specs.declared.Found.the-variants.{At, Nothing}
 use Rattle.inner.proofs.Working.{row-key, working-on, working-end, working-length}
-use Rattle.inner.proofs.Places.{place-at, place-none}
+use Rattle.inner.proofs.Places.{place-at}
+use Rattle.inner.proofs.Ordering.{own-place}
 use Rattle.settle.specs.Loose.{LooseAt, Collected}
 use Rattle.rows.specs.Post.{Removed}
 
@@ -45,30 +46,25 @@ module _ (s : Schema) (rows : List Row) where
   collect-one zero k h e = absurd (omega arith)
   collect-one (suc n) k h e = let m : suc n - 1 ≡ n = omega arith in rw (m, e, collect)
 
-  pub collect-same : (n k : ℕ) → firstLoose s rows rows ≡ some k → remove k rows ≡ rows → collect s n rows ≡ rows
-  collect-same zero k e r = refl
-  collect-same (suc n) k e r = rw (e, collect, r) (collect-same n k e r)
-
-  -- what the code finds
-  pub loose-found : (k : ℕ) (f : Found) → firstLoose s rows rows ≡ some k → f ≡ place k rows → LooseAt s rows f
-  unfolding LooseAt
-  loose-found k (At i) e p = (k, e, sym p)
-  loose-found k Nothing e p = λ n. collect-same n k e (place-none k rows (sym p) .remove)
-
   pub loose-nothing : firstLoose s rows rows ≡ none → LooseAt s rows Nothing
   unfolding LooseAt
-  loose-nothing e = λ n. collect-stop n e
+  loose-nothing e = e
 
 -- ── in cells ──
-module _ (s : Schema) (n : ℕ) (entry : List (List (List ℕ))) where
+module _ (s : Schema) (n : ℕ) (entry : List (List (List ℕ))) (o : Ordered n entry) where
+  -- a row lies where its key is found, since rows are in order
+  pub loose-found : (i : ℕ) → i < n → firstLoose s (working s n entry) (working s n entry) ≡ some (keyIn (getD entry i [])) → LooseAt s (working s n entry) (At i)
+  unfolding LooseAt
+  loose-found i h e = (keyIn (getD entry i []), e, own-place n entry o s i h)
+
   pub collected-stop : LooseAt s (working s n entry) Nothing → Collected s n n entry entry
   unfolding LooseAt
-  collected-stop e = record { few = omega arith; rows = sym (e n); tidy = λ t. t }
+  collected-stop e = record { few = omega arith; rows = sym (collect-stop s (working s n entry) n e); tidy = λ t. t; ordered = o }
 
   module _ (i : ℕ) (f : LooseAt s (working s n entry) (At i)) where
-    pub loose-within : n ≤ length entry → i < n
+    pub loose-within : i < n
     unfolding LooseAt
-    loose-within h = omega (arith, place-at (f .0) (working s n entry) i (f .2) .within, working-length s entry n h)
+    loose-within = omega (arith, place-at (f .0) (working s n entry) i (f .2) .within, working-length s entry n (o .there))
 
     pub collected-on : (m : ℕ) (mid exit : List (List (List ℕ))) → 0 < n → Removed n i entry mid → Collected s (n - 1) m mid exit → Collected s n m entry exit
     unfolding LooseAt
@@ -76,4 +72,5 @@ module _ (s : Schema) (n : ℕ) (entry : List (List (List ℕ))) where
       few = omega (arith, k .few);
       rows = k .rows ∙ ap (collect s (n - 1)) (r .key s (f .0) (f .2)) ∙ sym (collect-one s (working s n entry) n (f .0) h (f .1));
       tidy = λ t. k .tidy (r .tidy s t);
+      ordered = k .ordered;
     }

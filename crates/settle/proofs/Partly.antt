@@ -14,9 +14,10 @@ use Rattle.model.specs.Value.{Value, elements, valueOf, uuidOf}
 use Rattle.model.specs.Rows.{Row, keyOf, key, has}
 use Rattle.model.specs.Commit.{present, weakenValue, weakenColumns, weakenRow, weaken}
 use Rattle.model.specs.Areas.{rowFrom}
-use Rattle.inner.specs.Working.{working, TidyRow, Tidy}
+use Rattle.inner.specs.Working.{working, TidyRow, Tidy, Ordered}
 use Rattle.inner.proofs.Working.{working-at, working-on, working-length}
 use Rattle.inner.proofs.Places.{working-set, tidy-set, tidy-at}
+use Rattle.inner.proofs.Ordering.{working-keys, keys-ordered}
 use Rattle.references.proofs.Keeping.{keep-alike}
 use Rattle.settle.specs.Weak.{RowWeak, Weakened}
 
@@ -47,6 +48,11 @@ module _ (s : Schema) (w : List Row) where
   rows-has (suc i) k [] = refl
   rows-has (suc i) k (r ∷ l) = rw (rows-has i k l)
 
+  rows-keys : (i : ℕ) (l : List Row) → map key (weakRows i l) ≡ map key l
+  rows-keys zero l = refl
+  rows-keys (suc i) [] = refl
+  rows-keys (suc i) (r ∷ l) = ap (λ (m : List ℕ). key r ∷ m) (rows-keys i l)
+
   rows-same : (i : ℕ) (l : List Row) (d : Row) → getD (weakRows i l) i d ≡ getD l i d
   rows-same zero l d = refl
   rows-same (suc i) [] d = refl
@@ -74,8 +80,14 @@ module _ (s : Schema) (n : ℕ) (entry : List (List (List ℕ))) (h : n ≤ leng
   pub going-none : Going 0 entry
   going-none = record { size = refl; rows = refl; tidy = λ t. t }
 
-  pub going-end : (i : ℕ) (cells : List (List (List ℕ))) → n ≤ i → Going i cells → Weakened s n entry cells
-  going-end i cells l g = record { rows = g .rows ∙ rows-all s (working s n entry) i (working s n entry) (omega (arith, working-length s entry n h)); tidy = g .tidy }
+  -- the keys stay, and with them the order
+  pub going-ordered : (i : ℕ) (cells : List (List (List ℕ))) → Going i cells → Ordered n entry → Ordered n cells
+  going-ordered i cells g o =
+      let w = working s n entry in
+      keys-ordered n n entry cells (omega (arith, g .size, h)) (sym (working-keys s n cells) ∙ ap (map key) (g .rows) ∙ rows-keys s w i w ∙ working-keys s n entry) o
+
+  pub going-end : (i : ℕ) (cells : List (List (List ℕ))) → n ≤ i → Going i cells → Ordered n entry → Weakened s n entry cells
+  going-end i cells l g o = record { rows = g .rows ∙ rows-all s (working s n entry) i (working s n entry) (omega (arith, working-length s entry n h)); tidy = g .tidy; ordered = going-ordered i cells g o }
 
   none-row : Row
   none-row = record { table = 0; id = 0; columns = [] }

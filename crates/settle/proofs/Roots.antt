@@ -8,7 +8,7 @@ use native.Mathlib.Omega.{arith}
 use lib.ListN.{getD}
 use Rattle.model.specs.Base.{any}
 use Rattle.model.specs.Schema.{Table, rootAt, isRoot}
-use Rattle.model.specs.Catalog.{tableCell, tableFrom, tablesFrom, packedTables, tableCount, isSet, rootOffset}
+use Rattle.model.specs.Catalog.{tablePlace, tableFrom, tablesFrom, packedTables, tableCount, isSet, rootOffset}
 use Rattle.model.proofs.Tests.{or-true}
 use Rattle.references.proofs.Packs.{tables-on, tables-end}
 
@@ -18,7 +18,7 @@ saysRoot x = x .root
 
 module _ (cells : List (List ℕ)) where
   abbrev pub rootSaid : ℕ → Bool
-  rootSaid t = isSet (getD cells (tableCell t) []) rootOffset
+  rootSaid t = isSet (getD cells (tablePlace t) []) rootOffset
 
   root-is : (t : ℕ) → tableFrom cells t .root ≡ rootSaid t
   unfolding tableFrom

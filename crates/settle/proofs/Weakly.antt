@@ -14,7 +14,7 @@ use Rattle.model.specs.Value.{Value, elements, valueOf, blank}
 use Rattle.model.specs.Rows.{Row, columnValue, setColumn}
 use Rattle.model.specs.Commit.{weakly, present, weakenValue, weakenColumns, weakenRow}
 use Rattle.model.specs.Areas.{rowFrom}
-use Rattle.model.specs.Catalog.{packedTables, columnFrom, columnCell}
+use Rattle.model.specs.Catalog.{packedTables, columnFrom, columnPlace}
 use Rattle.inner.specs.Working.{working, tableIn, valueIn, TidyRow}
 use Rattle.inner.proofs.Working.{row-table}
 use Rattle.inner.proofs.Columns.{column-value}
@@ -135,9 +135,9 @@ module _ (schema : List (List ℕ)) (ok : Accepted schema) (n : ℕ) (rows : Lis
       let u : tableIn row ≡ tableIn entry = weakening-table c row w in
       let b : c < length (columnsOf s (tableIn row)) = rw u h in
       let v : valueIn c row ≡ valueIn c entry = sym (column-value s row c b) ∙ ap (λ (r : Row). columnValue r c) (w .row) ∙ weak-same (working s n rows) c (columnsOf s (tableIn entry)) (rowFrom s entry .columns) (valueOf []) ∙ column-value s entry c h in
-      let x = columnFrom (getD schema (columnCell (tableIn entry) c) []) in
+      let x = columnFrom (getD schema (columnPlace (tableIn entry) c) []) in
       let g : keptValue (working s n rows) o (valueIn c row) ≡ weakenValue (working s n rows) (x .refers) (valueIn c entry) =
-      ap (λ (p : Option ℕ). keptValue (working s n rows) p (valueIn c row)) (f ∙ ap (λ (m : ℕ). weakly (columnFrom (getD schema (columnCell m c) []) .refers)) e)
+      ap (λ (p : Option ℕ). keptValue (working s n rows) p (valueIn c row)) (f ∙ ap (λ (m : ℕ). weakly (columnFrom (getD schema (columnPlace m c) []) .refers)) e)
       ∙ kept-weak (working s n rows) (x .refers) (valueIn c row) ∙ ap (weakenValue (working s n rows) (x .refers)) v in
       record {
         row = k .row s b ∙ ap (λ (y : Value). setColumn c y (rowFrom s row)) g ∙ ap (setColumn c (weakenValue (working s n rows) (x .refers) (valueIn c entry))) (w .row)

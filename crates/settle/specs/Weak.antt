@@ -11,7 +11,7 @@ use Rattle.model.specs.Value.{Value, elements, valueOf}
 use Rattle.model.specs.Rows.{Row, setColumn}
 use Rattle.model.specs.Commit.{present, weakenRow, weaken}
 use Rattle.model.specs.Areas.{rowFrom}
-use Rattle.inner.specs.Working.{working, tableIn, valueIn, TidyRow, Tidy}
+use Rattle.inner.specs.Working.{working, tableIn, valueIn, TidyRow, Tidy, Ordered}
 
 -- a value of a column that refers weakly to a table, without the elements that name no row
 unfoldable pub keptValue : List Row → Option ℕ → Value → Value
@@ -29,3 +29,4 @@ pub record RowWeak (s : Schema) (n : ℕ) (rows : List (List (List ℕ))) (entry
 pub record Weakened (s : Schema) (n : ℕ) (entry exit : List (List (List ℕ))) : Type 0 where
   pub rows : working s n exit ≡ weaken s (working s n entry)
   pub tidy : Tidy s (take n entry) → Tidy s (take n exit)
+  pub ordered : Ordered n exit

@@ -17,7 +17,7 @@ ghost use Rattle.model.specs.Rows.{Row};
 ghost use Rattle.model.specs.Commit.{loose, collect};
 ghost use Rattle.model.specs.Areas.{rowFrom};
 ghost use Rattle.model.specs.Catalog.{packedTables};
-ghost use Rattle.inner.specs.Working.{working, keyIn, place};
+ghost use Rattle.inner.specs.Working.{working, keyIn, Ordered, place};
 ghost use Rattle.references.specs.Links.{told};
 ghost use Rattle.catalog.specs.Accepted.{Accepted};
 ghost use Rattle.settle.specs.Loose.{holds, LooseAt, Collected};
@@ -102,13 +102,13 @@ pub fn is_loose(schema: &Catalog, rows: &[Row], n: usize, row: &Row) -> bool
 // The place of the first loose row.
 pub fn first_loose(schema: &Catalog, rows: &[Row], n: usize) -> Found
     requires { ⌜ Accepted (now schema) ⌝ }
-    requires { ⌜ n ≤ length (now rows) ⌝ }
+    requires { ⌜ Ordered n (now rows) ⌝ }
     ensures { λ r. ⌜ LooseAt (packedTables (now (schema .entry))) (working (packedTables (now (schema .entry))) n (now (rows .entry))) r ⌝ }
 {
     let mut i = 0;
     while i < n {
         if is_loose(schema, rows, n, &rows[i]) {
-            return rows::find_row(rows, n, &rows[i]);
+            return Found::At(i);
         }
         i += 1;
     }
@@ -118,7 +118,7 @@ pub fn first_loose(schema: &Catalog, rows: &[Row], n: usize) -> Found
 // Removes the first loose row and calls itself, until there is none. The rows fall by one at each call; those that are left are counted.
 pub fn collect(schema: &Catalog, rows: &mut [Row], n: usize) -> usize
     requires { ⌜ Accepted (now schema) ⌝ }
-    requires { ⌜ n ≤ length (now rows) ⌝ }
+    requires { ⌜ Ordered n (now rows) ⌝ }
     ensures { λ r. ⌜ Collected (packedTables (now (schema .entry))) n r (now (rows .entry)) (now (rows .exit)) ⌝ }
 {
     let found = first_loose(schema, rows, n);
@@ -131,7 +131,7 @@ pub fn collect(schema: &Catalog, rows: &mut [Row], n: usize) -> usize
 
 // The elements of column c that name a row of a table, in their order; another column stays.
 fn weaken_column(row: &mut Row, c: usize, to: Target, rows: &[Row], n: usize)
-    requires { ⌜ (c < mostColumns) × (n ≤ length (now rows)) ⌝ }
+    requires { ⌜ (c < mostColumns) × Ordered n (now rows) ⌝ }
     ensures { λ _. ⌜ ColumnWeak (told to) c n (now (rows .entry)) (now (row .entry)) (now (row .exit)) ⌝ }
 {
     match to {
@@ -148,7 +148,7 @@ fn weaken_column(row: &mut Row, c: usize, to: Target, rows: &[Row], n: usize)
 // A row without its weak references to absent rows.
 fn weaken_row(row: &mut Row, schema: &Catalog, rows: &[Row], n: usize)
     requires { ⌜ Accepted (now schema) ⌝ }
-    requires { ⌜ n ≤ length (now rows) ⌝ }
+    requires { ⌜ Ordered n (now rows) ⌝ }
     ensures { λ _. ⌜ RowWeak (packedTables (now (schema .entry))) n (now (rows .entry)) (now (row .entry)) (now (row .exit)) ⌝ }
 {
     let table = rows::table_of(row);
@@ -164,7 +164,7 @@ fn weaken_row(row: &mut Row, schema: &Catalog, rows: &[Row], n: usize)
 // The rows without their weak references to absent rows.
 pub fn weaken(schema: &Catalog, rows: &mut [Row], n: usize)
     requires { ⌜ Accepted (now schema) ⌝ }
-    requires { ⌜ n ≤ length (now rows) ⌝ }
+    requires { ⌜ Ordered n (now rows) ⌝ }
     ensures { λ _. ⌜ Weakened (packedTables (now (schema .entry))) n (now (rows .entry)) (now (rows .exit)) ⌝ }
 {
     let mut i = 0;

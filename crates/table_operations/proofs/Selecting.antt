@@ -23,7 +23,7 @@ use Rattle.inner.specs.Working.{working}
 use Rattle.model.proofs.Tests.{split}
 use Rattle.model.proofs.FaultLaws.{earlier-fine}
 use Rattle.fields.specs.Fields.{Slots}
-use Rattle.catalog.specs.Entries.{columnCells}
+use Rattle.catalog.specs.Entries.{columnsAt}
 use Rattle.area.proofs.Schemas.{columns-in}
 use Rattle.answer.specs.Put.{Put}
 use Rattle.answer.proofs.Putting.{put-is}
@@ -96,20 +96,20 @@ module _ (text : List ℕ) (ops : Found) (fresh : List ℕ) (schema columns : Li
       found : Where text ops fresh columns ms p g
       found = where-got text ops fresh columns ms p there select-slot ew (parts .0) eg
 
-      pub select-where : (itemsFine text g ≡ true) × (isFine (testsAt text ops fresh (columnCells schema table) g .fault) ≡ true)
+      pub select-where : (itemsFine text g ≡ true) × (isFine (testsAt text ops fresh (columnsAt schema table) g .fault) ≡ true)
       select-where = (found .items, ap (λ (c : List (List ℕ)). isFine (testsAt text ops fresh c g .fault)) (sym (at-table .cells)) ∙ found .fine)
 
       pub select-columns : isFine (Model.columnsFault cs (slotted text q)) ≡ true
       select-columns = ap (λ (c : List Column). isFine (Model.columnsFault c (slotted text q))) same ∙ ap isFine (sym ev) ∙ parts .1
 
-      tests : Model.readWhere names cs ms ≡ testsAt text ops fresh (columnCells schema table) g
+      tests : Model.readWhere names cs ms ≡ testsAt text ops fresh (columnsAt schema table) g
       tests =
           ap (λ (c : List Column). Model.readWhere names c ms) same
           ∙ found .tests
           ∙ ap (λ (c : List (List ℕ)). testsAt text ops fresh c g) (at-table .cells)
 
       pub select-done : {n at e : ℕ} {rows : List (List (List ℕ))} {before after : List ℕ} → n ≤ 32
-          → Put 200000 before at (selected (Model.shows (slotted text q)) cs table (testsAt text ops fresh (columnCells schema table) g .got) (working s n rows)) e after
+          → Put 200000 before at (selected (Model.shows (slotted text q)) cs table (testsAt text ops fresh (columnsAt schema table) g .got) (working s n rows)) e after
           → Ran s (selecting text ops fresh op (working s n rows) table cs) n rows rows at before after (record { fault = Fine; count = n; at = e })
       unfolding selecting selected
       select-done {n} {rows = rows} few put =

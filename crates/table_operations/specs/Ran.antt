@@ -18,7 +18,7 @@ use Rattle.model.specs.Rows.{Row}
 use Rattle.model.specs.Faults.{isFine, check}
 use Rattle.model.specs.Operations as Model
 use Rattle.inner.specs.Working.{working, Tidy}
-use Rattle.catalog.specs.Entries.{columnCells}
+use Rattle.catalog.specs.Entries.{columnsAt}
 use Rattle.catalog.specs.Accepted.{Accepted}
 use Rattle.answer.specs.Put.{Put}
 use Rattle.uuids.specs.Named.{namesAt, Running}
@@ -37,7 +37,7 @@ pub record Ready (text ends : List ℕ) (ops : Found) (fresh : List ℕ) (column
 pub record Chosen (schema columns : List (List ℕ)) (table : ℕ) : Type 0 where
   pub accepted : Accepted schema
   pub here : table < tableCount schema
-  pub cells : columns ≡ columnCells schema table
+  pub cells : columns ≡ columnsAt schema table
 
 -- what it does where d is what the model says of it: its fault, and where that is Fine the rows and the answer's text; the answer is left alone where it is not
 pub record Ran (s : Schema) (d : Model.Done) (n : ℕ) (entry exit : List (List (List ℕ))) (at : ℕ) (before after : List ℕ) (r : Done) : Type 0 where

@@ -17,7 +17,7 @@ use Rattle.model.specs.Members.{membersIn, counting}
 use Rattle.inner.specs.Positions.{wordIn}
 use Rattle.model.specs.Value.{textOf}
 use Rattle.model.specs.Schema.{Table}
-use Rattle.model.specs.Catalog.{cellName, tablesFrom}
+use Rattle.model.specs.Catalog.{entryName, tablesFrom}
 use Rattle.model.specs.SchemaText.{names, isId, tableFits, tableOf, tablesFit}
 use Rattle.model.proofs.Tests.{split, clash, and-l, and-r}
 use Rattle.model.proofs.SchemaLaws.{counting-all}
@@ -59,17 +59,17 @@ module _ (s : List ℕ) (p : ℕ) where
             ∙ getD-append-add (nameCell (treeAt s p)) (replicate 23 0) 11 0;
       }
 
-  pub head-name : isRead (memberAt (valueAt 12 s) s p .read) ≡ true → isId (memberOf s p .name) ≡ true → cellName (headAt s p) ≡ memberOf s p .name
+  pub head-name : isRead (memberAt (valueAt 12 s) s p .read) ≡ true → isId (memberOf s p .name) ≡ true → entryName (headAt s p) ≡ memberOf s p .name
   unfolding headAt nameCell wordIn
   head-name w h =
       let c = short-cell (wordIn (treeAt s p)) in
       let t : nameCell (treeAt s p) ≡ shortCell (memberOf s p .name) = ap nameCell (name-at s p w) in
       name-front (nameCell (treeAt s p)) (replicate 23 0) [] (c .0) (c .1)
-      ∙ ap cellName (append-nil (nameCell (treeAt s p)))
+      ∙ ap entryName (append-nil (nameCell (treeAt s p)))
       ∙ ap textOf t
       ∙ cell-name (memberOf s p .name) h
 
-heads-named : (s ps : List ℕ) → ((i : ℕ) → i < length ps → isRead (memberAt (valueAt 12 s) s (getD ps i 0) .read) ≡ true) → all isId (map (λ (p : ℕ). memberOf s p .name) ps) ≡ true → map cellName (map (headAt s) ps) ≡ map (λ (p : ℕ). memberOf s p .name) ps
+heads-named : (s ps : List ℕ) → ((i : ℕ) → i < length ps → isRead (memberAt (valueAt 12 s) s (getD ps i 0) .read) ≡ true) → all isId (map (λ (p : ℕ). memberOf s p .name) ps) ≡ true → map entryName (map (headAt s) ps) ≡ map (λ (p : ℕ). memberOf s p .name) ps
 heads-named s [] w h = refl
 heads-named s (p ∷ ps) w h =
     let x = head-name s p (w 0 (omega arith)) (and-l (isId (memberOf s p .name)) _ h) in
@@ -152,9 +152,9 @@ module _ (s : List ℕ) (j : Json) (before : List (List ℕ)) where
       well : (i : ℕ) → i < n → isRead (memberAt (valueAt 12 s) s (getD places i 0) .read) ≡ true
       well = k .well few
 
-      named : map cellName (take n cells) ≡ map (λ (p : ℕ). memberOf s p .name) (take n places)
+      named : map entryName (take n cells) ≡ map (λ (p : ℕ). memberOf s p .name) (take n places)
       named =
-          ap (map cellName) hs
+          ap (map entryName) hs
           ∙ heads-named s (take n places)
           (λ i l. let m : i < n = omega (arith, place-size) in rw (getD-take n places i 0 m) (well i m))
           (ap (all isId) words ∙ ids)
@@ -174,23 +174,23 @@ module _ (s : List ℕ) (j : Json) (before : List (List ℕ)) where
           }
 
       -- in terms of the members that count
-      ns-are : map cellName (take n cells) ≡ names cs
+      ns-are : map entryName (take n cells) ≡ names cs
       ns-are = named ∙ words
 
       module _ {r : Bool} {after : List (List ℕ)} (e : EachRead s places (take n cells) r before after) where
         fits-are : r ≡ all (λ (m : Named). tableFits (names cs) (m .value)) cs
         fits-are =
             e .fits
-            ∙ ap (λ (m : ℕ). all (placeFits s (map cellName (take n cells))) (take m places)) head-size
-            ∙ all-at (λ (m : Named). tableFits (map cellName (take n cells)) (m .value)) (memberOf s) (take n places)
+            ∙ ap (λ (m : ℕ). all (placeFits s (map entryName (take n cells))) (take m places)) head-size
+            ∙ all-at (λ (m : Named). tableFits (map entryName (take n cells)) (m .value)) (memberOf s) (take n places)
             ∙ (λ i. all (λ (m : Named). tableFits (ns-are i) (m .value)) (are i))
 
         tables-are : r ≡ true → tablesFrom after 0 n ≡ map (tableOf (names cs)) cs
         tables-are h =
             ap (tablesFrom after 0) (sym head-size)
             ∙ e .tables h
-            ∙ ap (λ (m : ℕ). map (placeTable s (map cellName (take n cells))) (take m places)) head-size
-            ∙ map-at (tableOf (map cellName (take n cells))) (memberOf s) (take n places)
+            ∙ ap (λ (m : ℕ). map (placeTable s (map entryName (take n cells))) (take m places)) head-size
+            ∙ map-at (tableOf (map entryName (take n cells))) (memberOf s) (take n places)
             ∙ (λ i. map (tableOf (ns-are i)) (are i))
 
         pub all-bad : r ≡ false → TablesRead j 9 before after

@@ -9,14 +9,14 @@ use lib.Dec.{eqb}
 use lib.ListN.{length, getD, take, drop, replicate, length-append, take-append-drop}
 use lib.Seq.{length-take-le, take-append-le, getD-append-add, drop-append-add, getD-take, getD-drop, take-at}
 use Rattle.model.specs.Octets.{big, value, part}
-use Rattle.model.specs.Catalog.{cellName, isSet, maxRowsFrom, bit}
+use Rattle.model.specs.Catalog.{entryName, isSet, maxRowsFrom, bit}
 use Rattle.model.proofs.Octets.{length-big, value-big-fits}
 use Rattle.model.proofs.Tests.{split}
 use Rattle.catalog.specs.Writing.{headBytes}
 use Rattle.tables.specs.Tables.{NameOnly}
 
 -- a name is in the first 25 bytes
-pub name-front : (a b c : List ℕ) → length a ≡ 25 → getD a 0 0 ≤ 24 → cellName (a ++ b) ≡ cellName (a ++ c)
+pub name-front : (a b c : List ℕ) → length a ≡ 25 → getD a 0 0 ≤ 24 → entryName (a ++ b) ≡ entryName (a ++ c)
 name-front [] b c l h = absurd (omega arith)
 name-front (x ∷ a) b c l h = take-append-le x a b (omega arith) ∙ sym (take-append-le x a c (omega arith))
 
@@ -82,10 +82,10 @@ module _ (name : List ℕ) (only : NameOnly name) (n : ℕ) (root limited : Bool
         (λ i. elim ((limited-is ∙ e) i) [ true ↦ some (value (part 28 8 cell)) | false ↦ none ])
         ∙ sym (λ i. elim (e i) [ true ↦ some most | false ↦ none ]))
 
-    name-is : cellName cell ≡ cellName name
+    name-is : entryName cell ≡ entryName name
     name-is =
         let h : getD front 0 0 ≤ 24 = rw (getD-take 25 name 0 0 (omega arith)) (only .short) in
-        ap cellName apart ∙ name-front front (head ++ rest) (drop 25 name) front-size h ∙ ap cellName (take-append-drop 25 name)
+        ap entryName apart ∙ name-front front (head ++ rest) (drop 25 name) front-size h ∙ ap entryName (take-append-drop 25 name)
 
   -- the cell as it is before its indexes are there
   no-index : getD ((front ++ head) ++ drop 36 name) 36 0 ≡ 0
@@ -114,8 +114,8 @@ module _ (name : List ℕ) (only : NameOnly name) (n : ℕ) (root limited : Bool
     pub after-rows : (limited ≡ true → most < 256 ^ 8) → maxRowsFrom after ≡ elim limited [ true ↦ some most | false ↦ none ]
     after-rows f = ap maxRowsFrom q ∙ rows-is (drop 36 after) f
 
-    pub after-name : cellName after ≡ cellName name
-    after-name = ap cellName q ∙ name-is (drop 36 after)
+    pub after-name : entryName after ≡ entryName name
+    after-name = ap entryName q ∙ name-is (drop 36 after)
 
   pub before-index : getD ((take 25 name ++ headBytes n root limited most) ++ drop 36 name) 36 0 ≡ 0
   before-index = no-index

@@ -14,7 +14,7 @@ use Rattle.model.specs.Json.{Json, Named, keyAt, memberAt, valueAt}
 use Rattle.inner.specs.Positions.{treeAt, wellAt}
 use Rattle.model.specs.Nav.{isRead}
 use Rattle.model.specs.Schema.{Table}
-use Rattle.model.specs.Catalog.{cellName, tableFrom, tablesFrom}
+use Rattle.model.specs.Catalog.{entryName, tableFrom, tablesFrom}
 use Rattle.model.specs.SchemaText.{tableFits, tableOf}
 use Rattle.model.proofs.Tests.{split, clash}
 use Rattle.nav.proofs.Rest.{member-is, member-well}
@@ -105,8 +105,8 @@ module _ (cells ys : List (List ℕ)) (k : ℕ) (small : k < 4) (size : length c
 pub record Sofar (s places : List ℕ) (heads before cells : List (List ℕ)) (i : ℕ) : Type 0 where
   pub few : i ≤ length heads
   pub size : length cells ≡ 29
-  pub fits : all (placeFits s (map cellName heads)) (drop i (take (length heads) places)) ≡ true
-  pub tables : tablesFrom cells i (length heads - i) ≡ map (placeTable s (map cellName heads)) (drop i (take (length heads) places))
+  pub fits : all (placeFits s (map entryName heads)) (drop i (take (length heads) places)) ≡ true
+  pub tables : tablesFrom cells i (length heads - i) ≡ map (placeTable s (map entryName heads)) (drop i (take (length heads) places))
   pub first : getD cells 0 [] ≡ getD before 0 []
   pub columns : FewColumns before → FewColumns cells
 
@@ -115,7 +115,7 @@ module _ (s places : List ℕ) (heads before : List (List ℕ)) (h : Heads s pla
   ps = take (length heads) places
 
   abbrev ns : List (List ℕ)
-  ns = map cellName heads
+  ns = map entryName heads
 
   ps-size : length ps ≡ length heads
   ps-size = length-take-le (length heads) places (h .fit)
@@ -175,9 +175,9 @@ module _ (s places : List ℕ) (heads before : List (List ℕ)) (h : Heads s pla
       pub here-only : NameOnly (getD heads (i - 1) [])
       here-only = h .only (i - 1) below
 
-      word : cellName (getD heads (i - 1) []) ≡ memberOf s p .name
+      word : entryName (getD heads (i - 1) []) ≡ memberOf s p .name
       word =
-          sym (get-map cellName heads (i - 1) [] [] below)
+          sym (get-map entryName heads (i - 1) [] [] below)
           ∙ ap (λ (l : List (List ℕ)). getD l (i - 1) []) (h .named)
           ∙ get-map (λ (q : ℕ). memberOf s q .name) ps (i - 1) 0 [] (omega (arith, ps-size, below))
           ∙ ap (λ (q : ℕ). memberOf s q .name) (getD-take (length heads) places (i - 1) 0 below)
@@ -193,7 +193,7 @@ module _ (s places : List ℕ) (heads before : List (List ℕ)) (h : Heads s pla
         pub here-well : wellAt s v ≡ true
         here-well = value-at .1
 
-        module _ {r : Read} {ys : List (List ℕ)} (tr : TableRead (map cellName heads) (cellName (getD heads (i - 1) [])) (treeAt s v) r (drop (5 + 6 * (i - 1)) cells) ys) where
+        module _ {r : Read} {ys : List (List ℕ)} (tr : TableRead (map entryName heads) (entryName (getD heads (i - 1) [])) (treeAt s v) r (drop (5 + 6 * (i - 1)) cells) ys) where
           fits-here : placeFits s ns p ≡ r .fits
           fits-here = ap (tableFits ns) (value-at .0) ∙ sym (tr .fits)
 

@@ -17,7 +17,7 @@ use Rattle.model.specs.Nav.{kindOf, isObject, isTruth, itemsIn}
 use Rattle.model.specs.Members.{membersIn, hasMember, memberValue, counting}
 use Rattle.model.specs.Whole.{wholeOf}
 use Rattle.model.specs.Schema.{Column}
-use Rattle.model.specs.Catalog.{cellName, columnFrom, indexFrom, indexesFrom, maxRowsFrom}
+use Rattle.model.specs.Catalog.{entryName, columnFrom, indexFrom, indexesFrom, maxRowsFrom}
 use Rattle.model.specs.SchemaText.{only, must, may, isBool, isWithin, sizeOr, truthOr, names, isId, columnsFit, columnOf, indexOf, indexesFit, tableFits, tableOf, tableColumns, maxRowsOf}
 use Rattle.model.proofs.Tests.{split, clash, and-l, and-r, or-l}
 use Rattle.model.proofs.SchemaLaws.{within-size}
@@ -152,7 +152,7 @@ module _ (s : List ℕ) (tables : List (List ℕ)) (j : Json) (f : List ℕ) (k 
     pub columns-named : all isId (names (membersIn (treeAt s (getD f 0 0)))) ≡ true
     columns-named = ap (λ (x : Json). all isId (names (membersIn x))) (sym tree-is) ∙ columns-ids tables (slotTree s (slot 0)) columns-fit
 
-    names-are : map cellName (take n after) ≡ names (tableColumns ms)
+    names-are : map entryName (take n after) ≡ names (tableColumns ms)
     names-are =
         cells-names (take n after)
         ∙ ap (map (λ (c : Column). c .name)) (cs .columns (le-leb n 6 six))
@@ -162,7 +162,7 @@ module _ (s : List ℕ) (tables : List (List ℕ)) (j : Json) (f : List ℕ) (k 
     -- with what its cell says
     module _ (name : List ℕ) (only : NameOnly name) (root limited : Bool) (most : ℕ) (er : root ≡ truthOr false (slotTree s (getD f 2 0))) (el : limited ≡ not (eqb (getD f 1 0) 0)) (em : most ≡ sizeOr 0 (wholeOf (slotTree s (getD f 1 0))))
         {a b : Bool} {cell : List ℕ} (ea : a ≡ restTold s f (wholeOf (slotTree s (getD f 1 0))))
-        (ix : IndexesIn s (getD f 3 0) (membersIn (treeAt s (getD f 0 0))) (map cellName (take n after)) b ((take 25 name ++ headBytes n root limited most) ++ drop 36 name) cell) where
+        (ix : IndexesIn s (getD f 3 0) (membersIn (treeAt s (getD f 0 0))) (map entryName (take n after)) b ((take 25 name ++ headBytes n root limited most) ++ drop 36 name) cell) where
       indexes-told : may (ascii "indexes") (indexesFit (membersIn (memberValue (ascii "columns") ms))) ms ≡ (eqb (slot 3) 0 || indexesFit (membersIn (treeAt s (slot 0))) (slotTree s (slot 3)))
       indexes-told =
           may-slot k 3 (omega arith) (indexesFit (membersIn (memberValue (ascii "columns") ms)))
@@ -207,7 +207,7 @@ module _ (s : List ℕ) (tables : List (List ℕ)) (j : Json) (f : List ℕ) (k 
           ix .holds h (before-index name only n root limited most)
           ∙ (λ i. map (indexOf (names-are i)) (itemsIn (sym (k .value 3 (omega arith)) i)))
 
-      table-is : (a && b) ≡ true → tableWith cell after ≡ tableOf tables (record { name = cellName name; value = j })
+      table-is : (a && b) ≡ true → tableWith cell after ≡ tableOf tables (record { name = entryName name; value = j })
       unfolding tableWith tableOf
       table-is h =
           let ha : a ≡ true = and-l a b h in
@@ -219,7 +219,7 @@ module _ (s : List ℕ) (tables : List (List ℕ)) (j : Json) (f : List ℕ) (k 
           let q5 = indexes-are hb in
           λ i. record { name = q1 i; columns = q2 i; root = q3 i; maxRows = q4 i; indexes = q5 i }
 
-      pub table-read : TableRead tables (cellName name) j (record { fits = a && b; cell = cell }) before after
+      pub table-read : TableRead tables (entryName name) j (record { fits = a && b; cell = cell }) before after
       table-read =
           record {
             fits = fits-is;

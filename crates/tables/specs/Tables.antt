@@ -13,7 +13,7 @@ use Rattle.inner.specs.Positions.{treeAt}
 use Rattle.model.specs.Nav.{kindOf, isTruth, isRead, itemsIn}
 use Rattle.model.specs.Members.{membersIn, counting}
 use Rattle.model.specs.Schema.{Table}
-use Rattle.model.specs.Catalog.{columnsOffset, rootOffset, indexesOffset, cellName, columnFrom, isSet, maxRowsFrom, indexesFrom, columnCount, tablesFrom}
+use Rattle.model.specs.Catalog.{columnsOffset, rootOffset, indexesOffset, entryName, columnFrom, isSet, maxRowsFrom, indexesFrom, columnCount, tablesFrom}
 use Rattle.model.specs.SchemaText.{names, isId, isWithin, indexOf, indexesFit, tableFits, tableOf, tablesFit}
 use Rattle.names.specs.Names.{nameCell}
 use Rattle.fields.specs.Fields.{mostWords, slotTree}
@@ -41,7 +41,7 @@ pub record NameOnly (cell : List ℕ) : Type 0 where
 unfoldable pub tableWith : List ℕ → List (List ℕ) → Table
 tableWith cell columns =
     record {
-      name = cellName cell;
+      name = entryName cell;
       columns = map columnFrom (take (getD cell columnsOffset 0) columns);
       root = isSet cell rootOffset;
       maxRows = maxRowsFrom cell;
@@ -64,8 +64,8 @@ pub record Heads (s places : List ℕ) (heads : List (List ℕ)) : Type 0 where
   pub few : length heads ≤ mostTables
   pub fit : length heads ≤ length places
   pub only : (i : ℕ) → i < length heads → NameOnly (getD heads i [])
-  pub named : map cellName heads ≡ map (λ (p : ℕ). memberOf s p .name) (take (length heads) places)
-  pub ids : all isId (map cellName heads) ≡ true
+  pub named : map entryName heads ≡ map (λ (p : ℕ). memberOf s p .name) (take (length heads) places)
+  pub ids : all isId (map entryName heads) ≡ true
   pub well : (i : ℕ) → i < length heads → isRead (memberAt (valueAt 12 s) s (getD places i 0) .read) ≡ true
 
 -- no table has too many columns
@@ -81,8 +81,8 @@ placeTable s tables p = tableOf tables (memberOf s p)
 
 -- what was read of the tables at the first places, into a schema's cells
 pub record EachRead (s places : List ℕ) (heads : List (List ℕ)) (r : Bool) (before after : List (List ℕ)) : Type 0 where
-  pub fits : r ≡ all (placeFits s (map cellName heads)) (take (length heads) places)
-  pub tables : r ≡ true → tablesFrom after 0 (length heads) ≡ map (placeTable s (map cellName heads)) (take (length heads) places)
+  pub fits : r ≡ all (placeFits s (map entryName heads)) (take (length heads) places)
+  pub tables : r ≡ true → tablesFrom after 0 (length heads) ≡ map (placeTable s (map entryName heads)) (take (length heads) places)
   pub first : getD after 0 [] ≡ getD before 0 []
   pub columns : FewColumns before → FewColumns after
 

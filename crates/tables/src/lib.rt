@@ -18,7 +18,7 @@ ghost use Rattle.model.specs.Limits.{mostTables, mostColumns, entryCount};
 ghost use Rattle.model.specs.Base.{all};
 ghost use Rattle.inner.specs.Positions.{Says, wellAt, treeAt};
 ghost use Rattle.model.specs.Members.{membersIn};
-ghost use Rattle.model.specs.Catalog.{cellName};
+ghost use Rattle.model.specs.Catalog.{entryName};
 ghost use Rattle.model.specs.SchemaText.{names, isId};
 ghost use Rattle.fields.specs.Fields.{slotTree};
 ghost use Rattle.columns.specs.Columns.{ColumnsRead};
@@ -34,10 +34,10 @@ pub struct Read {
 fn columns_in(text: &[u8], ends: &[u16], p: usize, tables: &[Entry], cells: &mut [Entry]) -> usize
     requires { ⌜ Says (now text) (now ends) ⌝ }
     requires { ⌜ (eqb p 0 ≡ false → wellAt (now text) p ≡ true) ⌝ }
-    requires { ⌜ all isId (map cellName (now tables)) ≡ true ⌝ }
+    requires { ⌜ all isId (map entryName (now tables)) ≡ true ⌝ }
     requires { ⌜ length (now tables) ≤ mostTables ⌝ }
     requires { ⌜ mostColumns ≤ length (now cells) ⌝ }
-    ensures { λ r. ⌜ ColumnsRead (map cellName (now (tables .entry))) (slotTree (now (text .entry)) p) r (now (cells .entry)) (now (cells .exit)) ⌝ }
+    ensures { λ r. ⌜ ColumnsRead (map entryName (now (tables .entry))) (slotTree (now (text .entry)) p) r (now (cells .entry)) (now (cells .exit)) ⌝ }
 {
     if p == 0 {
         return 9;
@@ -59,7 +59,7 @@ fn indexes_in(
     requires { ⌜ wellAt (now text) q ≡ true ⌝ }
     requires { ⌜ all isId (names (membersIn (treeAt (now text) q))) ≡ true ⌝ }
     requires { ⌜ length (now columns) ≤ mostColumns ⌝ }
-    ensures { λ r. ⌜ IndexesIn (now (text .entry)) p (membersIn (treeAt (now (text .entry)) q)) (map cellName (now (columns .entry))) r (now (cell .entry)) (now (cell .exit)) ⌝ }
+    ensures { λ r. ⌜ IndexesIn (now (text .entry)) p (membersIn (treeAt (now (text .entry)) q)) (map entryName (now (columns .entry))) r (now (cell .entry)) (now (cell .exit)) ⌝ }
 {
     if p == 0 {
         return true;
@@ -94,10 +94,10 @@ fn read_table(
     requires { ⌜ Says (now text) (now ends) ⌝ }
     requires { ⌜ wellAt (now text) at ≡ true ⌝ }
     requires { ⌜ NameOnly name ⌝ }
-    requires { ⌜ all isId (map cellName (now tables)) ≡ true ⌝ }
+    requires { ⌜ all isId (map entryName (now tables)) ≡ true ⌝ }
     requires { ⌜ length (now tables) ≤ mostTables ⌝ }
     requires { ⌜ mostColumns ≤ length (now columns) ⌝ }
-    ensures { λ r. ⌜ TableRead (map cellName (now (tables .entry))) (cellName name) (treeAt (now (text .entry)) at) r (now (columns .entry)) (now (columns .exit)) ⌝ }
+    ensures { λ r. ⌜ TableRead (map entryName (now (tables .entry))) (entryName name) (treeAt (now (text .entry)) at) r (now (columns .entry)) (now (columns .exit)) ⌝ }
 {
     let f = fields::fields(
         text,

@@ -7,7 +7,7 @@ use Prim.Native.Nat.{ℕ, _+_, _≤_}
 use native.Mathlib.Omega.{arith}
 use borrow.Author.Tests.{eqb-true, leb-true}
 use lib.Dec.{eqb, leb}
-use lib.ListN.{length, replicate}
+use lib.ListN.{length, take, replicate}
 use Rattle.model.specs.Octets.{big, filled}
 use Rattle.model.specs.Limits.{lastNumber, storeBytes, countOffset}
 use Rattle.model.specs.Base.{if_then_else_}
@@ -26,12 +26,12 @@ use Rattle.model.specs.declared.Answer.the-variants.{Disordered, WrongLength}
 use Rattle.model.proofs.Tests.{split, clash, parts}
 use Rattle.model.proofs.Same.{diff-self}
 use Rattle.model.proofs.Areas.{store-of-is}
-use Rattle.model.proofs.States.{store-parts}
+use Rattle.model.proofs.RunKeeps.{Sound}
 use Rattle.model.proofs.ReplyLaws.{replyRows, reply-call}
-use Rattle.area.specs.Layout.{rowCount}
+use Rattle.area.specs.Layout.{rowCount, rowsAt}
 use Rattle.area.specs.Writing.{numberIn, storeIn, placed, rowsPart}
 use Rattle.holding.specs.Held.{runIn, Holding}
-use Rattle.holding.proofs.After.{reply-is, area-after}
+use Rattle.holding.proofs.After.{sound, reply-is, area-after}
 use Rattle.reply.specs.declared.Effect.{Effect}
 use Rattle.reply.specs.Replying.{replyOn, Replied}
 
@@ -44,6 +44,14 @@ pub lengths : (area fresh records text : List ℕ) → lengthsGood area fresh re
 lengths area fresh records text h =
     let p = parts (eqb (length area) storeBytes ∷ eqb (length fresh) 256 ∷ leb 26249 (length records) ∷ leb 64 (length text) ∷ []) h in
     (eqb-true (length area) storeBytes (p .0), eqb-true (length fresh) 256 (p .1 .0), leb-true 26249 (length records) (p .1 .1 .0))
+
+-- the rows that were read of an area in good order, by how many the code says they are
+module _ {area : List ℕ} {cells : List (List ℕ)} {rows : List (List (List ℕ))} (k : Holding area cells rows) (n : ℕ) (e : n ≡ rowCount area) where
+  pub read-as : take n rows ≡ rowsAt n area
+  read-as = rw e (k .read)
+
+  pub sound-as : Sound (packedTables cells) (working (packedTables cells) n rows)
+  sound-as = rw e (sound area cells rows k)
 
 -- rows that stay are no change
 idle : (b : Bool) (s : Schema) (rows meant : List Row) (r : Reply) → Sorted rows → r .rows ≡ (if b then meant else rows) → r .changes ≡ (if b then diff s rows meant else []) → r .rows ≡ rows → r .changes ≡ []
@@ -110,8 +118,7 @@ module _ (area request fresh records text : List ℕ) where
       by-answer b e = by-reply ∙ ap picked e
 
       sorted : Sorted (working s n rows)
-      unfolding storeIn
-      sorted = store-parts store (store-of-is area store (k .store) .1) .rows .sorted
+      sorted = sound area cells rows k .good .sorted
 
       unchanged : d .rows ≡ working s n rows → d .changes ≡ []
       unfolding replyOn

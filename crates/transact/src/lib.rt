@@ -55,19 +55,18 @@ pub fn transact(
         return refuse(Answer::WrongLength, records, answer);
     }
     let mut catalog = [[0u8; ENTRY]; ENTRIES];
-    let mut before = [[[0u8; ATOM]; CELLS]; ROWS];
-    if !holding::held(area, &mut catalog, &mut before) {
+    let mut rows = [[[0u8; ATOM]; CELLS]; ROWS];
+    if !holding::held(area, &mut catalog, &mut rows) {
         return refuse(Answer::Disordered, records, answer);
     }
     let run = area::run_of(area);
     let number = area::number_of(area);
     let n = area::row_count(area);
-    let mut rows = before;
     let e = reply::reply(
         &catalog,
+        area,
         run,
         number,
-        &before,
         n,
         &mut rows,
         request,
@@ -76,7 +75,8 @@ pub fn transact(
         answer,
     );
     let given = e.answer;
-    if e.commits {
+    let commits = e.commits;
+    if commits {
         let next = number + e.changes as u32;
         area::write_number(area, next);
         area::write_rows(area, &rows, e.count);

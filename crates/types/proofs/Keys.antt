@@ -20,13 +20,13 @@ use Rattle.model.specs.Whole.{wholeOf, wholeInt}
 use Rattle.model.specs.Text.{isWord}
 use Rattle.model.specs.Schema.{Base, integer, boolean, text, uuid, plain, strong, weak}
 use Rattle.model.specs.Catalog.{baseNumbered}
-use Rattle.model.specs.Catalog.{cellName, refersFrom}
+use Rattle.model.specs.Catalog.{entryName, refersFrom}
 use Rattle.model.specs.SchemaText.{may, isOneOf, isInteger, isId, isBase, baseNumber, sameBase, isLimit, limitOr, least, greatest, lowOf, highOf, placeOr, keyTests, keyMembers, keyBase, keyFits, refersOf}
 use Rattle.model.specs.SchemaText as ST
 use Rattle.model.proofs.Tests.{split, and-r, parts, bytes-same}
 use Rattle.fields.specs.Fields.{choiceFrom, choice, slotTree, Slots}
 use Rattle.fields.proofs.Slotted.{must-null, may-slot}
-use Rattle.catalog.specs.Entries.{cellNamed}
+use Rattle.catalog.specs.Entries.{entryNamed}
 use Rattle.types.proofs.Tables.{one-of, place-is}
 use Rattle.types.specs.declared.Key.{Key}
 use Rattle.types.specs.Types.{limitIn, boundIn, tableIn, isFound, placeByte, baseByte, howByte, limitTold, keyTold, KeyRead}
@@ -153,7 +153,7 @@ refers-from false t = refl
 abbrev pub keyWords : List (List ℕ)
 keyWords = ascii "type" ∷ ascii "minInteger" ∷ ascii "maxInteger" ∷ ascii "minLength" ∷ ascii "maxLength" ∷ ascii "refTable" ∷ ascii "refType" ∷ []
 
-module _ (s : List ℕ) (cells : List (List ℕ)) (j : Json) (f : List ℕ) (k : Slots s keyWords (keyMembers j) f) (ids : all isId (map cellName cells) ≡ true) (few : length cells ≤ 4) where
+module _ (s : List ℕ) (cells : List (List ℕ)) (j : Json) (f : List ℕ) (k : Slots s keyWords (keyMembers j) f) (ids : all isId (map entryName cells) ≡ true) (few : length cells ≤ 4) where
   abbrev ms : List Named
   ms = keyMembers j
 
@@ -222,14 +222,14 @@ module _ (s : List ℕ) (cells : List (List ℕ)) (j : Json) (f : List ℕ) (k :
       ∙ int-by (limitIn s (slot 2) d) (limitIn s (slot 4) d) d)
 
   -- the table that it refers to is one of the tables
-  table-told : (eqb (slot 5) 0 ≡ false) → isFound table ≡ isOneOf (map cellName cells) (slotTree s (slot 5))
-  unfolding tableIn cellNamed
-  table-told e = rw (tableIn, e) (one-of (map cellName cells) ids (slotTree s (slot 5)))
+  table-told : (eqb (slot 5) 0 ≡ false) → isFound table ≡ isOneOf (map entryName cells) (slotTree s (slot 5))
+  unfolding tableIn entryNamed
+  table-told e = rw (tableIn, e) (one-of (map entryName cells) ids (slotTree s (slot 5)))
 
-  refer-told : may (ascii "refTable") (λ (x : Json). sameBase (keyBase ms) uuid && isOneOf (map cellName cells) x) ms ≡ (eqb (slot 5) 0 || (eqb base 3 && isFound table))
+  refer-told : may (ascii "refTable") (λ (x : Json). sameBase (keyBase ms) uuid && isOneOf (map entryName cells) x) ms ≡ (eqb (slot 5) 0 || (eqb base 3 && isFound table))
   unfolding baseNumber
   refer-told =
-      may-slot k 5 (omega arith) (λ (x : Json). sameBase (keyBase ms) uuid && isOneOf (map cellName cells) x)
+      may-slot k 5 (omega arith) (λ (x : Json). sameBase (keyBase ms) uuid && isOneOf (map entryName cells) x)
       ∙ split
       (eqb (slot 5) 0)
       (λ e. rw e)
@@ -245,7 +245,7 @@ module _ (s : List ℕ) (cells : List (List ℕ)) (j : Json) (f : List ℕ) (k :
   unfolding isBase isWord
   no-base = refl
 
-  fits-is : keyTold s f n base low high table kind ≡ keyFits (map cellName cells) j
+  fits-is : keyTold s f n base low high table kind ≡ keyFits (map entryName cells) j
   unfolding keyTold keyFits baseNumber
   fits-is =
       sym
@@ -258,18 +258,18 @@ module _ (s : List ℕ) (cells : List (List ℕ)) (j : Json) (f : List ℕ) (k :
       (both (sym (λ i. leZ (low-is i) (high-is i))) (both refer-told (both type-told (both with-told refl))))))))))
 
   -- where a key that fits names a table, it is one of the tables
-  one-told : keyTold s f n base low high table kind ≡ true → eqb (slot 5) 0 ≡ false → isOneOf (map cellName cells) (slotTree s (slot 5)) ≡ true
+  one-told : keyTold s f n base low high table kind ≡ true → eqb (slot 5) 0 ≡ false → isOneOf (map entryName cells) (slotTree s (slot 5)) ≡ true
   unfolding keyFits
   one-told h e =
-      let q : Json → Bool = λ (x : Json). sameBase (keyBase ms) uuid && isOneOf (map cellName cells) x in
-      let t = parts (keyTests (map cellName cells) (keyBase ms) ms) (sym fits-is ∙ h) in
+      let q : Json → Bool = λ (x : Json). sameBase (keyBase ms) uuid && isOneOf (map entryName cells) x in
+      let t = parts (keyTests (map entryName cells) (keyBase ms) ms) (sym fits-is ∙ h) in
       and-r (sameBase (keyBase ms) uuid) _ (or-else (eqb (slot 5) 0) _ (sym (may-slot k 5 (omega arith) q) ∙ t .1 .1 .1 .1 .1 .1 .1 .0) e)
 
-  place-told : keyTold s f n base low high table kind ≡ true → eqb (slot 5) 0 ≡ false → placeByte table ≡ placeOr (textIn (memberValue (ascii "refTable") ms)) (map cellName cells)
-  unfolding tableIn cellNamed
-  place-told h e = rw (tableIn, e, k .value 5 (omega arith)) (place-is (map cellName cells) ids (slotTree s (slot 5)) (one-told h e) (omega (arith, length-map cells cellName)))
+  place-told : keyTold s f n base low high table kind ≡ true → eqb (slot 5) 0 ≡ false → placeByte table ≡ placeOr (textIn (memberValue (ascii "refTable") ms)) (map entryName cells)
+  unfolding tableIn entryNamed
+  place-told h e = rw (tableIn, e, k .value 5 (omega arith)) (place-is (map entryName cells) ids (slotTree s (slot 5)) (one-told h e) (omega (arith, length-map cells entryName)))
 
-  refers-is : keyTold s f n base low high table kind ≡ true → refersFrom (howByte (slot 5) kind) (placeByte table) ≡ refersOf (map cellName cells) ms
+  refers-is : keyTold s f n base low high table kind ≡ true → refersFrom (howByte (slot 5) kind) (placeByte table) ≡ refersOf (map entryName cells) ms
   unfolding howByte refersOf
   refers-is h =
       split
@@ -278,9 +278,9 @@ module _ (s : List ℕ) (cells : List (List ℕ)) (j : Json) (f : List ℕ) (k :
       (λ e.
       rw
       (howByte, refersOf, k .here 5 (omega arith), e, place-told h e, k .value 6 (omega arith), kind-weak (slotTree s (slot 6)))
-      (refers-from (eqb kind 1) (placeOr (textIn (memberValue (ascii "refTable") ms)) (map cellName cells))))
+      (refers-from (eqb kind 1) (placeOr (textIn (memberValue (ascii "refTable") ms)) (map entryName cells))))
 
-  pub key-read : KeyRead (map cellName cells) j made
+  pub key-read : KeyRead (map entryName cells) j made
   key-read = record { fits = fits-is; base = base-of; refers = refers-is; low = low-is; high = high-is }
 
 -- the tests as the code makes them

@@ -20,7 +20,7 @@ use Rattle.model.proofs.Atoms.{textOf-textAtom}
 use Rattle.model.proofs.SchemaLaws.{place-below}
 use Rattle.names.specs.Names.{shortCell, nameCell}
 use Rattle.catalog.specs.Entries.{foundAt}
-use Rattle.names.proofs.Ids.{id-none, id-long}
+use Rattle.catalog.proofs.Ids.{id-none, id-long}
 use Rattle.types.specs.Types.{isFound, placeByte}
 
 -- what is no id is not among ids

@@ -20,7 +20,7 @@ use Rattle.model.specs.Catalog.{refersFrom}
 use Rattle.model.specs.SchemaText.{isInteger, isWithin, sizeOr, keyMembers, keyBase, keyFits, refersOf, lowOf, highOf, typeMembers, typeFits, minOf, maxOf}
 use Rattle.fields.specs.Fields.{mostWords, choice, slotTree}
 use Rattle.names.specs.Names.{nameCell}
-use Rattle.catalog.specs.Entries.{cellNamed}
+use Rattle.catalog.specs.Entries.{entryNamed}
 use Rattle.types.specs.declared.Key.{Key}
 use Rattle.types.specs.declared.Shape.{Shape}
 
@@ -34,7 +34,7 @@ boundIn s base p q d = elim (eqb base 0) [ true ↦ limitIn s p d | false ↦ el
 
 -- the table that a slot names
 unfoldable pub tableIn : List ℕ → List (List ℕ) → ℕ → Found
-tableIn s tables p = elim (eqb p 0) [ true ↦ Nothing | false ↦ cellNamed tables (textOf (nameCell (slotTree s p))) ]
+tableIn s tables p = elim (eqb p 0) [ true ↦ Nothing | false ↦ entryNamed tables (textOf (nameCell (slotTree s p))) ]
 
 unfoldable pub isFound : Found → Bool
 isFound (At k) = true

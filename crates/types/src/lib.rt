@@ -16,7 +16,7 @@ ghost use Rattle.model.specs.Limits.{mostTables};
 ghost use Rattle.model.specs.Base.{all};
 ghost use Rattle.inner.specs.Positions.{Says, wellAt, treeAt};
 ghost use Rattle.model.specs.Whole.{wholeInt, isWhole};
-ghost use Rattle.model.specs.Catalog.{cellName};
+ghost use Rattle.model.specs.Catalog.{entryName};
 ghost use Rattle.model.specs.SchemaText.{isId, isInteger, isWithin, sizeOr, isMax};
 ghost use Rattle.fields.specs.Fields.{slotTree};
 ghost use Rattle.types.specs.Types.{limitIn, boundIn, tableIn, isFound, placeByte, baseByte, howByte, keyTold, KeyRead, KeyIn, maxIn, typeTold, TypeRead};
@@ -251,9 +251,9 @@ pub fn read_key(text: &[u8], ends: &[u16], tables: &[Entry], at: usize) -> Key
     requires { ⌜ Says (now text) (now ends) ⌝ }
     requires { ⌜ wellAt (now text) at ≡ true ⌝ }
     requires { ⌜ 0 < at ⌝ }
-    requires { ⌜ all isId (map cellName (now tables)) ≡ true ⌝ }
+    requires { ⌜ all isId (map entryName (now tables)) ≡ true ⌝ }
     requires { ⌜ length (now tables) ≤ mostTables ⌝ }
-    ensures { λ r. ⌜ KeyRead (map cellName (now (tables .entry))) (treeAt (now (text .entry)) at) r ⌝ }
+    ensures { λ r. ⌜ KeyRead (map entryName (now (tables .entry))) (treeAt (now (text .entry)) at) r ⌝ }
 {
     let f = fields::fields_or(
         text,
@@ -310,9 +310,9 @@ fn no_key() -> Key
 fn key_in(text: &[u8], ends: &[u16], tables: &[Entry], p: usize) -> Key
     requires { ⌜ Says (now text) (now ends) ⌝ }
     requires { ⌜ (eqb p 0 ≡ false → wellAt (now text) p ≡ true) ⌝ }
-    requires { ⌜ all isId (map cellName (now tables)) ≡ true ⌝ }
+    requires { ⌜ all isId (map entryName (now tables)) ≡ true ⌝ }
     requires { ⌜ length (now tables) ≤ mostTables ⌝ }
-    ensures { λ r. ⌜ KeyIn (now (text .entry)) (map cellName (now (tables .entry))) p r ⌝ }
+    ensures { λ r. ⌜ KeyIn (now (text .entry)) (map entryName (now (tables .entry))) p r ⌝ }
 {
     if p == 0 {
         return no_key();
@@ -347,9 +347,9 @@ pub fn read_type(text: &[u8], ends: &[u16], tables: &[Entry], at: usize) -> Shap
     requires { ⌜ Says (now text) (now ends) ⌝ }
     requires { ⌜ wellAt (now text) at ≡ true ⌝ }
     requires { ⌜ 0 < at ⌝ }
-    requires { ⌜ all isId (map cellName (now tables)) ≡ true ⌝ }
+    requires { ⌜ all isId (map entryName (now tables)) ≡ true ⌝ }
     requires { ⌜ length (now tables) ≤ mostTables ⌝ }
-    ensures { λ r. ⌜ TypeRead (map cellName (now (tables .entry))) (treeAt (now (text .entry)) at) r ⌝ }
+    ensures { λ r. ⌜ TypeRead (map entryName (now (tables .entry))) (treeAt (now (text .entry)) at) r ⌝ }
 {
     let f = fields::fields_or(text, ends, at, b"\x03key\x03min\x03max");
     let key = key_in(text, ends, tables, f[0]);

@@ -1,5 +1,5 @@
 -- `area::part_good` meets its contract. Assumes nothing.
-use mathlib.Core.Path.{_≡_, sym, ap, _∙_}
+use mathlib.Core.Path.{_≡_, sym, ap, subst, _∙_}
 use mathlib.Core.List.{List}
 use Prim.Native.Nat.{ℕ, _+_, _-_, _*_}
 use native.Mathlib.Omega.{arith}
@@ -8,9 +8,10 @@ use lib.ListN.{take, drop}
 use Rattle.model.specs.Octets.{part}
 use Rattle.model.specs.Limits.{rowsOffset}
 use Rattle.model.specs.Value.{zeros}
+use Rattle.inner.specs.Working.{Ordered}
 use Rattle.area.specs.Layout.{rowsIn, rowsGood, restZero, rowCount}
 use Rattle.area.proofs.Copies.{rows-length}
-use Rattle.area.proofs.Schemas.{rows-same, part-many, part-rest, part-rows, judged-no}
+use Rattle.area.proofs.Schemas.{rows-same, rows-ordered, part-many, part-rest, part-rows, judged-no}
 use borrow.Author.Needs.{needs}
 use Rattle.area.proofs.part_good.Statement.{statement}
 use Rattle.area.proofs.part_good.Tie as tie
@@ -60,6 +61,7 @@ returns-3 c =
     record {
       good = c .rows-good .ensures ∙ rows-same x m r (rowsIn m b) q (rows-length m b) ∙ ap (λ (i : ℕ). rowsGood x i (rowsIn i b)) n ∙ sym (part-rows x a (omega (arith, n, c .before .before .before .before .before .before .before .if1 .left)) z);
       rows = λ _. ap (λ (i : ℕ). take i r) (sym n) ∙ q ∙ ap (λ (i : ℕ). rowsIn i b) n;
+      ordered = λ e. subst (λ (i : ℕ). Ordered i r) n (rows-ordered x m r (omega (arith, n, c .before .before .before .before .before .before .before .if1 .left, c .before .before .before .read-rows .kept .1 .1 .0, s .pre .1 .1)) (sym (c .rows-good .ensures) ∙ e));
     }
 
 pub part-good-spec : {M : Type 1} → statement M

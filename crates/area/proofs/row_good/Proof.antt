@@ -8,7 +8,7 @@ use lib.ListN.{length, getD}
 use Rattle.inner.specs.Working.{tableIn}
 use Rattle.area.specs.Layout.{tidyFrom, canonicalFrom}
 use Rattle.catalog.proofs.Laws.{few-tables, few-columns}
-use Rattle.catalog.specs.Entries.{columnCells}
+use Rattle.catalog.specs.Entries.{columnsAt}
 use Rattle.area.proofs.Schemas.{no-table, no-id, not-tidy, all-good}
 use borrow.Author.Needs.{needs}
 use Rattle.area.proofs.row_good.Statement.{statement}
@@ -55,7 +55,7 @@ returns-3 c =
     let r = s .args .row .now in
     let t = c .before .before .before .wide .ensures ∙ c .before .before .before .before .before .before .before .before .before .table-of .ensures in
     let h : tableIn r < getD (getD x 0 []) 25 0 = omega (arith, t, c .before .before .before .wide .ensures, c .before .before .before .before .before .before .if1 .left, c .before .before .before .before .before .before .before .table-count .ensures) in
-    let e = c .before .before .columns-of .ensures .0 ∙ ap (columnCells x) t in
+    let e = c .before .before .columns-of .ensures .0 ∙ ap (columnsAt x) t in
     sym (not-tidy x r h (ap (λ (l : List (List ℕ)). tidyFrom (length l) r) (sym e) ∙ sym (c .before .tidy-row .ensures) ∙ not-true _ (c .if3 .taken)))
 
 canonical-row-requires : tie.Need-canonical-row-requires
@@ -68,7 +68,7 @@ returns-4 c =
     let r = s .args .row .now in
     let t = c .before .before .before .before .wide .ensures ∙ c .before .before .before .before .before .before .before .before .before .before .table-of .ensures in
     let h : tableIn r < getD (getD x 0 []) 25 0 = omega (arith, t, c .before .before .before .before .wide .ensures, c .before .before .before .before .before .before .before .if1 .left, c .before .before .before .before .before .before .before .before .table-count .ensures) in
-    let e = c .before .before .before .columns-of .ensures .0 ∙ ap (columnCells x) t in
+    let e = c .before .before .before .columns-of .ensures .0 ∙ ap (columnsAt x) t in
     let i = sym (c .before .before .before .before .before .before .has-some-id .ensures) ∙ not-false _ (c .before .before .before .before .before .if2 .left) in
     let d = ap (λ (l : List (List ℕ)). tidyFrom (length l) r) (sym e) ∙ sym (c .before .before .tidy-row .ensures) ∙ not-false _ (c .before .if3 .left) in
     c .canonical-row .ensures ∙ ap (λ (l : List (List ℕ)). canonicalFrom 0 l r) e ∙ sym (all-good x r h i d)

@@ -10,7 +10,7 @@ use Rattle.model.specs.Octets.{value}
 use Rattle.model.specs.Catalog.{columnFrom, packedTables}
 use Rattle.model.specs.Schema.{columnsOf}
 use Rattle.inner.specs.Working.{minimums}
-use Rattle.catalog.specs.Entries.{columnCells}
+use Rattle.catalog.specs.Entries.{columnsAt}
 use Rattle.area.proofs.Schemas.{columns-in}
 use Rattle.arrival.proofs.Doing.{known-here, narrow, added-left}
 use Rattle.arrival.proofs.born.Statement.{statement}
@@ -48,7 +48,7 @@ returns c =
     let k = s .pre .1 .1 in
     let f = narrow x (s .pre .0) (a .table) (value (a .id .now)) k in
     let h = known-here x (s .pre .0) (a .table) (value (a .id .now)) k in
-    let e = m .before .columns-of .ensures .0 ∙ ap (columnCells x) (m .before .before .wide .ensures) in
+    let e = m .before .columns-of .ensures .0 ∙ ap (columnsAt x) (m .before .before .wide .ensures) in
     added-left x (s .pre .0) (a .table) (value (a .id .now)) k (a .count) (a .rows .now) (c .before .add .last .0) (n .new-row .result) (omega (arith, s .pre .1 .0))
     (n .new-row .ensures .0 (columnsOf (packedTables x) (a .table)) f (m .minimums-of .ensures ∙ ap minimums (ap (λ (l : List (List ℕ)). map columnFrom l) e ∙ sym (columns-in x (a .table) h))))
     (c .before .add .ensures)

@@ -4,7 +4,7 @@ use mathlib.Core.Path.{_∙_}
 use native.Mathlib.Omega.{arith}
 use borrow.Author.Needs.{needs}
 use lib.ListN.{length, getD}
-use Rattle.model.specs.Catalog.{columnFrom, columnCell}
+use Rattle.model.specs.Catalog.{columnFrom, columnPlace}
 use Rattle.model.specs.Value.{canonicalFor}
 use Rattle.record.proofs.Listings.{column-size}
 use Rattle.record.specs.Reading.{arrivalRecord, canonicalIn}
@@ -72,7 +72,7 @@ returns-3 c =
     let p = w .before .before .wide .ensures in
     let q = w .before .wide2 .ensures in
     let r = w .atoms .ensures in
-    let e = c .before .before .column .ensures ∙ (λ j. getD x (columnCell (p j) (q j)) []) in
+    let e = c .before .before .column .ensures ∙ (λ j. getD x (columnPlace (p j) (q j)) []) in
     let v = k .arrival .given .0 .0 in
     c .canonical-by .ensures
     ∙ (λ j. canonicalFor (columnFrom (e j)) (record { count = v .count; atoms = r j }))

@@ -5,13 +5,13 @@ use Prim.Native.Nat.{_≤_, _-_}
 use native.Mathlib.Omega.{arith}
 use lib.ListN.{length}
 use Rattle.model.specs.Octets.{eqBytes}
-use Rattle.catalog.specs.Entries.{cellNamed}
+use Rattle.catalog.specs.Entries.{entryNamed}
 use Rattle.catalog.proofs.Lookups.{foundFrom, left, named-start, named-end, named-here, named-next}
 use Rattle.catalog.proofs.named.Statement.{statement}
 use Rattle.catalog.proofs.named.Tie as tie
 
 abbrev Inv-loop : tie.InvT-loop
-Inv-loop cells name i₀ i = (i ≤ length cells) × (cellNamed cells name ≡ foundFrom i (left cells name i))
+Inv-loop cells name i₀ i = (i ≤ length cells) × (entryNamed cells name ≡ foundFrom i (left cells name i))
 
 abbrev μ-loop : tie.MeasureT-loop
 μ-loop cells name i₀ i = length cells - i

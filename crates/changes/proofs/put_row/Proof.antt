@@ -1,131 +1,94 @@
 -- `changes::put_row` meets its contract. Assumes nothing.
-use mathlib.Core.Path.{sym, _∙_}
+use mathlib.Core.Path.{_≡_, sym, ap, _∙_}
+use mathlib.Core.List.{[], _∷_, _++_}
+use Prim.Native.Nat.{ℕ}
 use native.Mathlib.Omega.{arith}
+use Rattle.model.specs.Octets.{value}
+use Rattle.model.specs.Records.{born}
 use Rattle.model.specs.Catalog.{packedTables}
+use Rattle.model.specs.declared.Found.{Found}
+use Rattle.inner.specs.Working.{tableIn, idIn}
 use Rattle.changes.specs.Walk.{rowMost}
-use Rattle.changes.proofs.Writing.{recorded-none, recorded-is, recorded-then}
-use Rattle.changes.proofs.Rows.{most-gone, most-other, found-within, row-kept, row-gone, row-new, row-changed}
+use Rattle.changes.proofs.Writing.{recorded-is, recorded-then}
+use Rattle.changes.proofs.Rows.{at-old, nothing-old, columnsOver, row-new, old-within, row-changed}
 use borrow.Author.Needs.{needs}
 use Rattle.changes.proofs.put_row.Statement.{statement}
 use Rattle.changes.proofs.put_row.Tie as tie
 
-find-row-requires : tie.Need-find-row-requires
-find-row-requires c κs = search needs
-
-enum-known-found : tie.Need-enum-known-found
-enum-known-found c = search needs
-
-returns : tie.Need-returns
-returns c =
-    let f = c .before .before in
-    let p = f .before .before in
-    let s = p .before .before in
-    let S = packedTables (s .args .schema .now) in
-    recorded-is (recorded-none (s .args .run) (s .args .number) (s .args .to) (s .args .records .now) (s .pre .1 .1 .few)) (row-kept S (s .args .others .now) (s .args .k) (s .pre .1 .0) (s .args .row .now) (s .args .gone) _ (sym (p .find-row .ensures S) ∙ f .found .given .1) (c .if1 .taken)) (rowMost (s .args .gone)) (omega arith)
-
-mul-put-columns : tie.Need-mul-put-columns
-mul-put-columns c =
-    let f = c .before .before in
-    let p = f .before .before in
-    let s = p .before .before in
-    let S = packedTables (s .args .schema .now) in
-    omega (arith, s .good, s .pre .1 .0, found-within S (s .args .others .now) (s .args .k) (s .pre .1 .0) (s .args .row .now) (s .args .gone) _ (sym (p .find-row .ensures S) ∙ f .found .given .1))
-
-shared-slice-element-put-columns : tie.Need-shared-slice-element-put-columns
-shared-slice-element-put-columns c =
-    let f = c .before .before in
-    let p = f .before .before in
-    let s = p .before .before in
-    let S = packedTables (s .args .schema .now) in
-    omega (arith, s .pre .1 .0, found-within S (s .args .others .now) (s .args .k) (s .pre .1 .0) (s .args .row .now) (s .args .gone) _ (sym (p .find-row .ensures S) ∙ f .found .given .1))
-
-put-columns-requires : tie.Need-put-columns-requires
-put-columns-requires c κs =
-    let e = c .before .before in
-    let s = e .before .before .before .before .before .before in
-    let r = s .pre .1 .1 in
-    (s .pre .0, record { few = r .few; room = omega (arith, r .room, most-other (s .args .gone) (e .if1 .left)); enough = r .enough })
-
 enum-told : tie.Need-enum-told
 enum-told c = search needs
 
-put-gone-requires : tie.Need-put-gone-requires
-put-gone-requires c κs =
-    let t = c .before in
-    let s = t .before .before .before .before .before in
-    let r = s .pre .1 .1 in
-    record { few = r .few; room = omega (arith, r .room, most-gone (s .args .gone) (t .if2 .taken)); enough = r .enough }
+put-columns-requires : tie.Need-put-columns-requires
+put-columns-requires c κs =
+    let e = c .before in
+    let s = e .before .before .before .before in
+    let a = s .args in
+    let r = s .pre .1 .1 .1 in
+    let w = old-within (packedTables (a .schema .now)) (a .area .now) (a .m) (a .row .now) _ (sym (s .pre .1 .1 .0) ∙ e .enum-told .given .1) in
+    (s .pre .0, (at-old (a .area .now) (a .old) _ (e .enum-told .given .1) (s .pre .1 .0 .0) (omega (arith, w, s .pre .1 .0 .1)), record { few = r .few; room = omega (arith, r .room); enough = r .enough }))
 
-same-length : tie.Need-same-length
-same-length c = search needs
+enum-told-2 : tie.Need-enum-told-2
+enum-told-2 c = search needs
 
-returns-2 : tie.Need-returns-2
-returns-2 c =
-    let q = c .before .before in
-    let t = q .before .before in
-    let f = t .before in let p = f .before .before in
-    let s = p .before .before in
-    let S = packedTables (s .args .schema .now) in
-    recorded-is (q .put-gone .ensures) (row-gone S (s .args .others .now) (s .args .k) (s .pre .1 .0) (s .args .row .now) (s .args .gone) (sym (p .find-row .ensures S) ∙ f .enum-told .given .1) (t .if2 .taken)) (rowMost (s .args .gone)) (omega (arith, most-gone (s .args .gone) (t .if2 .taken)))
+table-of-requires : tie.Need-table-of-requires
+table-of-requires c κs = search needs
+
+id-of-requires : tie.Need-id-of-requires
+id-of-requires c κs = search needs
 
 put-born-requires : tie.Need-put-born-requires
-put-born-requires c κs =
-    let e = c .before in
-    let s = e .before .before .before .before .before in
-    let r = s .pre .1 .1 in
-    record { few = r .few; room = omega (arith, r .room, most-other (s .args .gone) (e .if2 .left)); enough = r .enough }
+put-born-requires c κs = search needs
 
 put-columns-requires-2 : tie.Need-put-columns-requires-2
 put-columns-requires-2 c κs =
     let b = c .before .before .before in
-    let e = b .before .before in
-    let s = e .before .before .before .before .before in
-    let r = s .pre .1 .1 in
+    let e = b .before .before .before .before in
+    let s = e .before .before .before .before in
+    let r = s .pre .1 .1 .1 in
     let w = b .put-born in
-    (s .pre .0, record { few = w .ensures .few; room = omega (arith, w .ensures .short, r .room, most-other (s .args .gone) (e .if2 .left)); enough = omega (arith, w .kept .1 .1 .1 .1 .0, r .enough) })
+    (s .pre .0, (nothing-old (s .args .area .now) (s .args .old) (e .enum-told2 .given .1), record { few = w .ensures .few; room = omega (arith, w .ensures .short, r .room); enough = omega (arith, w .kept .1 .1 .1 .1 .1 .0, r .enough) }))
+
+same-length : tie.Need-same-length
+same-length c = search needs
+
+returns : tie.Need-returns
+returns c =
+    let k = c .before .before in
+    let e = k .before .before in
+    let s = e .before .before .before .before in
+    let a = s .args in
+    let S = packedTables (a .schema .now) in
+    recorded-is (k .put-columns .ensures) (ap (columnsOver S (a .area .now) (a .m) (a .row .now)) (e .enum-told .given .1) ∙ row-changed S (a .area .now) (a .m) (a .row .now) _ (sym (s .pre .1 .1 .0) ∙ e .enum-told .given .1)) rowMost (omega arith)
 
 same-length-2 : tie.Need-same-length-2
 same-length-2 c = search needs
 
-returns-3 : tie.Need-returns-3
-returns-3 c =
-    let k = c .before .before in
-    let e = k .before .before .before in
-    let f = e .before .before in let p = f .before .before in
-    let s = p .before .before in
-    let S = packedTables (s .args .schema .now) in
-    recorded-is (k .put-columns .ensures) (row-changed S (s .args .others .now) (s .args .k) (s .pre .1 .0) (s .args .row .now) (s .args .gone) _ (sym (p .find-row .ensures S) ∙ f .found .given .1) (e .if1 .left)) (rowMost (s .args .gone)) (omega (arith, most-other (s .args .gone) (e .if1 .left)))
-
-same-length-3 : tie.Need-same-length-3
-same-length-3 c = search needs
-
-returns-4 : tie.Need-returns-4
-returns-4 c =
+returns-2 : tie.Need-returns-2
+unfolding idIn
+returns-2 c =
     let k = c .before .before in
     let b = k .before .before .before .before in
-    let e = b .before .before in
-    let f = e .before in let p = f .before .before in
-    let s = p .before .before in
-    let S = packedTables (s .args .schema .now) in
-    recorded-is (recorded-then (b .put-born .ensures) (k .put-columns2 .ensures)) (row-new S (s .args .others .now) (s .args .k) (s .pre .1 .0) (s .args .row .now) (s .args .gone) (sym (p .find-row .ensures S) ∙ f .enum-told .given .1) (e .if2 .left)) (rowMost (s .args .gone)) (omega (arith, most-other (s .args .gone) (e .if2 .left)))
+    let i = b .before .before in
+    let e = i .before .before in
+    let s = e .before .before .before .before in
+    let a = s .args in
+    let S = packedTables (a .schema .now) in
+    let first = recorded-is (b .put-born .ensures) (λ j. born (i .before .table-of .ensures j) (value (i .id-of .ensures .bytes j)) ∷ []) 26 (omega arith) in
+    recorded-is (recorded-then first (k .put-columns2 .ensures))
+    (ap (λ (o : Found). (born (tableIn (a .row .now)) (idIn (a .row .now)) ∷ []) ++ columnsOver S (a .area .now) (a .m) (a .row .now) o) (e .enum-told2 .given .1) ∙ row-new S (a .area .now) (a .m) (a .row .now) (sym (s .pre .1 .1 .0) ∙ e .enum-told2 .given .1)) rowMost (omega arith)
 
 pub put-row-spec : {M : Type 1} → statement M
 put-row-spec =
     tie.close
     (tie.spec
-    find-row-requires
-    enum-known-found
-    returns
-    mul-put-columns
-    shared-slice-element-put-columns
-    put-columns-requires
     enum-told
-    put-gone-requires
-    same-length
-    returns-2
+    put-columns-requires
+    enum-told-2
+    table-of-requires
+    id-of-requires
     put-born-requires
     put-columns-requires-2
+    same-length
+    returns
     same-length-2
-    returns-3
-    same-length-3
-    returns-4)
+    returns-2)

@@ -24,7 +24,7 @@ width-requires-2 c κs = search needs
 returns : tie.Need-returns
 returns c =
     let k = c .before in
-    let s = k .before .before .before .before in
+    let s = k .before .before .before .before .before in
     let S = packedTables (s .args .schema .now) in
     let a = k .before .before .width .ensures ∙ ap (λ (t : ℕ). length (columnsOf S t)) (k .before .before .before .table-of .ensures) in
     let b = k .width2 .ensures ∙ ap (λ (t : ℕ). length (columnsOf S t)) (k .before .table-of2 .ensures) in
@@ -33,7 +33,7 @@ returns c =
 returns-2 : tie.Need-returns-2
 returns-2 c =
     let k = c .before in
-    let s = k .before .before .before .before in
+    let s = k .before .before .before .before .before in
     let S = packedTables (s .args .schema .now) in
     let a = k .before .before .width .ensures ∙ ap (λ (t : ℕ). length (columnsOf S t)) (k .before .before .before .table-of .ensures) in
     let b = k .width2 .ensures ∙ ap (λ (t : ℕ). length (columnsOf S t)) (k .before .table-of2 .ensures) in

@@ -15,7 +15,7 @@ use Rattle.columns.proofs.collect.Reads as reads
 use Rattle.columns.proofs.collect.Lts as lts
 use Rattle.atom.proofs.text_of.Reads as text-of-reads
 use Rattle.columns.proofs.has_from.Reads as has-from-reads
-use Rattle.names.proofs.is_id.Reads as is-id-reads
+use Rattle.catalog.proofs.rules.is_id.Reads as is-id-reads
 use Rattle.names.proofs.name_at.Reads as name-at-reads
 use Rattle.nav.proofs.first.Reads as first-reads
 use Rattle.nav.proofs.kind_at.Reads as kind-at-reads

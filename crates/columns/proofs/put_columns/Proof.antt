@@ -2,19 +2,19 @@
 use Prim.Native.Nat.{_-_}
 use mathlib.Core.List.{map}
 use native.Mathlib.Omega.{arith}
-use Rattle.model.specs.Catalog.{cellName}
+use Rattle.model.specs.Catalog.{entryName}
 use Rattle.columns.proofs.Listing.{Putting, put-start, put-more, put-end}
 use Rattle.columns.proofs.put_columns.Statement.{statement}
 use Rattle.columns.proofs.put_columns.Tie as tie
 
 abbrev Inv-loop : tie.InvT-loop
-Inv-loop text ends places n tables cells₀ good₀ i₀ cells good i = Putting text (map cellName tables) n places cells₀ cells good i
+Inv-loop text ends places n tables cells₀ good₀ i₀ cells good i = Putting text (map entryName tables) n places cells₀ cells good i
 
 abbrev μ-loop : tie.MeasureT-loop
 μ-loop text ends places n tables cells₀ good₀ i₀ cells good i = n - i
 
 loop-holds : tie.Need-loop-holds Inv-loop μ-loop
-loop-holds c = let st = c .before .before .before in put-start (st .args .text .now) (map cellName (st .args .tables .now)) (st .args .n) (st .args .places .now) (st .args .cells .now)
+loop-holds c = let st = c .before .before .before in put-start (st .args .text .now) (map entryName (st .args .tables .now)) (st .args .n) (st .args .places .now) (st .args .cells .now)
 
 mul-read-column : tie.Need-mul-read-column Inv-loop μ-loop
 mul-read-column c = let l = c .loop-test .taken in let h = c .before .before .before .before .before .pre .1 .1 .1 .1 .0 in omega arith
@@ -61,7 +61,7 @@ loop-again : tie.Need-loop-again Inv-loop μ-loop
 loop-again c =
     let p = c .before .before .before .before .before in
     let st = p .before .before .before .before in
-    put-more (st .args .text .now) (map cellName (st .args .tables .now)) (st .args .n) (st .args .places .now) (st .args .cells .now) (st .pre .1 .1 .1 .1 .0) (st .pre .1 .1 .1 .1 .1 .0) (st .pre .1 .1 .1 .1 .1 .1) (p .loop .inv) (c .before .before .before .before .loop-test .taken) (c .before .before .read-column .result) (c .before .before .read-column .ensures)
+    put-more (st .args .text .now) (map entryName (st .args .tables .now)) (st .args .n) (st .args .places .now) (st .args .cells .now) (st .pre .1 .1 .1 .1 .0) (st .pre .1 .1 .1 .1 .1 .0) (st .pre .1 .1 .1 .1 .1 .1) (p .loop .inv) (c .before .before .before .before .loop-test .taken) (c .before .before .read-column .result) (c .before .before .read-column .ensures)
 
 same-length : tie.Need-same-length Inv-loop μ-loop
 same-length c = c .before .loop .inv .size
@@ -70,7 +70,7 @@ returns : tie.Need-returns Inv-loop μ-loop
 returns c =
     let p = c .before in
     let st = p .before .before .before .before in
-    put-end (st .args .text .now) (map cellName (st .args .tables .now)) (st .args .n) (st .args .places .now) (st .args .cells .now) (p .loop .inv) (c .loop-test .left)
+    put-end (st .args .text .now) (map entryName (st .args .tables .now)) (st .args .n) (st .args .places .now) (st .args .cells .now) (p .loop .inv) (c .loop-test .left)
 
 pub put-columns-spec : {M : Type 1} → statement M
 put-columns-spec =

@@ -9,7 +9,7 @@ use Rattle.model.specs.Json.{Json}
 use Rattle.inner.specs.Positions.{treeAt}
 use Rattle.model.specs.Members.{membersIn}
 use Rattle.model.specs.Value.{textOf}
-use Rattle.model.specs.Catalog.{cellName}
+use Rattle.model.specs.Catalog.{entryName}
 use Rattle.model.specs.SchemaText.{truthOr}
 use Rattle.fields.specs.Fields.{wordsFrom, wordsOf, slotTree, Slots}
 use Rattle.columns.specs.Parts.{memberOf}
@@ -76,7 +76,7 @@ returns c =
     let f = fi .fields .result in
     let name = na .name-at .result in
     let t = ty .type-in .result in
-    let tables = map cellName (st .args .tables .now) in
+    let tables = map entryName (st .args .tables .now) in
     let well = st .pre .1 .0 in
     let rest : List ℕ = drop 47 (replicate 48 0) in
     let k : Slots s columnWords (membersIn (memberOf s at .value)) f =

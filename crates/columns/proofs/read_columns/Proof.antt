@@ -5,7 +5,7 @@ use mathlib.Core.List.{map}
 use native.Mathlib.Omega.{arith}
 use borrow.Author.Tests.{le-leb}
 use Rattle.inner.specs.Positions.{treeAt}
-use Rattle.model.specs.Catalog.{cellName}
+use Rattle.model.specs.Catalog.{entryName}
 use Rattle.columns.proofs.Listing.{none-read, bad-read, all-read}
 use borrow.Author.Needs.{needs}
 use Rattle.columns.proofs.read_columns.Statement.{statement}
@@ -39,7 +39,7 @@ returns c =
     let st = co .before .before .before .before in
     let l = th .if1 .taken in
     let k : length (co .collect .last .1 .1 .1 .1 .0) ≡ 6 = co .collect .kept .1 .1 .1 .1 .0 in
-    all-read (st .args .text .now) (map cellName (st .args .tables .now)) (treeAt (st .args .text .now) (st .args .at)) (st .args .cells .now) (co .collect .ensures) (th .if1 .taken) (pc .put-columns .ensures) (omega arith) (c .if2 .taken)
+    all-read (st .args .text .now) (map entryName (st .args .tables .now)) (treeAt (st .args .text .now) (st .args .at)) (st .args .cells .now) (co .collect .ensures) (th .if1 .taken) (pc .put-columns .ensures) (omega arith) (c .if2 .taken)
 
 same-length-2 : tie.Need-same-length-2
 same-length-2 c = search needs
@@ -50,13 +50,13 @@ returns-2 c =
     let th = pc .before .before .before in
     let co = th .before .before in
     let st = co .before .before .before .before in
-    bad-read (st .args .text .now) (map cellName (st .args .tables .now)) (treeAt (st .args .text .now) (st .args .at)) (st .args .cells .now) (co .collect .ensures) (th .if1 .taken) (pc .put-columns .ensures) (c .if2 .left)
+    bad-read (st .args .text .now) (map entryName (st .args .tables .now)) (treeAt (st .args .text .now) (st .args .at)) (st .args .cells .now) (co .collect .ensures) (th .if1 .taken) (pc .put-columns .ensures) (c .if2 .left)
 
 returns-3 : tie.Need-returns-3
 returns-3 c =
     let co = c .before .before in
     let st = co .before .before .before .before in
-    none-read (st .args .text .now) (map cellName (st .args .tables .now)) (treeAt (st .args .text .now) (st .args .at)) (st .args .cells .now) (co .collect .ensures) (c .if1 .left)
+    none-read (st .args .text .now) (map entryName (st .args .tables .now)) (treeAt (st .args .text .now) (st .args .at)) (st .args .cells .now) (co .collect .ensures) (c .if1 .left)
 
 pub read-columns-spec : {M : Type 1} → statement M
 read-columns-spec =

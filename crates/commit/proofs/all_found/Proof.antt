@@ -28,7 +28,7 @@ mul-row-found : tie.Need-mul-row-found Inv-loop μ-loop
 mul-row-found c = omega (arith, c .before .before .good)
 
 shared-slice-element-row-found : tie.Need-shared-slice-element-row-found Inv-loop μ-loop
-shared-slice-element-row-found c = omega (arith, c .before .before .pre .1)
+shared-slice-element-row-found c = omega (arith, c .before .before .pre .1 .there)
 
 row-found-requires : tie.Need-row-found-requires Inv-loop μ-loop
 row-found-requires c κs = c .before .before .before .pre
@@ -38,7 +38,7 @@ returns c =
     let a = c .before .before .before .before .before in
     let l = c .before .before .before .before .loop in
     let s = packedTables (a .args .schema .now) in
-    sym (l .inv .1 ∙ all-row-here s (a .args .rows .now) (a .args .n) (a .pre .1) (l .i) (referred s (a .args .how) (working s (a .args .n) (a .args .rows .now))) (c .before .before .before .loop-test .taken) (sym (c .before .row-found .ensures) ∙ not-true _ (c .if1 .taken)))
+    sym (l .inv .1 ∙ all-row-here s (a .args .rows .now) (a .args .n) (a .pre .1 .there) (l .i) (referred s (a .args .how) (working s (a .args .n) (a .args .rows .now))) (c .before .before .before .loop-test .taken) (sym (c .before .row-found .ensures) ∙ not-true _ (c .if1 .taken)))
 
 add-i : tie.Need-add-i Inv-loop μ-loop
 add-i c = omega arith
@@ -51,14 +51,14 @@ loop-again c =
     let a = c .before .before .before .before .before in
     let l = c .before .before .before .before .loop in
     let s = packedTables (a .args .schema .now) in
-    (omega arith, l .inv .1 ∙ all-row-on s (a .args .rows .now) (a .args .n) (a .pre .1) (l .i) (referred s (a .args .how) (working s (a .args .n) (a .args .rows .now))) (c .before .before .before .loop-test .taken) (sym (c .before .row-found .ensures) ∙ not-false _ (c .if1 .left)))
+    (omega arith, l .inv .1 ∙ all-row-on s (a .args .rows .now) (a .args .n) (a .pre .1 .there) (l .i) (referred s (a .args .how) (working s (a .args .n) (a .args .rows .now))) (c .before .before .before .loop-test .taken) (sym (c .before .row-found .ensures) ∙ not-false _ (c .if1 .left)))
 
 returns-2 : tie.Need-returns-2 Inv-loop μ-loop
 returns-2 c =
     let a = c .before .before in
     let l = c .before .loop in
     let s = packedTables (a .args .schema .now) in
-    sym (l .inv .1 ∙ all-row-end s (a .args .rows .now) (a .args .n) (a .pre .1) (l .i) (referred s (a .args .how) (working s (a .args .n) (a .args .rows .now))) (c .loop-test .left))
+    sym (l .inv .1 ∙ all-row-end s (a .args .rows .now) (a .args .n) (a .pre .1 .there) (l .i) (referred s (a .args .how) (working s (a .args .n) (a .args .rows .now))) (c .loop-test .left))
 
 pub all-found-spec : {M : Type 1} → statement M
 all-found-spec =

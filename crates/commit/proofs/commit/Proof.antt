@@ -35,7 +35,7 @@ returns-2 c =
     let a = c .before .before .before .before .before .before .before .before .before .before .before .before in
     let m = c .before .before .before .before .before .before .before .collect in
     let w = c .before .before .before .before .weaken in
-    commit-few (packedTables (a .args .schema .now)) (a .args .n) (a .args .rows .now) (m .result) (m .last .1 .0) (w .last .1 .0) (a .pre .1)
+    commit-few (packedTables (a .args .schema .now)) (a .args .n) (a .args .rows .now) (m .result) (m .last .1 .0) (w .last .1 .0) (a .pre .1 .there)
     (sym (c .before .before .before .before .before .before .before .before .before .before .all-found .ensures) ∙ not-false _ (c .before .before .before .before .before .before .before .before .before .if1 .left))
     (m .ensures) (w .ensures)
     (sym (c .before .all-enough .ensures) ∙ not-true _ (c .if2 .taken))
@@ -51,7 +51,7 @@ returns-3 c =
     let a = c .before .before .before .before .before .before .before .before .before .before .before .before .before .before .before in
     let m = c .before .before .before .before .before .before .before .before .before .before .collect in
     let w = c .before .before .before .before .before .before .before .weaken in
-    commit-over (packedTables (a .args .schema .now)) (a .args .n) (a .args .rows .now) (m .result) (m .last .1 .0) (w .last .1 .0) (a .pre .1)
+    commit-over (packedTables (a .args .schema .now)) (a .args .n) (a .args .rows .now) (m .result) (m .last .1 .0) (w .last .1 .0) (a .pre .1 .there)
     (sym (c .before .before .before .before .before .before .before .before .before .before .before .before .before .all-found .ensures) ∙ not-false _ (c .before .before .before .before .before .before .before .before .before .before .before .before .if1 .left))
     (m .ensures) (w .ensures)
     (sym (c .before .before .before .before .all-enough .ensures) ∙ not-false _ (c .before .before .before .if2 .left))
@@ -65,7 +65,7 @@ returns-4 c =
     let a = c .before .before .before .before .before .before .before .before .before .before .before .before .before .before .before in
     let m = c .before .before .before .before .before .before .before .before .before .before .collect in
     let w = c .before .before .before .before .before .before .before .weaken in
-    commit-fine (packedTables (a .args .schema .now)) (a .args .n) (a .args .rows .now) (m .result) (m .last .1 .0) (w .last .1 .0) (a .pre .1)
+    commit-fine (packedTables (a .args .schema .now)) (a .args .n) (a .args .rows .now) (m .result) (m .last .1 .0) (w .last .1 .0) (a .pre .1 .there)
     (sym (c .before .before .before .before .before .before .before .before .before .before .before .before .before .all-found .ensures) ∙ not-false _ (c .before .before .before .before .before .before .before .before .before .before .before .before .if1 .left))
     (m .ensures) (w .ensures)
     (sym (c .before .before .before .before .all-enough .ensures) ∙ not-false _ (c .before .before .before .if2 .left))

@@ -1,8 +1,10 @@
 -- `holding::rows_held` meets its contract. Assumes nothing.
-use mathlib.Core.Path.{_≡_, sym, _∙_}
+use mathlib.Core.Path.{_≡_, sym, subst, _∙_}
+use Prim.Native.Nat.{ℕ}
 use native.Mathlib.Omega.{arith}
 use borrow.Author.Needs.{needs}
 use borrow.Author.Tests.{not-true, not-false}
+use Rattle.inner.specs.Working.{Ordered}
 use Rattle.model.proofs.Octets.{octets}
 use Rattle.holding.proofs.Laws.{cells-accepted, rows-few, held-part, held-types, held-rules}
 use Rattle.holding.proofs.rows_held.Statement.{statement}
@@ -50,8 +52,7 @@ lawful-requires c κs =
     let s = c .before .before .before .before .before .before .before .before .before .before in
     let a = s .args .area .now in
     let p = c .before .before .before .before .before .before .before .part-good in
-    let few = rows-few a (s .args .schema .now) (s .pre .1) (s .pre .0 .0) (octets a (λ i. c .before .before .before .before .before .before .before .before .before .shared-slice-known .given i .fits)) (p .last .1 .1 .0) (p .result) (p .ensures) (not-false _ (c .before .before .before .before .before .if1 .left)) in
-    (cells-accepted a (s .args .schema .now) (s .pre .1), omega (arith, few, c .before .before .before .before .row-count .ensures, p .kept .1 .1 .0, s .pre .0 .1))
+    (cells-accepted a (s .args .schema .now) (s .pre .1), subst (λ (n : ℕ). Ordered n (p .last .1 .1 .0)) (sym (c .before .before .before .before .row-count .ensures)) (p .ensures .ordered (not-false _ (c .before .before .before .before .before .if1 .left))))
 
 same-length-3 : tie.Need-same-length-3
 same-length-3 c = search needs

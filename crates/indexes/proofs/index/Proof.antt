@@ -1,7 +1,7 @@
 -- `indexes::index` meets its contract. Assumes nothing.
 use Rattle.indexes.proofs.Numbers.{Filled, filled-start, filled-end, filled-more, filled-short, filled-on}
 use Rattle.nav.proofs.Walk.{walk-less}
-use Rattle.model.specs.Catalog.{cellName}
+use Rattle.model.specs.Catalog.{entryName}
 use Rattle.inner.specs.Positions.{treeAt, left}
 use mathlib.Core.List.{map}
 use native.Mathlib.Omega.{arith}
@@ -10,7 +10,7 @@ use Rattle.indexes.proofs.index.Statement.{statement}
 use Rattle.indexes.proofs.index.Tie as tie
 
 abbrev Inv-loop : tie.InvT-loop
-Inv-loop text ends at columns q₀ n₀ g₀ q n g = Filled text (map cellName columns) (treeAt text at) q n g
+Inv-loop text ends at columns q₀ n₀ g₀ q n g = Filled text (map entryName columns) (treeAt text at) q n g
 
 abbrev μ-loop : tie.MeasureT-loop
 μ-loop text ends at columns q₀ n₀ g₀ q n g = left text g
@@ -21,7 +21,7 @@ first-requires c κs = tt
 loop-holds : tie.Need-loop-holds Inv-loop μ-loop
 loop-holds c =
     let st = c .before .before .before in
-    filled-start (st .args .text .now) (map cellName (st .args .columns .now)) (st .args .at) (st .pre .1 .0) (st .pre .1 .1 .0) (c .first .ensures)
+    filled-start (st .args .text .now) (map entryName (st .args .columns .now)) (st .args .at) (st .pre .1 .0) (st .pre .1 .1 .0) (c .first .ensures)
 
 enum-known-g : tie.Need-enum-known-g Inv-loop μ-loop
 enum-known-g c = search needs
@@ -30,20 +30,20 @@ add-n : tie.Need-add-n Inv-loop μ-loop
 add-n c =
     let l = c .before .before .before in
     let a = l .before .before .before .before .args in
-    omega (arith, filled-more (a .text .now) (map cellName (a .columns .now)) (l .loop .inv) (c .before .g .given .1))
+    omega (arith, filled-more (a .text .now) (map entryName (a .columns .now)) (l .loop .inv) (c .before .g .given .1))
 
 number-requires : tie.Need-number-requires Inv-loop μ-loop
 number-requires c κs =
     let l = c .before .before .before in
     let st = l .before .before .before .before in
-    (filled-short (st .args .text .now) (map cellName (st .args .columns .now)) (l .loop .inv) (c .before .g .given .1), st .pre .1 .1 .1)
+    (filled-short (st .args .text .now) (map entryName (st .args .columns .now)) (l .loop .inv) (c .before .g .given .1), st .pre .1 .1 .1)
 
 array-write-q : tie.Need-array-write-q Inv-loop μ-loop
 array-write-q c =
     let g = c .before .before in
     let l = g .before .before in
     let a = l .before .before .before .before .args in
-    omega (arith, filled-more (a .text .now) (map cellName (a .columns .now)) (l .loop .inv) (g .g .given .1))
+    omega (arith, filled-more (a .text .now) (map entryName (a .columns .now)) (l .loop .inv) (g .g .given .1))
 
 next-item-requires : tie.Need-next-item-requires Inv-loop μ-loop
 next-item-requires c κs = c .before .before .before .before .before .before .before .before .pre .0
@@ -60,7 +60,7 @@ loop-again c =
     let g = c .before .before .before in
     let l = g .before .before in
     let a = l .before .before .before .before .args in
-    filled-on (a .text .now) (map cellName (a .columns .now)) (l .loop .inv) (g .g .given .1) (c .before .number .ensures) (c .next-item .ensures)
+    filled-on (a .text .now) (map entryName (a .columns .now)) (l .loop .inv) (g .g .given .1) (c .before .number .ensures) (c .next-item .ensures)
 
 enum-told : tie.Need-enum-told Inv-loop μ-loop
 enum-told c = search needs
@@ -75,7 +75,7 @@ returns : tie.Need-returns Inv-loop μ-loop
 returns c =
     let l = c .before .before in
     let a = l .before .before .before .before .args in
-    filled-end (a .text .now) (map cellName (a .columns .now)) (l .loop .inv) (c .enum-told .given .1)
+    filled-end (a .text .now) (map entryName (a .columns .now)) (l .loop .inv) (c .enum-told .given .1)
 
 pub index-spec : {M : Type 1} → statement M
 index-spec =

@@ -4,8 +4,9 @@ use native.Mathlib.Omega.{arith}
 use mathlib.Core.List.{List, []}
 use Prim.Native.Nat.{ℕ}
 use lib.ListN.{getD}
-use Rattle.model.specs.Catalog.{columnCell, minOffset}
-use Rattle.references.proofs.Packs.{has-columns, few-tables, few-columns}
+use Rattle.model.specs.Catalog.{columnPlace, minOffset}
+use Rattle.catalog.proofs.Laws.{few-tables}
+use Rattle.references.proofs.Packs.{has-columns, few-columns}
 use borrow.Author.Needs.{needs}
 use Rattle.limits.proofs.minimum.Statement.{statement}
 use Rattle.limits.proofs.minimum.Tie as tie
@@ -26,7 +27,7 @@ minimum-requires c κs = search needs
 returns : tie.Need-returns
 returns c =
     let s = c .before .before .before in
-    let e = c .before .column .ensures ∙ ap (λ (t : ℕ). getD (s .args .schema .now) (columnCell t (s .args .c)) []) (c .before .before .wide .ensures) in
+    let e = c .before .column .ensures ∙ ap (λ (t : ℕ). getD (s .args .schema .now) (columnPlace t (s .args .c)) []) (c .before .before .wide .ensures) in
     c .minimum .ensures ∙ ap (λ (x : List ℕ). getD x minOffset 0) e
 
 pub minimum-spec : {M : Type 1} → statement M

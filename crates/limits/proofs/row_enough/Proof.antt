@@ -7,7 +7,7 @@ use lib.ListN.{length, getD}
 use Rattle.model.specs.Schema.{columnsOf}
 use Rattle.model.specs.Areas.{rowFrom}
 use mathlib.Core.List.{[]}
-use Rattle.model.specs.Catalog.{packedTables, columnFrom, columnCell}
+use Rattle.model.specs.Catalog.{packedTables, columnFrom, columnPlace}
 use Rattle.inner.specs.Working.{tableIn}
 use Rattle.references.proofs.Packs.{few-columns}
 use Rattle.limits.specs.Alike.{rowEnough}
@@ -53,7 +53,7 @@ module _ (c : tie.After-minimum Inv-loop μ-loop) where
   within = omega (arith, c .before .before .loop-test .taken, c .before .before .before .before .width .ensures, ap (λ (t : ℕ). length (columnsOf (packedTables (start .args .schema .now)) t)) table)
 
   low : c .minimum .result ≡ least (start .args .schema .now) (start .args .row .now) (start .pre) at within
-  low = c .minimum .ensures ∙ ap (λ (t : ℕ). columnFrom (getD (start .args .schema .now) (columnCell t at) []) .min) table
+  low = c .minimum .ensures ∙ ap (λ (t : ℕ). columnFrom (getD (start .args .schema .now) (columnPlace t at) []) .min) table
 
 returns : tie.Need-returns Inv-loop μ-loop
 returns c =

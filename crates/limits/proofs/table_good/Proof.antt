@@ -8,7 +8,7 @@ use borrow.Author.Tests.{not-true, not-false}
 use lib.ListN.{length, getD}
 use Rattle.model.specs.Commit.{notOver}
 use Rattle.model.specs.Catalog.{maxRowsFrom, indexFrom, tableCount, indexesOffset, firstIndexOffset, secondIndexOffset}
-use Rattle.references.proofs.Packs.{tables-length, few-tables}
+use Rattle.catalog.proofs.Laws.{tables-length, few-tables}
 use Rattle.limits.specs.Alike.{uniqueCells, IndexFits}
 use Rattle.limits.proofs.Sanely.{cellAt, widthAt, Below, fits-first, fits-second}
 use Rattle.limits.proofs.Tables.{mine, fewEnough, good-over, good-none, good-first-no, good-one, good-two}

@@ -7,7 +7,7 @@ use borrow.Author.Tests.{not-true, not-false}
 use Rattle.model.specs.Commit.{tablesGood}
 use Rattle.model.specs.Catalog.{packedTables, tableCount}
 use Rattle.inner.specs.Working.{working}
-use Rattle.references.proofs.Packs.{tables-length, few-tables}
+use Rattle.catalog.proofs.Laws.{tables-length, few-tables}
 use Rattle.limits.proofs.Tables.{goodFrom, tables-here, tables-next, tables-last}
 use Rattle.limits.proofs.tables_good.Statement.{statement}
 use Rattle.limits.proofs.tables_good.Tie as tie

@@ -9,7 +9,7 @@ use Rattle.catalog.proofs.Laws.{few-tables, few-columns}
 use Rattle.model.specs.Limits.{mostTables}
 use Rattle.model.specs.Catalog.{tableCount}
 use Rattle.inner.specs.Working.{tableIn}
-use Rattle.catalog.specs.Entries.{columnCells}
+use Rattle.catalog.specs.Entries.{columnsAt}
 use Rattle.meets.specs.Met.{metFrom, rowMeets}
 use borrow.Author.Needs.{needs}
 use Rattle.meets.proofs.one_meets.Statement.{statement}
@@ -31,7 +31,7 @@ returns c =
     let x = a .schema .now in
     let r = a .row .now in
     let h : tableCount x ≤ tableIn r = omega (arith, c .before .before .before .table-of .ensures, c .before .table-count .ensures, c .if1 .taken) in
-    sym (ap (λ (b : Bool). b && metFrom 0 (columnCells x (tableIn r)) r) (le-ltb (tableIn r) (tableCount x) h))
+    sym (ap (λ (b : Bool). b && metFrom 0 (columnsAt x (tableIn r)) r) (le-ltb (tableIn r) (tableCount x) h))
 
 wide-requires : tie.Need-wide-requires
 wide-requires c κs = search needs
@@ -53,8 +53,8 @@ returns-2 c =
     let r = s .args .row .now in
     let t = c .before .before .wide .ensures ∙ c .before .before .before .before .before .before .table-of .ensures in
     let h : tableIn r < tableCount x = omega (arith, t, c .before .before .wide .ensures, c .before .before .before .before .table-count .ensures, c .before .before .before .if1 .left) in
-    c .row-meets .ensures ∙ ap (λ (l : List (List ℕ)). metFrom 0 l r) (c .before .columns-of .ensures .0 ∙ ap (columnCells x) t)
-    ∙ sym (ap (λ (b : Bool). b && metFrom 0 (columnCells x (tableIn r)) r) (lt-ltb (tableIn r) (tableCount x) h))
+    c .row-meets .ensures ∙ ap (λ (l : List (List ℕ)). metFrom 0 l r) (c .before .columns-of .ensures .0 ∙ ap (columnsAt x) t)
+    ∙ sym (ap (λ (b : Bool). b && metFrom 0 (columnsAt x (tableIn r)) r) (lt-ltb (tableIn r) (tableCount x) h))
 
 pub one-meets-spec : {M : Type 1} → statement M
 one-meets-spec =

@@ -4,7 +4,7 @@ use native.Mathlib.Omega.{arith}
 use borrow.Author.Tests.{not-true, not-false}
 use lib.ListN.{length}
 use Rattle.model.specs.Calls.{noContents, contentsOf}
-use Rattle.mirror.proofs.Opening.{state-bad, state-good}
+use Rattle.mirror.proofs.Opening.{state-bad, state-good, held-ordered}
 use Rattle.mirror.proofs.Asking.{contents-are, ask-bad, ask-good, column-other, column-asked, both-sized}
 use Rattle.mirror.proofs.Numbered.{column-numbered}
 use borrow.Author.Needs.{needs}
@@ -70,7 +70,7 @@ column-requires c κs =
     let e = o .before .before .before in
     let a = e .before .before .before .args in
     let h = o .opened .ensures .held (not-false _ (f .if2 .left)) in
-    (h .accepted, (record { few = omega (arith, h .few, k .row-count .ensures); room = search needs }, both-sized (length (a .out .now)) (length (a .area .now)) (e .if1 .left) .0))
+    (h .accepted, (record { few = omega (arith, h .few, k .row-count .ensures); room = search needs; ordered = held-ordered h (k .row-count .result) (k .row-count .ensures) }, both-sized (length (a .out .now)) (length (a .area .now)) (e .if1 .left) .0))
 
 same-length-3 : tie.Need-same-length-3
 same-length-3 c = search needs

@@ -1,10 +1,9 @@
 -- `mirror::has_row` meets its contract. Assumes nothing.
 use mathlib.Core.Path.{sym, ap, _∙_}
-use native.Mathlib.Omega.{arith}
 use borrow.Author.Tests.{not-true, not-false}
 use Rattle.model.specs.Catalog.{packedTables}
 use Rattle.model.specs.Calls.{noPresence, presenceOf, mirrorHasRow}
-use Rattle.mirror.proofs.Opening.{state-bad, state-good}
+use Rattle.mirror.proofs.Opening.{state-bad, state-good, held-ordered}
 use Rattle.mirror.proofs.Asking.{presenceIn, there-is, ask-other, ask-bad, ask-good}
 use Rattle.mirror.proofs.Numbered.{row-numbered}
 use borrow.Author.Needs.{needs}
@@ -50,7 +49,7 @@ has-row-requires c κs =
     let k = c .before in
     let f = k .before in
     let h = f .before .before .opened .ensures .held (not-false _ (f .if2 .left)) in
-    omega (arith, h .few, k .row-count .ensures)
+    held-ordered h (k .row-count .result) (k .row-count .ensures)
 
 returns-3 : tie.Need-returns-3
 unfolding mirrorHasRow

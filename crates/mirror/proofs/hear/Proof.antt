@@ -2,7 +2,7 @@
 use native.Mathlib.Omega.{arith}
 use borrow.Author.Tests.{not-true, not-false}
 use Rattle.model.proofs.Octets.{octets}
-use Rattle.mirror.proofs.Opening.{state-bad, state-good}
+use Rattle.mirror.proofs.Opening.{state-bad, state-good, held-ordered}
 use Rattle.mirror.proofs.Hearing.{hear-other, hear-bad, hear-got}
 use Rattle.mirror.proofs.Numbered.{hear-numbered}
 use borrow.Author.Needs.{needs}
@@ -47,7 +47,7 @@ step-requires c κs =
     let k = c .before .before .before .before in
     let f = k .before .before .before .before in
     let h = f .before .before .opened .ensures .held (not-false _ (f .if2 .left)) in
-    (h .accepted, record { few = omega (arith, h .few, k .row-count .ensures); room = search needs })
+    (h .accepted, record { few = omega (arith, h .few, k .row-count .ensures); room = search needs; ordered = held-ordered h (k .row-count .result) (k .row-count .ensures) })
 
 slice-aggregate-rewrite : tie.Need-slice-aggregate-rewrite
 slice-aggregate-rewrite c = search needs

@@ -7,7 +7,7 @@ use native.Mathlib.Omega.{arith}
 use borrow.Author.Tests.{eq-eqb, ne-eqb}
 use lib.ListN.{length, drop}
 use Rattle.model.specs.SchemaText.{isVersion, versionFrom}
-use Rattle.names.proofs.Ids.{version-digit, version-dot, version-byte, version-spent, version-unseen, version-end, and-all, and-none}
+use Rattle.names.proofs.Versions.{version-digit, version-dot, version-byte, version-spent, version-unseen, version-end, and-all, and-none}
 use Rattle.names.proofs.is_version.Statement.{statement}
 use Rattle.names.proofs.is_version.Tie as tie
 

@@ -4,9 +4,10 @@ use mathlib.Core.List.{List, []}
 use Prim.Native.Nat.{ℕ}
 use native.Mathlib.Omega.{arith}
 use lib.ListN.{getD}
-use Rattle.model.specs.Catalog.{refersFrom, refersOffset, targetOffset, columnCell}
+use Rattle.model.specs.Catalog.{refersFrom, refersOffset, targetOffset, columnPlace}
 use Rattle.references.specs.Links.{pick, refersAt}
-use Rattle.references.proofs.Packs.{has-columns, few-tables, few-columns}
+use Rattle.catalog.proofs.Laws.{few-tables}
+use Rattle.references.proofs.Packs.{has-columns, few-columns}
 use borrow.Author.Needs.{needs}
 use Rattle.references.proofs.refers.Statement.{statement}
 use Rattle.references.proofs.refers.Tie as tie
@@ -35,7 +36,7 @@ unfolding refersAt
 returns c =
     let s = c .before .before .before .before .before in
     let cells = s .args .schema .now in
-    let e = c .before .before .before .column .ensures ∙ ap (λ (t : ℕ). getD cells (columnCell t (s .args .c)) []) (c .before .before .before .before .wide .ensures) in
+    let e = c .before .before .before .column .ensures ∙ ap (λ (t : ℕ). getD cells (columnPlace t (s .args .c)) []) (c .before .before .before .before .wide .ensures) in
     let k = c .before .before .refers .ensures ∙ ap (λ (x : List ℕ). getD x refersOffset 0) e in
     let t = c .before .target .ensures ∙ ap (λ (x : List ℕ). getD x targetOffset 0) e in
     c .picked .ensures ∙ (λ j. pick (s .args .how) (refersFrom (k j) (t j)))

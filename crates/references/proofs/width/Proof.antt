@@ -3,7 +3,8 @@ use mathlib.Core.Path.{_≡_, sym, ap, _∙_}
 use native.Mathlib.Omega.{arith}
 use lib.ListN.{length, getD}
 use Rattle.model.specs.Catalog.{columnsOffset, tableCount, columnCount}
-use Rattle.references.proofs.Packs.{columns-out, few-tables, width-is}
+use Rattle.catalog.proofs.Laws.{few-tables}
+use Rattle.references.proofs.Packs.{columns-out, width-is}
 use mathlib.Core.List.{[]}
 use Prim.Native.Nat.{ℕ, _+_, _<_}
 use borrow.Author.Needs.{needs}
@@ -56,13 +57,8 @@ module _ (c : tie.After-wide2) where
 
 returns-2 : tie.Need-returns-2
 returns-2 c =
-    let s = start (c .before) in
-    omega (arith, said (c .before), width-is (s .args .schema .now) (s .pre) (s .args .table) (there (c .before)), c .if2 .taken)
-
-returns-3 : tie.Need-returns-3
-returns-3 c =
-    let s = start (c .before) in
-    omega (arith, said (c .before), width-is (s .args .schema .now) (s .pre) (s .args .table) (there (c .before)), c .if2 .left)
+    let s = start c in
+    omega (arith, said c, width-is (s .args .schema .now) (s .pre) (s .args .table) (there c))
 
 pub width-spec : {M : Type 1} → statement M
 width-spec =
@@ -77,5 +73,4 @@ width-spec =
     index-1-width
     width-requires
     wide-requires-2
-    returns-2
-    returns-3)
+    returns-2)

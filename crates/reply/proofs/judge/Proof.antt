@@ -21,7 +21,7 @@ returns : tie.Need-returns
 returns c =
     let a = c .before .before .before .before .before .before .before .before .before in
     let r = c .before .before .before .before .read in
-    asked-bad (a .args .schema .now) (a .args .n) (a .args .before .now) (a .args .request .now) (a .args .fresh .now) (r .last .1 .0) (r .ensures) (not-true _ (c .if1 .taken))
+    asked-bad (a .args .schema .now) (a .args .n) (a .args .rows .now) (a .args .request .now) (a .args .fresh .now) (r .last .1 .0) (r .ensures) (not-true _ (c .if1 .taken))
 
 index-1-name-of : tie.Need-index-1-name-of
 index-1-name-of c = search needs
@@ -39,7 +39,7 @@ returns-2 : tie.Need-returns-2
 returns-2 c =
     let a = c .before .before .before .before .before .before .before .before .before .before .before .before .before in
     let r = c .before .before .before .before .before .before .before .before .read in
-    asked-other (a .args .schema .now) (a .args .n) (a .args .before .now) (a .args .request .now) (a .args .fresh .now) (r .last .1 .0) (r .ensures) (not-false _ (c .before .before .before .before .if1 .left))
+    asked-other (a .args .schema .now) (a .args .n) (a .args .rows .now) (a .args .request .now) (a .args .fresh .now) (r .last .1 .0) (r .ensures) (not-false _ (c .before .before .before .before .if1 .left))
     (ap (λ (w : List ℕ). isWord w (treeAt (a .args .request .now) (r .result .name))) (sym (c .before .before .name-of .ensures)) ∙ sym (c .before .is-word .ensures) ∙ not-true _ (c .if2 .taken))
 
 ids-good-requires : tie.Need-ids-good-requires
@@ -52,7 +52,7 @@ returns-3 : tie.Need-returns-3
 returns-3 c =
     let a = c .before .before .before .before .before .before .before .before .before .before .before .before .before .before .before in
     let r = c .before .before .before .before .before .before .before .before .before .before .read in
-    asked-fresh (a .args .schema .now) (a .args .n) (a .args .before .now) (a .args .request .now) (a .args .fresh .now) (r .last .1 .0) (r .ensures) (not-false _ (c .before .before .before .before .before .before .if1 .left))
+    asked-fresh (a .args .schema .now) (a .args .n) (a .args .rows .now) (a .args .request .now) (a .args .fresh .now) (r .last .1 .0) (r .ensures) (not-false _ (c .before .before .before .before .before .before .if1 .left))
     (ap (λ (w : List ℕ). isWord w (treeAt (a .args .request .now) (r .result .name))) (sym (c .before .before .before .before .name-of .ensures)) ∙ sym (c .before .before .before .is-word .ensures) ∙ not-false _ (c .before .before .if2 .left))
     (sym (c .before .ids-good .ensures (packedTables (a .args .schema .now))) ∙ not-true _ (c .if3 .taken))
 
@@ -63,7 +63,7 @@ returns-4 : tie.Need-returns-4
 returns-4 c =
     let a = c .before .before .before .before .before .before .before .before .before .before .before .before .before .before .before in
     let r = c .before .before .before .before .before .before .before .before .before .before .read in
-    asked-runs (a .args .schema .now) (a .args .n) (a .args .before .now) (a .args .request .now) (a .args .fresh .now) (r .last .1 .0) (r .ensures) (not-false _ (c .before .before .before .before .before .before .if1 .left))
+    asked-runs (a .args .schema .now) (a .args .n) (a .args .rows .now) (a .args .request .now) (a .args .fresh .now) (r .last .1 .0) (r .ensures) (not-false _ (c .before .before .before .before .before .before .if1 .left))
     (ap (λ (w : List ℕ). isWord w (treeAt (a .args .request .now) (r .result .name))) (sym (c .before .before .before .before .name-of .ensures)) ∙ sym (c .before .before .before .is-word .ensures) ∙ not-false _ (c .before .before .if2 .left))
     (sym (c .before .ids-good .ensures (packedTables (a .args .schema .now))) ∙ not-false _ (c .if3 .left)) (a .pre .0)
 

@@ -2,13 +2,16 @@
 use mathlib.Core.Path.{sym, _∙_}
 use native.Mathlib.Omega.{arith}
 use Rattle.model.specs.Catalog.{packedTables}
-use Rattle.reply.proofs.Commits.{ended-commit, ended-stopped}
+use Rattle.model.proofs.Octets.{octets}
+use Rattle.reply.proofs.Commits.{run-ordered, ended-commit, ended-stopped}
 use borrow.Author.Needs.{needs}
 use Rattle.reply.proofs.transact.Statement.{statement}
 use Rattle.reply.proofs.transact.Tie as tie
 
 run-requires : tie.Need-run-requires
-run-requires c κs = search needs
+run-requires c κs =
+    let p = c .before .before .before .before .before .before .pre in
+    (p .0, (p .1 .0, (p .1 .1 .0, p .1 .1 .1 .0)))
 
 is-fine-requires : tie.Need-is-fine-requires
 is-fine-requires c κs = search needs
@@ -18,9 +21,17 @@ is-nothing-requires c κs = search needs
 
 at-commit-requires : tie.Need-at-commit-requires
 at-commit-requires c κs =
-    let a = c .before .before .before .before .before .before .before .before .before .before .before .before .before .before .before in
-    let r = c .before .before .before .before .before .before .before .before .run in
-    (a .pre .1 .0, (omega (arith, r .ensures .few, r .kept .1 .1 .1 .1 .1 .0, a .pre .1 .1 .1 .1), omega (arith, r .ensures .answer .short)))
+    let f = c .before .before .before .before in
+    let r = f .before .before .before .before .run in
+    let k = c .before .before .before .before .before .before .before .before .before .before .before .before in
+    let a = k .before .before .before in (
+      a .pre .1 .0,
+      (
+        run-ordered (a .args .schema .now) (a .pre .1 .0) (a .args .text .now) (a .args .ops) (a .args .fresh .now) (a .pre .1 .1 .0) (a .pre .0 .ids) (octets (a .args .fresh .now) (λ i. k .shared-slice-known3 .given i .fits))
+            (a .args .n) (a .args .rows .now) _ (a .pre .1 .1 .1 .1) (r .ensures) (omega (arith, r .ensures .few, r .kept .1 .1 .1 .1 .1 .0, a .pre .1 .1 .1 .0 .1)) (sym (f .is-fine .ensures) ∙ c .before .before .before .if1 .taken),
+        omega (arith, r .ensures .answer .short),
+      ),
+    )
 
 same-length : tie.Need-same-length
 same-length c = search needs
@@ -45,7 +56,7 @@ same-length-4 c = search needs
 returns-2 : tie.Need-returns-2
 returns-2 c =
     let a = c .before .before .before .before .before .before .before .before .before .before .before .before .before .before .before .before in
-    ended-stopped (packedTables (a .args .schema .now)) (a .args .text .now) (a .args .ops) (a .args .fresh .now) (a .args .n) (a .args .rows .now) (c .before .before .before .before .before .before .before .before .before .run .ensures) (sym (c .before .before .before .before .before .is-fine .ensures) ∙ c .before .before .before .before .if1 .left) (a .pre .1 .1 .1 .0) (c .before .before .put-byte .ensures)
+    ended-stopped (packedTables (a .args .schema .now)) (a .args .text .now) (a .args .ops) (a .args .fresh .now) (a .args .n) (a .args .rows .now) (c .before .before .before .before .before .before .before .before .before .run .ensures) (sym (c .before .before .before .before .before .is-fine .ensures) ∙ c .before .before .before .before .if1 .left) (a .pre .1 .1 .1 .0 .0) (c .before .before .put-byte .ensures)
 
 pub transact-spec : {M : Type 1} → statement M
 transact-spec =

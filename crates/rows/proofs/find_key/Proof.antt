@@ -25,7 +25,7 @@ mul-is-row : tie.Need-mul-is-row Inv-loop μ-loop
 mul-is-row c = omega (arith, c .before .before .before .good)
 
 shared-slice-element-is-row : tie.Need-shared-slice-element-is-row Inv-loop μ-loop
-shared-slice-element-is-row c = omega arith
+shared-slice-element-is-row c = omega (arith, c .before .before .before .pre .0 .there)
 
 is-row-requires : tie.Need-is-row-requires Inv-loop μ-loop
 is-row-requires c κs = search needs
@@ -36,7 +36,7 @@ returns c =
     λ s.
     let a = c .before .before .before .before .before .before .args in
     let l = c .before .before .before .before .loop in
-    sym (l .inv .1 s ∙ place-here s (a .rows .now) (a .n) (c .before .before .before .before .before .before .pre .0) (keyOf (a .table) (value (a .id .now))) (l .i) (omega arith) (sym (c .before .is-row .ensures) ∙ c .if1 .taken))
+    sym (l .inv .1 s ∙ place-here s (a .rows .now) (a .n) (c .before .before .before .before .before .before .pre .0 .there) (keyOf (a .table) (value (a .id .now))) (l .i) (omega arith) (sym (c .before .is-row .ensures) ∙ c .if1 .taken))
 
 add-i : tie.Need-add-i Inv-loop μ-loop
 add-i c = omega arith
@@ -48,7 +48,7 @@ loop-again : tie.Need-loop-again Inv-loop μ-loop
 loop-again c =
     let a = c .before .before .before .before .before .before .args in
     let l = c .before .before .before .before .loop in
-    let h = c .before .before .before .before .before .before .pre .0 in
+    let h = c .before .before .before .before .before .before .pre .0 .there in
     let t = c .before .before .before .loop-test .taken in
     (omega arith, λ s. l .inv .1 s ∙ place-on s (a .rows .now) (a .n) h (keyOf (a .table) (value (a .id .now))) (l .i) t (sym (c .before .is-row .ensures) ∙ c .if1 .left))
 
@@ -58,7 +58,7 @@ returns-2 c =
     λ s.
     let a = c .before .before .before .args in
     let l = c .before .loop in
-    sym (l .inv .1 s ∙ place-end s (a .rows .now) (a .n) (c .before .before .before .pre .0) (keyOf (a .table) (value (a .id .now))) (l .i) (omega arith))
+    sym (l .inv .1 s ∙ place-end s (a .rows .now) (a .n) (c .before .before .before .pre .0 .there) (keyOf (a .table) (value (a .id .now))) (l .i) (omega arith))
 
 pub find-key-spec : {M : Type 1} → statement M
 find-key-spec =

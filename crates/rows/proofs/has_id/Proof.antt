@@ -24,7 +24,7 @@ mul-has-this-id : tie.Need-mul-has-this-id Inv-loop μ-loop
 mul-has-this-id c = omega (arith, c .before .before .good)
 
 shared-slice-element-has-this-id : tie.Need-shared-slice-element-has-this-id Inv-loop μ-loop
-shared-slice-element-has-this-id c = omega arith
+shared-slice-element-has-this-id c = omega (arith, c .before .before .pre .there)
 
 has-this-id-requires : tie.Need-has-this-id-requires Inv-loop μ-loop
 has-this-id-requires c κs = tt
@@ -34,7 +34,7 @@ returns c =
     λ s.
     let a = c .before .before .before .before .before .args in
     let l = c .before .before .before .before .loop in
-    sym (l .inv .1 s ∙ has-id-here s (a .rows .now) (a .n) (c .before .before .before .before .before .pre) (value (a .id .now)) (l .i) (omega arith) (sym (c .before .has-this-id .ensures) ∙ c .if1 .taken))
+    sym (l .inv .1 s ∙ has-id-here s (a .rows .now) (a .n) (c .before .before .before .before .before .pre .there) (value (a .id .now)) (l .i) (omega arith) (sym (c .before .has-this-id .ensures) ∙ c .if1 .taken))
 
 add-i : tie.Need-add-i Inv-loop μ-loop
 add-i c = omega arith
@@ -46,7 +46,7 @@ loop-again : tie.Need-loop-again Inv-loop μ-loop
 loop-again c =
     let a = c .before .before .before .before .before .args in
     let l = c .before .before .before .before .loop in
-    let h = c .before .before .before .before .before .pre in
+    let h = c .before .before .before .before .before .pre .there in
     let t = c .before .before .before .loop-test .taken in
     (omega arith, λ s. l .inv .1 s ∙ has-id-on s (a .rows .now) (a .n) h (value (a .id .now)) (l .i) t (sym (c .before .has-this-id .ensures) ∙ c .if1 .left))
 
@@ -55,7 +55,7 @@ returns-2 c =
     λ s.
     let a = c .before .before .args in
     let l = c .before .loop in
-    sym (l .inv .1 s ∙ has-id-end s (a .rows .now) (a .n) (c .before .before .pre) (value (a .id .now)) (l .i) (omega arith))
+    sym (l .inv .1 s ∙ has-id-end s (a .rows .now) (a .n) (c .before .before .pre .there) (value (a .id .now)) (l .i) (omega arith))
 
 pub has-id-spec : {M : Type 1} → statement M
 has-id-spec =

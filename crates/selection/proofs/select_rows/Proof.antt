@@ -13,7 +13,7 @@ use Rattle.model.specs.Operations.{shows}
 use Rattle.model.specs.Catalog.{columnFrom, packedTables}
 use Rattle.answer.specs.Texts.{joined}
 use Rattle.answer.proofs.Putting.{put-then, put-is}
-use Rattle.catalog.specs.Entries.{columnCells}
+use Rattle.catalog.specs.Entries.{columnsAt}
 use Rattle.conditions.specs.Tests.{testsAt}
 use Rattle.assign.specs.Assigned.{slotted}
 use Rattle.selection.specs.Shown.{Flagged}
@@ -43,7 +43,7 @@ marks-of-requires c κs =
     let s = c .before .before .before .before .before .before .before in
     let a = s .args in
     let k = c .before in
-    let e : k .columns-of .result .now ≡ columnCells (a .schema .now) (a .table) = k .columns-of .ensures .0 ∙ ap (columnCells (a .schema .now)) (k .before .wide .ensures) in
+    let e : k .columns-of .result .now ≡ columnsAt (a .schema .now) (a .table) = k .columns-of .ensures .0 ∙ ap (columnsAt (a .schema .now)) (k .before .wide .ensures) in
     (s .pre .0, (s .pre .1 .0, (k .columns-of .ensures .1, (ap (λ (l : List (List ℕ)). isFine (testsAt (a .text .now) (a .ops) (a .fresh .now) l (a .tests) .fault)) e ∙ s .pre .1 .1 .1 .1 .1 .0, (s .pre .1 .1 .1 .1 .1 .1 .1 .0, s .pre .1 .1 .1 .1 .1 .1 .1 .1)))))
 
 slice-aggregate-put-bytes : tie.Need-slice-aggregate-put-bytes
@@ -81,15 +81,15 @@ returns c =
     let flags = c .before .before .before .before .before .before .before .before .before .before .before .before .before .before .before .before .before .flags-of .result in
     let marks = c .before .before .before .before .before .before .before .before .before .before .before .before .before .before .before .before .marks-of .result in
     let show = shows (slotted (a .text .now) (a .p)) in
-    let here : k .columns-of .result .now ≡ columnCells (a .schema .now) (a .table) = k .columns-of .ensures .0 ∙ ap (columnCells (a .schema .now)) (w .wide .ensures) in
+    let here : k .columns-of .result .now ≡ columnsAt (a .schema .now) (a .table) = k .columns-of .ensures .0 ∙ ap (columnsAt (a .schema .now)) (w .wide .ensures) in
     let four : a .table < 4 = omega (arith, s .pre .1 .1 .1 .1 .0, few-tables _ (s .pre .1 .1 .1 .0)) in
-    let fl : Flagged show (columnCells (a .schema .now) (a .table)) flags = subst (λ (l : List (List ℕ)). Flagged show l flags) here (c .before .before .before .before .before .before .before .before .before .before .before .before .before .before .before .before .before .flags-of .ensures) in
-    let mk : Marked (map columnFrom (columnCells (a .schema .now) (a .table))) (testsAt (a .text .now) (a .ops) (a .fresh .now) (columnCells (a .schema .now) (a .table)) (a .tests) .got) (a .table) (a .n) (a .rows .now) marks =
+    let fl : Flagged show (columnsAt (a .schema .now) (a .table)) flags = subst (λ (l : List (List ℕ)). Flagged show l flags) here (c .before .before .before .before .before .before .before .before .before .before .before .before .before .before .before .before .before .flags-of .ensures) in
+    let mk : Marked (map columnFrom (columnsAt (a .schema .now) (a .table))) (testsAt (a .text .now) (a .ops) (a .fresh .now) (columnsAt (a .schema .now) (a .table)) (a .tests) .got) (a .table) (a .n) (a .rows .now) marks =
     subst (λ (l : List (List ℕ)). Marked (map columnFrom l) (testsAt (a .text .now) (a .ops) (a .fresh .now) l (a .tests) .got) (a .table) (a .n) (a .rows .now) marks) here (c .before .before .before .before .before .before .before .before .before .before .before .before .before .before .before .before .marks-of .ensures) in
     put-is (put-then (c .before .before .before .before .before .before .before .before .before .before .before .before .before .put-bytes .ensures) (put-then (c .before .before .before .before .before .before .before .put-rows .ensures) (c .before .before .put-bytes2 .ensures)))
     (ap (λ (x : ℕ). ascii "{\"rows\":[" ++ (joined true (pickedFrom (a .schema .now) x flags (length (k .columns-of .result .now)) marks (a .rows .now) 0 (a .n)) ++ ascii "]}")) (w .wide .ensures)
     ∙ ap (λ (l : List (List ℕ)). ascii "{\"rows\":[" ++ (joined true (pickedFrom (a .schema .now) (a .table) flags (length l) marks (a .rows .now) 0 (a .n)) ++ ascii "]}")) here
-    ∙ answer-is (a .schema .now) (a .table) (s .pre .1 .1 .1 .0 .size) (few-columns _ (s .pre .1 .1 .1 .0) (a .table) four) four (s .pre .1 .1 .1 .1 .0) show flags marks (a .rows .now) (a .n) (s .pre .1 .1 .1 .1 .1 .1 .1 .1) (testsAt (a .text .now) (a .ops) (a .fresh .now) (columnCells (a .schema .now) (a .table)) (a .tests) .got) fl mk)
+    ∙ answer-is (a .schema .now) (a .table) (s .pre .1 .1 .1 .0 .size) (few-columns _ (s .pre .1 .1 .1 .0) (a .table) four) four (s .pre .1 .1 .1 .1 .0) show flags marks (a .rows .now) (a .n) (s .pre .1 .1 .1 .1 .1 .1 .1 .1) (testsAt (a .text .now) (a .ops) (a .fresh .now) (columnsAt (a .schema .now) (a .table)) (a .tests) .got) fl mk)
     (omega arith)
 
 pub select-rows-spec : {M : Type 1} → statement M

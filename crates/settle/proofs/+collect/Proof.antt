@@ -80,7 +80,7 @@ collect-returns : (t : ℕ) → collect-lts.Need-returns (
 collect-returns t c =
     let s = c .before .before .before .before in
     let sc = packedTables (s .args .schema .now) in
-    collected-stop sc (s .args .n) (s .args .rows .now) (subst (λ (f : Found). LooseAt sc (working sc (s .args .n) (s .args .rows .now)) f) (c .enum-told .given .1) (c .before .before .first-loose .ensures))
+    collected-stop sc (s .args .n) (s .args .rows .now) (s .pre .1 .1) (subst (λ (f : Found). LooseAt sc (working sc (s .args .n) (s .args .rows .now)) f) (c .enum-told .given .1) (c .before .before .first-loose .ensures))
 
 -- the row that was found: it is one of the rows
 module _ (t : ℕ) (c : collect-lts.After-found (
@@ -104,7 +104,7 @@ module _ (t : ℕ) (c : collect-lts.After-found (
   found-at = subst (λ (f : Found). LooseAt schema (working schema (start .args .n) (start .args .rows .now)) f) (c .found .given .1) (c .before .before .first-loose .ensures)
 
   within : spot < start .args .n
-  within = loose-within schema (start .args .n) (start .args .rows .now) spot found-at (start .pre .1 .1)
+  within = loose-within schema (start .args .n) (start .args .rows .now) (start .pre .1 .1) spot found-at
 
 collect-remove-at-requires : (t : ℕ) → collect-lts.Need-remove-at-requires (
   first-loose-reads.Asked,
@@ -114,7 +114,7 @@ collect-remove-at-requires : (t : ℕ) → collect-lts.Need-remove-at-requires (
   collect-below t,
   collect.Post,
 ) (collect-at t) collect.Post
-collect-remove-at-requires t c κs = (within t (c .before .before), c .before .before .before .before .before .before .pre .1 .1)
+collect-remove-at-requires t c κs = (within t (c .before .before), c .before .before .before .before .before .before .pre .1 .1 .there)
 
 collect-sub-collect : (t : ℕ) → collect-lts.Need-sub-collect (
   first-loose-reads.Asked,
@@ -136,7 +136,7 @@ collect-collect-requires : (t : ℕ) → collect-lts.Need-collect-requires (
 ) (collect-at t) collect.Post
 collect-collect-requires t c κs =
     let k = c .before .before .before .before .before in
-    (omega (arith, within t k, start t k .pre .0), (start t k .pre .1 .0, omega (arith, c .before .before .remove-at .kept .0, start t k .pre .1 .1)))
+    (omega (arith, within t k, start t k .pre .0), (start t k .pre .1 .0, c .before .before .remove-at .ensures .ordered (start t k .pre .1 .1)))
 
 collect-same-length-2 : (t : ℕ) → collect-lts.Need-same-length-2 (
   first-loose-reads.Asked,
@@ -158,7 +158,7 @@ collect-returns-2 : (t : ℕ) → collect-lts.Need-returns-2 (
 ) (collect-at t) collect.Post
 collect-returns-2 t c =
     let k = c .before .before .before .before .before .before .before in
-    collected-on (schema t k) (start t k .args .n) (start t k .args .rows .now) (spot t k) (found-at t k) (c .before .collect .result) (c .before .before .before .before .remove-at .last .0) (c .before .collect .last .1 .0)
+    collected-on (schema t k) (start t k .args .n) (start t k .args .rows .now) (start t k .pre .1 .1) (spot t k) (found-at t k) (c .before .collect .result) (c .before .before .before .before .remove-at .last .0) (c .before .collect .last .1 .0)
     (omega (arith, within t k)) (c .before .before .before .before .remove-at .ensures) (c .before .collect .ensures)
 
 pub +collect-spec : {M : Type 1} → statement M

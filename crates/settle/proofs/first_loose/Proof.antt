@@ -1,12 +1,11 @@
 -- `settle::first_loose` meets its contract. Assumes nothing.
 use mathlib.Core.Path.{_≡_, refl, sym, _∙_}
-use mathlib.Core.List.{[]}
 use Prim.Native.Nat.{_-_, _≤_}
 use native.Mathlib.Omega.{arith}
-use lib.ListN.{drop, getD}
+use lib.ListN.{drop}
 use Rattle.model.specs.Commit.{firstLoose}
 use Rattle.model.specs.Catalog.{packedTables}
-use Rattle.inner.specs.Working.{working, keyIn}
+use Rattle.inner.specs.Working.{working}
 use Rattle.settle.proofs.Loosely.{loose-on, loose-here, loose-end, loose-found, loose-nothing}
 use Rattle.settle.proofs.first_loose.Statement.{statement}
 use Rattle.settle.proofs.first_loose.Tie as tie
@@ -24,28 +23,20 @@ mul-is-loose : tie.Need-mul-is-loose Inv-loop μ-loop
 mul-is-loose c = omega (arith, c .before .before .good)
 
 shared-slice-element-is-loose : tie.Need-shared-slice-element-is-loose Inv-loop μ-loop
-shared-slice-element-is-loose c = omega (arith, c .before .before .pre .1)
+shared-slice-element-is-loose c = omega (arith, c .before .before .pre .1 .there)
 
 is-loose-requires : tie.Need-is-loose-requires Inv-loop μ-loop
-is-loose-requires c κs = c .before .before .before .pre
-
-mul-find-row : tie.Need-mul-find-row Inv-loop μ-loop
-mul-find-row c = omega (arith, c .before .before .before .before .before .good)
-
-shared-slice-element-find-row : tie.Need-shared-slice-element-find-row Inv-loop μ-loop
-shared-slice-element-find-row c = omega (arith, c .before .before .before .before .before .pre .1)
-
-find-row-requires : tie.Need-find-row-requires Inv-loop μ-loop
-find-row-requires c κs = c .before .before .before .before .before .before .pre .1
+is-loose-requires c κs =
+    let p = c .before .before .before .pre in
+    (p .0, p .1 .there)
 
 returns : tie.Need-returns Inv-loop μ-loop
 returns c =
-    let s = c .before .before .before .before .before .before .before in
-    let l = c .before .before .before .before .before .before .loop in
+    let s = c .before .before .before .before .before in
+    let l = c .before .before .before .before .loop in
     let sc = packedTables (s .args .schema .now) in
-    loose-found sc (working sc (s .args .n) (s .args .rows .now)) (keyIn (getD (s .args .rows .now) (l .i) [])) (c .find-row .result)
-    (l .inv .1 ∙ loose-here sc (s .args .rows .now) (s .args .n) (s .pre .1) (l .i) (c .before .before .before .before .before .loop-test .taken) (sym (c .before .before .before .is-loose .ensures) ∙ c .before .before .if1 .taken))
-    (c .find-row .ensures sc)
+    loose-found sc (s .args .n) (s .args .rows .now) (s .pre .1) (l .i) (c .before .before .before .loop-test .taken)
+    (l .inv .1 ∙ loose-here sc (s .args .rows .now) (s .args .n) (s .pre .1 .there) (l .i) (c .before .before .before .loop-test .taken) (sym (c .before .is-loose .ensures) ∙ c .if1 .taken))
 
 add-i : tie.Need-add-i Inv-loop μ-loop
 add-i c = omega arith
@@ -58,14 +49,14 @@ loop-again c =
     let s = c .before .before .before .before .before in
     let l = c .before .before .before .before .loop in
     let sc = packedTables (s .args .schema .now) in
-    (omega arith, l .inv .1 ∙ loose-on sc (s .args .rows .now) (s .args .n) (s .pre .1) (l .i) (c .before .before .before .loop-test .taken) (sym (c .before .is-loose .ensures) ∙ c .if1 .left))
+    (omega arith, l .inv .1 ∙ loose-on sc (s .args .rows .now) (s .args .n) (s .pre .1 .there) (l .i) (c .before .before .before .loop-test .taken) (sym (c .before .is-loose .ensures) ∙ c .if1 .left))
 
 returns-2 : tie.Need-returns-2 Inv-loop μ-loop
 returns-2 c =
     let s = c .before .before in
     let l = c .before .loop in
     let sc = packedTables (s .args .schema .now) in
-    loose-nothing sc (working sc (s .args .n) (s .args .rows .now)) (l .inv .1 ∙ loose-end sc (s .args .rows .now) (s .args .n) (s .pre .1) (l .i) (c .loop-test .left))
+    loose-nothing sc (working sc (s .args .n) (s .args .rows .now)) (l .inv .1 ∙ loose-end sc (s .args .rows .now) (s .args .n) (s .pre .1 .there) (l .i) (c .loop-test .left))
 
 pub first-loose-spec : {M : Type 1} → statement M
 first-loose-spec =
@@ -77,9 +68,6 @@ first-loose-spec =
     mul-is-loose
     shared-slice-element-is-loose
     is-loose-requires
-    mul-find-row
-    shared-slice-element-find-row
-    find-row-requires
     returns
     add-i
     loop-less

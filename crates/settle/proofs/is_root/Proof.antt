@@ -4,7 +4,7 @@ use mathlib.Core.Bool.{not}
 use Prim.Native.Nat.{_<_}
 use native.Mathlib.Omega.{arith}
 use Rattle.model.specs.Catalog.{tableCount}
-use Rattle.references.proofs.Packs.{few-tables}
+use Rattle.catalog.proofs.Laws.{few-tables}
 use Rattle.settle.proofs.Roots.{rootSaid, is-root-past, is-root-says, is-root-none}
 use borrow.Author.Needs.{needs}
 use Rattle.settle.proofs.is_root.Statement.{statement}

@@ -7,7 +7,7 @@ use borrow.Author.Needs.{needs}
 use Rattle.model.specs.Limits.{mostTables}
 use Rattle.model.specs.Base.{any}
 use Rattle.model.specs.Catalog.{tablesFrom, packedTables, tableCount}
-use Rattle.references.proofs.Packs.{few-tables}
+use Rattle.catalog.proofs.Laws.{few-tables}
 use Rattle.settle.proofs.Roots.{saysRoot, root-here, root-on, root-end}
 use Rattle.settle.proofs.some_root.Statement.{statement}
 use Rattle.settle.proofs.some_root.Tie as tie

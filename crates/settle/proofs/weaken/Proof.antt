@@ -3,7 +3,7 @@ use Prim.Native.Nat.{_-_, _≤_}
 use native.Mathlib.Omega.{arith}
 use lib.ListN.{length}
 use Rattle.model.specs.Catalog.{packedTables}
-use Rattle.settle.proofs.Partly.{Going, going-none, going-on, going-end}
+use Rattle.settle.proofs.Partly.{Going, going-none, going-on, going-ordered, going-end}
 use Rattle.settle.proofs.weaken.Statement.{statement}
 use Rattle.settle.proofs.weaken.Tie as tie
 
@@ -17,27 +17,28 @@ loop-holds : tie.Need-loop-holds Inv-loop μ-loop
 loop-holds c = (omega arith, λ h. going-none (packedTables (c .args .schema .now)) (c .args .n) (c .args .rows .now) h)
 
 mul-row : tie.Need-mul-row Inv-loop μ-loop
-mul-row c = omega (arith, c .before .before .good, c .before .before .pre .1)
+mul-row c = omega (arith, c .before .before .good, c .before .before .pre .1 .there)
 
 slice-copy-out-row : tie.Need-slice-copy-out-row Inv-loop μ-loop
-slice-copy-out-row c = omega (arith, c .before .loop .inv .1 (c .before .before .pre .1) .size, c .before .before .pre .1)
+slice-copy-out-row c = omega (arith, c .before .loop .inv .1 (c .before .before .pre .1 .there) .size, c .before .before .pre .1 .there)
 
 weaken-row-requires : tie.Need-weaken-row-requires Inv-loop μ-loop
 weaken-row-requires c κs =
     let s = c .before .before .before .before .before in
-    (s .pre .0, omega (arith, c .before .before .before .before .loop .inv .1 (s .pre .1) .size, s .pre .1))
+    let l = c .before .before .before .before .loop in
+    (s .pre .0, going-ordered (packedTables (s .args .schema .now)) (s .args .n) (s .args .rows .now) (s .pre .1 .there) (l .i) (l .rows) (l .inv .1 (s .pre .1 .there)) (s .pre .1))
 
 mul-t7 : tie.Need-mul-t7 Inv-loop μ-loop
 mul-t7 c =
     let s = c .before .before .before .before .before .before in
     let l = c .before .before .before .before .before .loop in
-    omega (arith, c .before .before .before .before .loop-test .taken, s .good, s .pre .1)
+    omega (arith, c .before .before .before .before .loop-test .taken, s .good, s .pre .1 .there)
 
 slice-set-from-rows : tie.Need-slice-set-from-rows Inv-loop μ-loop
 slice-set-from-rows c =
     let s = c .before .before .before .before .before .before in
     let l = c .before .before .before .before .before .loop in
-    omega (arith, l .inv .1 (s .pre .1) .size, c .before .before .before .before .loop-test .taken, s .pre .1)
+    omega (arith, l .inv .1 (s .pre .1 .there) .size, c .before .before .before .before .loop-test .taken, s .pre .1 .there)
 
 add-i : tie.Need-add-i Inv-loop μ-loop
 add-i c = omega arith
@@ -52,13 +53,13 @@ loop-again c =
     (omega (arith, c .before .before .before .before .loop-test .taken), λ h. going-on (packedTables (s .args .schema .now)) (s .args .n) (s .args .rows .now) h (l .i) (l .rows) (c .weaken-row .last .0) (c .before .before .before .before .loop-test .taken) (l .inv .1 h) (c .weaken-row .ensures))
 
 same-length : tie.Need-same-length Inv-loop μ-loop
-same-length c = c .before .loop .inv .1 (c .before .before .pre .1) .size
+same-length c = c .before .loop .inv .1 (c .before .before .pre .1 .there) .size
 
 returns : tie.Need-returns Inv-loop μ-loop
 returns c =
     let s = c .before .before in
     let l = c .before .loop in
-    going-end (packedTables (s .args .schema .now)) (s .args .n) (s .args .rows .now) (s .pre .1) (l .i) (l .rows) (c .loop-test .left) (l .inv .1 (s .pre .1))
+    going-end (packedTables (s .args .schema .now)) (s .args .n) (s .args .rows .now) (s .pre .1 .there) (l .i) (l .rows) (c .loop-test .left) (l .inv .1 (s .pre .1 .there)) (s .pre .1)
 
 pub weaken-spec : {M : Type 1} → statement M
 weaken-spec =

@@ -5,7 +5,7 @@ use native.Mathlib.Omega.{arith}
 use borrow.Author.Tests.{ne-eqb}
 use Rattle.inner.specs.Positions.{treeAt}
 use Rattle.model.specs.Members.{membersIn}
-use Rattle.model.specs.Catalog.{cellName}
+use Rattle.model.specs.Catalog.{entryName}
 use Rattle.indexes.proofs.Numbers.{fits-short}
 use Rattle.tables.proofs.Shapes.{indexes-none, indexes-bad, indexes-put}
 use Rattle.tables.proofs.indexes_in.Statement.{statement}
@@ -15,7 +15,7 @@ returns : tie.Need-returns
 returns c =
     let st = c .before .before .before in
     let s = st .args .text .now in
-    indexes-none s (membersIn (treeAt s (st .args .q))) (map cellName (st .args .columns .now)) (st .args .cell .now) (c .if1 .taken)
+    indexes-none s (membersIn (treeAt s (st .args .q))) (map entryName (st .args .columns .now)) (st .args .cell .now) (c .if1 .taken)
 
 fits-requires : tie.Need-fits-requires
 fits-requires c κs =
@@ -39,7 +39,7 @@ returns-2 c =
     let e = f .before in
     let st = e .before .before .before in
     let s = st .args .text .now in
-    indexes-put s (membersIn (treeAt s (st .args .q))) (map cellName (st .args .columns .now)) (st .args .cell .now) (e .if1 .left) (f .fits2 .ensures) (t .if2 .taken) (c .put .ensures)
+    indexes-put s (membersIn (treeAt s (st .args .q))) (map entryName (st .args .columns .now)) (st .args .cell .now) (e .if1 .left) (f .fits2 .ensures) (t .if2 .taken) (c .put .ensures)
 
 returns-3 : tie.Need-returns-3
 returns-3 c =
@@ -47,7 +47,7 @@ returns-3 c =
     let e = f .before in
     let st = e .before .before .before in
     let s = st .args .text .now in
-    indexes-bad s (membersIn (treeAt s (st .args .q))) (map cellName (st .args .columns .now)) (st .args .cell .now) (e .if1 .left) (f .fits2 .ensures) (c .if2 .left)
+    indexes-bad s (membersIn (treeAt s (st .args .q))) (map entryName (st .args .columns .now)) (st .args .cell .now) (e .if1 .left) (f .fits2 .ensures) (c .if2 .left)
 
 pub indexes-in-spec : {M : Type 1} → statement M
 indexes-in-spec = tie.close (tie.spec returns fits-requires put-requires returns-2 returns-3)

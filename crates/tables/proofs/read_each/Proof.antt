@@ -5,7 +5,7 @@ use mathlib.Core.List.{List, [], map}
 use lib.ListN.{length, getD, set, drop, length-drop}
 use borrow.Rule.Slice.PartMut.{same-len-mid}
 use Rattle.inner.specs.Positions.{treeAt}
-use Rattle.model.specs.Catalog.{cellName}
+use Rattle.model.specs.Catalog.{entryName}
 use Rattle.tables.specs.Tables.{TableRead, EachRead}
 use Prim.Native.Nat.{ℕ, _+_, _*_, _-_}
 use native.Mathlib.Omega.{arith}
@@ -178,7 +178,7 @@ loop-again c =
     let r = rt .read-table .result in
     let ys = rt .read-table .last .1 .1 .1 .1 .1 .0 in
     let v = mv .member-value .result in
-    let tr = subst (λ (x : List (List ℕ)). TableRead (map cellName heads) (cellName (getD heads (l .loop .i - 1) [])) (treeAt s v) r x ys) (mid-rest first cells) (rt .read-table .ensures) in
+    let tr = subst (λ (x : List (List ℕ)). TableRead (map entryName heads) (entryName (getD heads (l .loop .i - 1) [])) (treeAt s v) r x ys) (mid-rest first cells) (rt .read-table .ensures) in
     let long : length ys ≡ length (drop first cells) = rt .read-table .kept .1 .1 .1 .1 .1 .0 ∙ ap length (mid-rest first cells) in
     subst (λ (x : List (List ℕ)). Sofar s places heads before (set x (1 + (l .loop .i - 1)) (r .cell)) (l .loop .i - 1)) (sym (put-rest first cells ys)) (each-more s places heads before (st .pre .1 .0) (l .loop .inv) (il .loop-test .taken) (mv .member-value .ensures) tr long (c .before .if1 .taken))
 
@@ -207,7 +207,7 @@ returns c =
     let r = rt .read-table .result in
     let ys = rt .read-table .last .1 .1 .1 .1 .1 .0 in
     let v = mv .member-value .result in
-    let tr = subst (λ (x : List (List ℕ)). TableRead (map cellName heads) (cellName (getD heads (l .loop .i - 1) [])) (treeAt s v) r x ys) (mid-rest first cells) (rt .read-table .ensures) in
+    let tr = subst (λ (x : List (List ℕ)). TableRead (map entryName heads) (entryName (getD heads (l .loop .i - 1) [])) (treeAt s v) r x ys) (mid-rest first cells) (rt .read-table .ensures) in
     subst (λ (x : List (List ℕ)). EachRead s places heads false before x) (sym (put-rest first cells ys)) (each-bad s places heads before (st .pre .1 .0) (l .loop .inv) (il .loop-test .taken) (mv .member-value .ensures) tr (c .if1 .left))
 
 same-length-2 : tie.Need-same-length-2 Inv-loop μ-loop

@@ -10,7 +10,7 @@ use Rattle.model.specs.Members.{membersIn}
 use Rattle.model.specs.SchemaText.{sizeOr}
 use Rattle.tables.specs.Tables.{restTold, IndexesIn}
 use native.Mathlib.Omega.{arith}
-use Rattle.model.specs.Catalog.{cellName}
+use Rattle.model.specs.Catalog.{entryName}
 use Rattle.inner.specs.Positions.{treeAt}
 use Rattle.fields.specs.Fields.{wordsFrom, wordsOf}
 use Rattle.tables.proofs.Shapes.{table-none, columns-well, columns-named, table-read}
@@ -48,7 +48,7 @@ returns c =
     let f = ci .before .before in
     let st = f .before .before .before .before in
     let s = st .args .text .now in
-    table-none s (map cellName (st .args .tables .now)) (treeAt s (st .args .at)) (f .fields .result) (f .fields .ensures) (ci .columns-in .ensures) (c .if1 .taken) _ _
+    table-none s (map entryName (st .args .tables .now)) (treeAt s (st .args .at)) (f .fields .result) (f .fields .ensures) (ci .columns-in .ensures) (c .if1 .taken) _ _
 
 array-read-whole-in : tie.Need-array-read-whole-in
 array-read-whole-in c = search needs
@@ -114,7 +114,7 @@ indexes-in-requires c κs =
     let f = ci .before .before in
     let st = f .before .before .before .before in
     let s = st .args .text .now in
-    let ns = map cellName (st .args .tables .now) in
+    let ns = map entryName (st .args .tables .now) in
     let j = treeAt s (st .args .at) in
     let k = ci .columns-in .kept .1 .1 .1 .1 .0 in
     let l = e .if1 .left in
@@ -138,12 +138,12 @@ returns-2 c =
     let f = ci .before .before in
     let st = f .before .before .before .before in
     let s = st .args .text .now in
-    let ns = map cellName (st .args .tables .now) in
+    let ns = map entryName (st .args .tables .now) in
     let j = treeAt s (st .args .at) in
     let fs = f .fields .result in
     let name = st .args .name in
     let n = ci .columns-in .result in
-    let ix = subst (λ (x : List ℕ). IndexesIn s (getD fs 3 0) (membersIn (treeAt s (getD fs 0 0))) (map cellName (take n (ci .columns-in .last .1 .1 .1 .1 .0))) (c .indexes-in .result) x (c .indexes-in .last .1 .1 .1 .1 .1 .0)) (ph .put-head .ensures) (c .indexes-in .ensures) in
+    let ix = subst (λ (x : List ℕ). IndexesIn s (getD fs 3 0) (membersIn (treeAt s (getD fs 0 0))) (map entryName (take n (ci .columns-in .last .1 .1 .1 .1 .0))) (c .indexes-in .result) x (c .indexes-in .last .1 .1 .1 .1 .1 .0)) (ph .put-head .ensures) (c .indexes-in .ensures) in
     table-read s ns j fs (f .fields .ensures) (ci .columns-in .ensures) (e .if1 .left) name (st .pre .1 .1 .0) (ti .truth-in .result) (not (eqb (getD fs 1 0) 0)) (so .size-or .result) (ti .truth-in .ensures) refl (so .size-or .ensures ∙ ap (sizeOr 0) (wi .whole-in .ensures)) (rf .rest-fits .ensures ∙ ap (restTold s fs) (wi .whole-in .ensures)) ix
 
 pub read-table-spec : {M : Type 1} → statement M

@@ -1,11 +1,11 @@
 -- `transact::transact` meets its contract. Assumes nothing.
-use mathlib.Core.Path.{refl, sym, _∙_}
+use mathlib.Core.Path.{sym, _∙_}
 use Prim.Native.Nat.{_≤_}
 use native.Mathlib.Omega.{arith}
 use lib.ListN.{length}
 use borrow.Author.Needs.{needs}
 use borrow.Author.Tests.{not-true, not-false}
-use Rattle.transact.proofs.Laws.{lengths, transact-length, transact-disordered, transact-stays, transact-commits}
+use Rattle.transact.proofs.Laws.{lengths, read-as, sound-as, transact-length, transact-disordered, transact-stays, transact-commits}
 use Rattle.transact.proofs.transact.Statement.{statement}
 use Rattle.transact.proofs.transact.Tie as tie
 
@@ -74,15 +74,13 @@ row-count-requires c κs =
 slice-aggregate-reply : tie.Need-slice-aggregate-reply
 slice-aggregate-reply c = search needs
 
-slice-aggregate-reply-2 : tie.Need-slice-aggregate-reply-2
-slice-aggregate-reply-2 c = search needs
-
 reply-requires : tie.Need-reply-requires
 reply-requires c κs =
     let a = c .before .before .before .before .before .before .before .before .before .before .before .before .before .before .before .before .before .before .before .before .before .before .before .before .before .before .before .args in
     let l = lengths (a .area .now) (a .fresh .now) (a .records .now) (a .answer .now) (sym (c .before .before .before .before .before .before .before .before .before .before .before .before .before .before .before .before .before .before .lengths-good .ensures) ∙ not-false _ (c .before .before .before .before .before .before .before .before .before .before .before .before .before .before .before .before .before .if1 .left)) in
     let k = c .before .before .before .before .before .before .before .before .before .before .before .before .before .held .ensures .good (not-false _ (c .before .before .before .before .before .before .before .before .before .before .before .if2 .left)) in
-    (k .accepted, ((omega (arith, k .few, c .before .before .before .before .before .row-count .ensures), search needs, search needs), (refl, (l .1, l .2))))
+    let n = c .before .before .before .before .before .row-count in
+    (k .accepted, ((omega (arith, l .0), omega (arith, k .few, n .ensures), search needs), (read-as k (n .result) (n .ensures), (sound-as k (n .result) (n .ensures), (l .1, l .2)))))
 
 cast-next : tie.Need-cast-next
 cast-next c = omega (arith, c .before .before .before .before .before .before .before .reply .ensures .last)
@@ -164,7 +162,6 @@ transact-spec =
     number-of-requires
     row-count-requires
     slice-aggregate-reply
-    slice-aggregate-reply-2
     reply-requires
     cast-next
     add-next

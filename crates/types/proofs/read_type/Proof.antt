@@ -1,5 +1,5 @@
 use mathlib.Core.List.{map}
-use Rattle.model.specs.Catalog.{cellName}
+use Rattle.model.specs.Catalog.{entryName}
 use mathlib.Core.Path.{refl}
 use native.Mathlib.Omega.{arith}
 use Rattle.fields.specs.Fields.{wordsFrom, wordsOf}
@@ -70,7 +70,7 @@ returns c =
     let st = fo .before .before .before .before in
     rw
     (tf .type-fits .ensures, so .size-or .ensures, c .max-in .ensures, l .whole-in .ensures, m .whole-in2 .ensures)
-    (type-read (st .args .text .now) (map cellName (st .args .tables .now)) _ (fo .fields-or .result) (fo .fields-or .ensures) (ki .key-in .result) (ki .key-in .ensures))
+    (type-read (st .args .text .now) (map entryName (st .args .tables .now)) _ (fo .fields-or .result) (fo .fields-or .ensures) (ki .key-in .result) (ki .key-in .ensures))
 
 pub read-type-spec : {M : Type 1} → statement M
 read-type-spec =

@@ -2,7 +2,7 @@
 use Rattle.names.specs.Names.{nameCell}
 use mathlib.Core.Path.{sym, ap, _∙_}
 use borrow.Author.Tests.{eq-eqb, ne-eqb}
-use Rattle.catalog.specs.Entries.{cellNamed}
+use Rattle.catalog.specs.Entries.{entryNamed}
 use Rattle.model.specs.Value.{textOf}
 use Rattle.types.specs.Types.{tableIn}
 use Rattle.fields.proofs.Slotted.{at-some}
@@ -31,7 +31,7 @@ returns-2 c =
     let n = c .before .before .before .name-at .ensures ∙ ap nameCell (sym (at-some (st .args .text .now) (e .if1 .left))) in
     rw
     (tableIn, ne-eqb (st .args .p) 0 (e .if1 .left))
-    (c .named .ensures ∙ ap (cellNamed (st .args .tables .now)) (c .before .text-of .ensures ∙ ap textOf n))
+    (c .named .ensures ∙ ap (entryNamed (st .args .tables .now)) (c .before .text-of .ensures ∙ ap textOf n))
 
 pub table-in-spec : {M : Type 1} → statement M
 table-in-spec =

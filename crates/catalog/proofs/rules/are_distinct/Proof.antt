@@ -6,13 +6,13 @@ use native.Mathlib.Omega.{arith}
 use borrow.Author.Needs.{needs}
 use lib.ListN.{length, drop}
 use Rattle.model.specs.Base.{distinct}
-use Rattle.model.specs.Catalog.{cellName}
+use Rattle.model.specs.Catalog.{entryName}
 use Rattle.catalog.proofs.Distinct.{among-rest, distinct-not, distinct-next, distinct-end}
 use Rattle.catalog.proofs.rules.are_distinct.Statement.{statement}
 use Rattle.catalog.proofs.rules.are_distinct.Tie as tie
 
 abbrev Inv-loop : tie.InvT-loop
-Inv-loop entries i₀ i = (i ≤ length entries) × (distinct (map cellName entries) ≡ distinct (map cellName (drop i entries)))
+Inv-loop entries i₀ i = (i ≤ length entries) × (distinct (map entryName entries) ≡ distinct (map entryName (drop i entries)))
 
 abbrev μ-loop : tie.MeasureT-loop
 μ-loop entries i₀ i = length entries - i

@@ -6,7 +6,7 @@ use native.Mathlib.Omega.{arith}
 use borrow.Author.Needs.{needs}
 use lib.ListN.{getD, take, drop}
 use Rattle.model.specs.Base.{distinct}
-use Rattle.model.specs.Catalog.{cellName, tableCount}
+use Rattle.model.specs.Catalog.{entryName, tableCount}
 use Rattle.catalog.specs.Judging.{tablesFine}
 use Rattle.catalog.proofs.Tables.{few-database, fine-next, fine-not, fine-end, judged-database, judged-tables, judged-names}
 use Rattle.catalog.proofs.Judged.{accepted-is}
@@ -95,7 +95,7 @@ returns-2 c =
     let e = d .before .before in
     let x = e .before .args .catalog .now in
     let q : 1 + w .wide .result - 1 ≡ tableCount x = omega (arith, w .wide .ensures) in
-    c .are-distinct .ensures ∙ ap (λ (k : ℕ). distinct (map cellName (take k (drop 1 x)))) q
+    c .are-distinct .ensures ∙ ap (λ (k : ℕ). distinct (map entryName (take k (drop 1 x)))) q
     ∙ sym (judged-names x (sym (d .is-database .ensures) ∙ l .before .before .if1 .taken) (l .loop .inv .2 ∙ fine-end (tableCount x) x (l .loop .t) (w .before .loop-test .left)))
     ∙ accepted-is x (e .entries .given .0)
 

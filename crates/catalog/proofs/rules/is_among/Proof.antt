@@ -7,13 +7,13 @@ use borrow.Author.Needs.{needs}
 use lib.ListN.{length, drop}
 use Rattle.model.specs.Octets.{eqBytes}
 use Rattle.model.specs.Base.{member}
-use Rattle.model.specs.Catalog.{cellName}
+use Rattle.model.specs.Catalog.{entryName}
 use Rattle.catalog.proofs.Distinct.{among-here, among-next, among-end}
 use Rattle.catalog.proofs.rules.is_among.Statement.{statement}
 use Rattle.catalog.proofs.rules.is_among.Tie as tie
 
 abbrev Inv-loop : tie.InvT-loop
-Inv-loop name entries i₀ i = (i ≤ length entries) × (member name (map cellName entries) ≡ member name (map cellName (drop i entries)))
+Inv-loop name entries i₀ i = (i ≤ length entries) × (member name (map entryName entries) ≡ member name (map entryName (drop i entries)))
 
 abbrev μ-loop : tie.MeasureT-loop
 μ-loop name entries i₀ i = length entries - i

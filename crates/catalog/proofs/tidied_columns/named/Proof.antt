@@ -2,7 +2,7 @@
 use mathlib.Core.Path.{_≡_, ap}
 use native.Mathlib.Omega.{arith}
 use lib.ListN.{length}
-use Rattle.model.specs.Catalog.{cellName}
+use Rattle.model.specs.Catalog.{entryName}
 use Rattle.catalog.proofs.Renewed.{name-fits, name-made}
 use borrow.Author.Needs.{needs}
 use Rattle.catalog.proofs.tidied_columns.named.Statement.{statement}
@@ -34,7 +34,7 @@ put-bytes-requires : tie.Need-put-bytes-requires
 put-bytes-requires c κs =
     let s = c .before .before .before in
     let e = s .before .args .e .now in
-    let n : length (c .name-of .result .now) ≡ length (cellName e) = ap length (c .name-of .ensures) in
+    let n : length (c .name-of .result .now) ≡ length (entryName e) = ap length (c .name-of .ensures) in
     omega (arith, n, name-fits e (s .t .given .0) (s .before .pre))
 
 returns : tie.Need-returns

@@ -1,17 +1,16 @@
--- Ids and versions, byte by byte. Assumes nothing.
+-- Versions, byte by byte. Assumes nothing.
 use mathlib.Core.Path.{_≡_, refl, sym, ap, _∙_}
 use mathlib.Core.List.{List, [], _∷_}
 use mathlib.Core.Bool.{Bool, true, false, _&&_}
 use Prim.Native.Nat.{ℕ, zero, suc, _+_, _-_, _<_, _≤_}
 use native.Mathlib.Numerals.{add-one}
 use native.Mathlib.Omega.{arith}
-use borrow.Author.Tests.{le-leb, lt-leb, eq-eqb, ne-eqb}
+use borrow.Author.Tests.{le-leb, eq-eqb, ne-eqb}
 use lib.Dec.{eqb, leb}
 use lib.ListN.{length, getD, drop, drop-of-length-le}
 use lib.Seq.{drop-cons}
-use Rattle.model.specs.Base.{all}
 use Rattle.model.specs.Scan.{isDigit}
-use Rattle.model.specs.SchemaText.{isLetter, isIdByte, isId, versionFrom}
+use Rattle.model.specs.SchemaText.{versionFrom}
 
 pub and-none : (b : Bool) → (b && false) ≡ false
 and-none true = refl
@@ -25,16 +24,6 @@ module _ (t : List ℕ) (i : ℕ) where
   -- one more element, at the code's next index
   next : i < length t → drop i t ≡ getD t i 0 ∷ drop (i + 1) t
   next h = drop-cons t i 0 h ∙ ap (λ (k : ℕ). getD t i 0 ∷ drop k t) (sym (add-one i))
-
-  module _ (p : ℕ → Bool) where
-    pub all-here : i < length t → p (getD t i 0) ≡ true → all p (drop i t) ≡ all p (drop (i + 1) t)
-    all-here h e = rw (next h, e)
-
-    pub all-not : i < length t → p (getD t i 0) ≡ false → all p (drop i t) ≡ false
-    all-not h e = rw (next h, e)
-
-    pub all-end : length t ≤ i → all p (drop i t) ≡ true
-    all-end h = rw (drop-of-length-le t h)
 
   module _ (d : ℕ) (s : Bool) where
     pub version-digit : i < length t → isDigit (getD t i 0) ≡ true → versionFrom d s (drop i t) ≡ versionFrom d true (drop (i + 1) t)
@@ -73,24 +62,3 @@ module _ (t : List ℕ) (i : ℕ) where
     pub version-end : length t ≤ i → versionFrom d s (drop i t) ≡ (s && eqb d 0)
     unfolding versionFrom
     version-end h = rw (drop-of-length-le t h)
-
--- an id's first byte
-pub id-none : (t : List ℕ) → length t ≡ 0 → isId t ≡ false
-unfolding isId
-id-none [] h = refl
-id-none (b ∷ bs) h = absurd (omega arith)
-
-pub id-long : (t : List ℕ) → 24 < length t → isId t ≡ false
-unfolding isId
-id-long [] h = absurd (omega arith)
-id-long (b ∷ bs) h = rw (lt-leb (suc (length bs)) 24 h) (and-none (isLetter b && all isIdByte bs))
-
-pub id-other : (t : List ℕ) → isLetter (getD t 0 0) ≡ false → 0 < length t → isId t ≡ false
-unfolding isId
-id-other [] e h = absurd (omega arith)
-id-other (b ∷ bs) e h = rw e
-
-pub id-rest : (t : List ℕ) → isLetter (getD t 0 0) ≡ true → 0 < length t → length t ≤ 24 → isId t ≡ all isIdByte (drop 1 t)
-unfolding isId
-id-rest [] e h l = absurd (omega arith)
-id-rest (b ∷ bs) e h l = rw (e, le-leb (suc (length bs)) 24 l) (and-all (all isIdByte bs))
