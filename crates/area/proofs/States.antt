@@ -276,10 +276,6 @@ module _ (a : List ℕ) where
   unfolding storeOf
   store-refused h = state-none encodeStore decodeStore storeGood a (λ e g. clash (isAccepted (entriesIn a)) (encoded-accepted [] (store-fits g) (append-nil (encodeStore (decodeStore a)) ∙ e)) h)
 
-  pub mirror-other : (length a ≡ mirrorBytes → ⊥) → mirrorOf a ≡ none
-  unfolding mirrorOf decodeMirror
-  mirror-other h = state-none encodeMirror decodeMirror mirrorGood a (λ e g. h (ap length (sym e) ∙ mirror-length (decodeMirror a) (mirror-fits g)))
-
   pub store-other : (length a ≡ storeBytes → ⊥) → storeOf a ≡ none
   unfolding storeOf
   store-other h = state-none encodeStore decodeStore storeGood a (λ e g. h (ap length (sym e) ∙ store-of-length (encodeStore (decodeStore a)) (decodeStore a) (store-of-encode (decodeStore a) g)))

@@ -50,9 +50,6 @@ module _ (s : Schema) (cells : List (List (List ℕ))) (n : ℕ) (h : n ≤ leng
   abbrev rest : ℕ → List Row
   rest k = drop k (working s n cells)
 
-  pub ascends-first : ascends (working s n cells) ≡ ascends (rest 0)
-  ascends-first = refl
-
   ascends-two : i + 1 < n → ascends (rest i) ≡ (ltb (keyIn (getD cells i [])) (keyIn (getD cells (i + 1) [])) && ascends (rest (i + 1)))
   ascends-two l =
       let e = working-on s cells n h (i + 1) l in

@@ -72,13 +72,6 @@ module _ (s : Schema) (before : List Row) (rows : List (List (List ℕ))) (n : �
   pub walk-end : n ≤ i → walk s before (drop i (working s n rows)) ≡ []
   walk-end l = rw (working-end s rows n h i l)
 
--- room for a row more
-pub row-more : (each i : ℕ) → each * i + each ≡ each * (i + 1)
-row-more each i = sym (mul-suc each i) ∙ ap (λ (k : ℕ). each * k) (sym (add-one i))
-
-pub row-room : (each i n : ℕ) → i < n → each * i + each ≤ each * n
-row-room each i n h = rw (row-more each i) (mul-le-mul-left each (omega arith))
-
 -- ── the columns that a row has before and after ──
 module _ (skip : Value → Value → Bool) (t i c : ℕ) where
   no-old : (ws : List Value) → writes skip t i c [] ws ≡ []

@@ -74,9 +74,6 @@ module _ (run number : ℕ) where
       ∙ sym (put-append (w .bytes) (w .at) b (flat (map encode (numberFrom run (suc (number + w .count)) es))))
 
 -- ── a writer after another ──
-pub recorded-none : (run number : ℕ) (c : Cursor) (b : List ℕ) → c .count ≤ c .at → Recorded run number [] 0 c b c b
-recorded-none run number c b h = record { all = refl; short = omega arith; few = h }
-
 pub recorded-is : {run number : ℕ} {es fs : List Change} {m : ℕ} {c r : Cursor} {b a : List ℕ} → Recorded run number es m c b r a → es ≡ fs → (n : ℕ) → m ≤ n → Recorded run number fs n c b r a
 recorded-is {run} {number} {c} {b} p e n h = record { all = p .all ∙ ap (λ (l : List Change). puts run number l (written c b)) e; short = omega (arith, p .short); few = p .few }
 

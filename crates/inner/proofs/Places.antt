@@ -79,10 +79,6 @@ pub add-slot : (r : Row) (rows : List Row) → add r rows ≡ inserted (slot (ke
 add-slot r [] = refl
 add-slot r (x ∷ rows) = split (ltb (key r) (key x)) (λ e. rw (e, slot)) (λ e. rw (e, slot) (ap (λ (l : List Row). x ∷ l) (add-slot r rows)))
 
-pub slot-within : (k : ℕ) (rows : List Row) → slot k rows ≤ length rows
-slot-within k [] = omega arith
-slot-within k (r ∷ rows) = split (ltb k (key r)) (λ e. rw (e, slot) (omega arith)) (λ e. rw (e, slot) (omega (arith, slot-within k rows)))
-
 -- ── the same in cells ──
 module _ {A B : Type 0} (f : A → B) where
   pub map-take : (n : ℕ) (l : List A) → map f (take n l) ≡ take n (map f l)

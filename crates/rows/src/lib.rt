@@ -179,14 +179,6 @@ pub fn has_row(rows: &[Row], n: usize, table: u8, id: &[u8; ID]) -> bool
     has_key(rows, n, table, &id[..])
 }
 
-// The place of the first row that has the table and id of this one.
-pub fn find_row(rows: &[Row], n: usize, row: &Row) -> Found
-    requires { ⌜ Ordered n (now rows) ⌝ }
-    ensures { λ r. ⌜ ((s : Schema) → r ≡ place (keyIn (now (row .entry))) (working s n (now (rows .entry)))) ⌝ }
-{
-    find_key(rows, n, table_of(row), id_of(row))
-}
-
 // Whether a row of any table has an id.
 pub fn has_id(rows: &[Row], n: usize, id: &[u8; ID]) -> bool
     requires { ⌜ Ordered n (now rows) ⌝ }
