@@ -1,5 +1,5 @@
 #!/usr/bin/env python3
-"""Writes crates/arrivals/stdin and crates/arrivals/stdout: calls on a mirror, and what each must answer.
+"""Writes crates/arrivals_main/stdin and crates/arrivals_main/stdout: calls on a mirror, and what each must answer.
 
     tools/arrivals.py HISTORIES          write both files
     tools/arrivals.py --show HISTORIES   print the calls and the answers
@@ -149,7 +149,7 @@ def main():
         for c, a in table:
             print(c.hex(), a)
         return
-    top = os.path.join(os.path.dirname(os.path.abspath(__file__)), "..", "crates", "arrivals")
+    top = os.path.join(os.path.dirname(os.path.abspath(__file__)), "..", "crates", "arrivals_main")
     with open(os.path.join(top, "stdin"), "wb") as f:
         for c, _ in table:
             f.write(len(c).to_bytes(2, "big") + c)

@@ -1,5 +1,5 @@
 #!/usr/bin/env python3
-"""Writes crates/readings/stdin and crates/readings/stdout: calls on a store, and what each must answer and write.
+"""Writes crates/readings_main/stdin and crates/readings_main/stdout: calls on a store, and what each must answer and write.
 
     tools/readings.py HISTORIES          write both files
     tools/readings.py --show HISTORIES   print each call, the requests as text, and its results
@@ -291,7 +291,7 @@ def main():
             text = raw(more.split()[0]).decode("utf-8", "backslashreplace") if re.match("start|transact", word) else more
             print(word, text, "\n   ", a)
         return
-    top = os.path.join(os.path.dirname(os.path.abspath(__file__)), "..", "crates", "readings")
+    top = os.path.join(os.path.dirname(os.path.abspath(__file__)), "..", "crates", "readings_main")
     for name, k in (("stdin", 0), ("stdout", 1)):
         with open(os.path.join(top, name), "w") as out:
             out.writelines(pair[k] + "\n" for pair in table)

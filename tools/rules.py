@@ -2,7 +2,7 @@
 """docs/RULES.md in Python, rule by rule. It shares no code with the crates; the tables of some programs come from it.
 
     tools/rules.py check [HISTORIES]   run histories (tests/host/histories.txt.gz, or another file, packed or not) and compare every result
-    tools/rules.py replay              write crates/replay/stdout from crates/replay/data and args
+    tools/rules.py replay_main         write crates/replay_main/stdout from crates/replay_main/data and args
     tools/rules.py record_main         write crates/record_main/stdout
 
 A store or a mirror is an object here and not an area; `store_bytes` and `mirror_bytes` make its area, `store_of` and `mirror_of` judge one. The numbers in
@@ -982,9 +982,9 @@ WORDS = {
 }
 
 
-def replay():
-    """What the program `replay` prints: fresh ids are counted from 1 on, 16 to a request; the display hears the first request's records alone, both hear the mark."""
-    top = os.path.join(TOP, "crates", "replay")
+def replay_main():
+    """What the program `replay_main` prints: fresh ids are counted from 1 on, 16 to a request; the display hears the first commit's records alone, both hear the mark."""
+    top = os.path.join(TOP, "crates", "replay_main")
     args = open(os.path.join(top, "args")).read().split("\n")
     schema = open(os.path.join(top, "data", args[0]), "rb").read()
     run = int(args[1])
@@ -995,12 +995,13 @@ def replay():
             continue
         fresh = b"".join((16 * k + i + 1).to_bytes(16, "big") for i in range(16))
         refusal, answer, records = store.transact(line, fresh, 26249, 65536)
-        out.append("request " + line.decode())
+        out.append("request " + line.decode(errors="surrogateescape"))
+        first = display.n == 0
         out.append(WORDS[refusal] if refusal else "answer " + answer.decode())
         for x in pieces(records):
             out.append("record " + x.hex())
             whole.hear(x)
-            if k == 0:
+            if first:
                 display.hear(x)
     mark = store.mark(9)[1]
     out.append("mark " + mark.hex())
@@ -1026,9 +1027,9 @@ def main():
     word = sys.argv[1] if len(sys.argv) > 1 else ""
     if word == "check":
         sys.exit(0 if check(sys.argv[2] if len(sys.argv) > 2 else os.path.join(TOP, "tests/host/histories.txt.gz")) else 1)
-    if word not in ("replay", "record_main"):
+    if word not in ("replay_main", "record_main"):
         sys.exit(__doc__)
-    with open(os.path.join(TOP, "crates", word, "stdout"), "w") as out:
+    with open(os.path.join(TOP, "crates", word, "stdout"), "w", errors="surrogateescape") as out:
         out.write(globals()[word]())
 
 

@@ -1,5 +1,5 @@
 #!/usr/bin/env python3
-"""Writes crates/schemas/stdin and crates/schemas/stdout: schemas, and what reading each must give.
+"""Writes crates/schemas_main/stdin and crates/schemas_main/stdout: schemas, and what reading each must give.
 
     tools/schemas.py                     write both files
     tools/schemas.py --check             compare both files with what would be written, and say which differ
@@ -12,7 +12,7 @@ that shares no code with this repository. The other 35 are written here, one for
 
 What must come of a schema is worked out from docs/RULES.md (sections L, T and S; tools/rules.py reads a schema, by Python's own json and not by this
 repository's reader) and the cells of crates/model/specs/Packed.antt. stdin has each schema after its length in two bytes; stdout is what the program
-`schemas` has to print: a line for the database, each table and each column, with its number, its name and the bytes of its cell after the name, or "refused".
+`schemas_main` has to print: a line for the database, each table and each column, with its number, its name and the bytes of its cell after the name, or "refused".
 """
 import gzip
 import os
@@ -159,13 +159,13 @@ def main():
     files = {"stdin": b"".join(len(t).to_bytes(2, "big") + t for t in texts), "stdout": "".join(results).encode()}
     same = True
     for name, content in files.items():
-        path = os.path.join(TOP, "crates", "schemas", name)
+        path = os.path.join(TOP, "crates", "schemas_main", name)
         if "--check" not in sys.argv:
             with open(path, "wb") as out:
                 out.write(content)
         elif open(path, "rb").read() != content:
             same = False
-            print("crates/schemas/%s differs" % name)
+            print("crates/schemas_main/%s differs" % name)
     if "--check" in sys.argv:
         print("%d schemas, %s" % (len(texts), "the same" if same else "not the same"))
         sys.exit(0 if same else 1)

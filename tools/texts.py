@@ -1,5 +1,5 @@
 #!/usr/bin/env python3
-"""Writes crates/texts/stdin and crates/texts/stdout: texts, and what reading each must give.
+"""Writes crates/texts_main/stdin and crates/texts_main/stdout: texts, and what reading each must give.
 
     tools/texts.py          write both files
     tools/texts.py --show   print the table
@@ -160,7 +160,7 @@ def main():
         for b in table:
             print(repr(b[:60]), "->", answer(b)[:100])
         return
-    root = os.path.join(os.path.dirname(os.path.abspath(__file__)), "..", "crates", "texts")
+    root = os.path.join(os.path.dirname(os.path.abspath(__file__)), "..", "crates", "texts_main")
     with open(os.path.join(root, "stdin"), "wb") as f:
         for b in table:
             f.write(len(b).to_bytes(2, "big") + b)

@@ -1,5 +1,5 @@
 -- What a slot stands for: arrays, objects and names. Assumes nothing.
-use mathlib.Core.Path.{_≡_, refl, sym, ap, _∙_}
+use mathlib.Core.Path.{_≡_, refl, sym, ap, subst, _∙_}
 use mathlib.Core.Bool.{Bool, true, false, not}
 use mathlib.Core.List.{List, [], map}
 use mathlib.Core.Option.{Option, none, some}
@@ -17,6 +17,7 @@ use Rattle.inner.specs.Positions.{treeAt, wellAt, firstOf, itemsFrom, itemsFine
 use Rattle.model.specs.Nav.{kindOf, isArray, isObject, isText, itemsIn}
 use Rattle.model.specs.Members.{membersIn, memberValue}
 use Rattle.inner.specs.Positions as Text
+use Rattle.model.specs.Schema.{Column}
 use Rattle.model.specs.Value.{Value, textOf}
 use Rattle.model.specs.Faults.{isFine, check, Judged}
 use Rattle.model.specs.SchemaText.{isId}
@@ -30,14 +31,14 @@ use Rattle.model.proofs.Atoms.{textOf-textAtom}
 use Rattle.nav.proofs.FirstByte.{items-in}
 use Rattle.names.specs.Names.{nameCell, shortCell}
 use Rattle.catalog.proofs.Ids.{id-none, id-long}
-use Rattle.fields.specs.Fields.{slotTree, Slots}
-use Rattle.fields.proofs.Kept.{slot-some}
-use Rattle.uuids.specs.Named.{namesAt, operationsAt, placeNamed}
+use Rattle.members.specs.Fields.{slotTree, Slots}
+use Rattle.members.proofs.Kept.{slot-some}
+use Rattle.uuids.specs.Named.{namesAt, placeIn}
 use Rattle.uuids.proofs.Decoded.{no-string}
 use Rattle.uuids.proofs.Names.{some-string}
-use Rattle.conditions.specs.Tests.{testsAt}
+use Rattle.conditions.specs.Tests.{testsAt, TestsTold}
 use Rattle.mutations.specs.Mutating.{mutationsAt}
-use Rattle.assign.specs.Assigned.{slotted, absentBy, namedBy, writtenRow}
+use Rattle.request_rows.specs.Assigned.{slotted, absentBy, namedBy, writtenRow, RowRead}
 use Rattle.clauses.specs.Clauses.{SlotFine, arraySlot, objectSlot, whereAt, mutationsIn, rowAt, foundBefore, Earlier, takenFault}
 
 -- ── the member of a word ──
@@ -163,83 +164,85 @@ module _ (s : List ℕ) (p : ℕ) where
       (λ e. ap (λ (o : Option Json). elim o [ none ↦ none | some j ↦ objectIn j ]) (slotted-some s p e) ∙ object-none (treeAt s p) (ap (λ (j : Json). isObject (kindOf j)) (sym (slot-some s p e)) ∙ a))
 
 -- ── "where", "mutations", "row" ──
-module _ (s : List ℕ) (ops : Found) (fresh : List ℕ) (columns : List (List ℕ)) (p : ℕ) where
+module _ (s : List ℕ) (names : List ℕ) (columns : List (List ℕ)) (p : ℕ) where
   abbrev testsOr : Option (List Json) → Judged (List Test)
-  testsOr o = elim o [ none ↦ record { fault = Syntax; got = [] } | some l ↦ readTests (namesAt s ops fresh) (map columnFrom columns) l ]
+  testsOr o = elim o [ none ↦ record { fault = Syntax; got = [] } | some l ↦ readTests (namesAt s names) (map columnFrom columns) l ]
 
   abbrev mutationsOr : Option (List Json) → Judged (List Mutation)
-  mutationsOr o = elim o [ none ↦ record { fault = Syntax; got = [] } | some l ↦ readMutations (namesAt s ops fresh) (map columnFrom columns) l ]
+  mutationsOr o = elim o [ none ↦ record { fault = Syntax; got = [] } | some l ↦ readMutations (namesAt s names) (map columnFrom columns) l ]
 
   abbrev rowOr : Bool → Option (List Named) → Judged (List (Option Value))
-  rowOr insert o = elim o [ none ↦ record { fault = Syntax; got = [] } | some ms ↦ rowOf (namesAt s ops fresh) (absentBy insert) (namedBy insert) (map columnFrom columns) ms ]
+  rowOr insert o = elim o [ none ↦ record { fault = Syntax; got = [] } | some ms ↦ rowOf (namesAt s names) (absentBy insert) (namedBy insert) (map columnFrom columns) ms ]
 
   module _ (fine : SlotFine s p) (a : isArray (kindOf (slotTree s p)) ≡ true) where
-    pub where-is : whereAt s ops fresh columns p ≡ testsAt s ops fresh columns (firstOf s 91 93 p)
+    pub where-is : whereAt s names columns p ≡ testsAt s names columns (firstOf s 91 93 p)
     unfolding whereAt testsAt
     where-is = ap testsOr (array-here s p fine a)
 
-    pub mutations-are : mutationsIn s ops fresh columns p ≡ mutationsAt s ops fresh columns (firstOf s 91 93 p)
+    pub mutations-are : mutationsIn s names columns p ≡ mutationsAt s names columns (firstOf s 91 93 p)
     unfolding mutationsIn mutationsAt
     mutations-are = ap mutationsOr (array-here s p fine a)
 
-  pub where-not : isArray (kindOf (slotTree s p)) ≡ false → whereAt s ops fresh columns p .fault ≡ Syntax
+  pub where-not : isArray (kindOf (slotTree s p)) ≡ false → whereAt s names columns p .fault ≡ Syntax
   unfolding whereAt
   where-not a = ap (λ (o : Option (List Json)). testsOr o .fault) (array-gone s p a)
 
-  pub mutations-not : isArray (kindOf (slotTree s p)) ≡ false → mutationsIn s ops fresh columns p .fault ≡ Syntax
+  pub mutations-not : isArray (kindOf (slotTree s p)) ≡ false → mutationsIn s names columns p .fault ≡ Syntax
   unfolding mutationsIn
   mutations-not a = ap (λ (o : Option (List Json)). mutationsOr o .fault) (array-gone s p a)
 
-  pub row-is : (insert : Bool) → SlotFine s p → isObject (kindOf (slotTree s p)) ≡ true → rowAt insert s ops fresh columns p ≡ writtenRow insert s ops fresh columns p
+  pub row-is : (insert : Bool) → SlotFine s p → isObject (kindOf (slotTree s p)) ≡ true → rowAt insert s names columns p ≡ writtenRow insert s names columns p
   unfolding rowAt writtenRow
   row-is insert fine a = ap (rowOr insert) (object-here s p fine a)
 
-  pub row-not : (insert : Bool) → isObject (kindOf (slotTree s p)) ≡ false → rowAt insert s ops fresh columns p .fault ≡ Syntax
+  pub row-not : (insert : Bool) → isObject (kindOf (slotTree s p)) ≡ false → rowAt insert s names columns p .fault ≡ Syntax
   unfolding rowAt
   row-not insert a = ap (λ (o : Option (List Named)). rowOr insert o .fault) (object-gone s p a)
 
   -- where they are fine they are there
   module _ (fine : SlotFine s p) where
-    pub record Listed (f : Found) : Type 0 where
-      pub items : itemsFine s f ≡ true
-      pub tests : whereAt s ops fresh columns p ≡ testsAt s ops fresh columns f
-
-    pub where-fine : isFine (whereAt s ops fresh columns p .fault) ≡ true → Listed (firstOf s 91 93 p)
-    where-fine g =
-        split
-        (isArray (kindOf (slotTree s p)))
-        (λ a. record { items = array-fine s p fine a; tests = where-is fine a })
-        (λ a. absurd (clash (isFine (whereAt s ops fresh columns p .fault)) g (ap isFine (where-not a))))
-
-    pub mutations-fine : isFine (mutationsIn s ops fresh columns p .fault) ≡ true
-        → (itemsFine s (firstOf s 91 93 p) ≡ true) × (mutationsIn s ops fresh columns p ≡ mutationsAt s ops fresh columns (firstOf s 91 93 p))
+    pub mutations-fine : isFine (mutationsIn s names columns p .fault) ≡ true
+        → (itemsFine s (firstOf s 91 93 p) ≡ true) × (mutationsIn s names columns p ≡ mutationsAt s names columns (firstOf s 91 93 p))
     mutations-fine g =
         split
         (isArray (kindOf (slotTree s p)))
         (λ a. (array-fine s p fine a, mutations-are fine a))
-        (λ a. absurd (clash (isFine (mutationsIn s ops fresh columns p .fault)) g (ap isFine (mutations-not a))))
+        (λ a. absurd (clash (isFine (mutationsIn s names columns p .fault)) g (ap isFine (mutations-not a))))
 
-    pub row-fine : (insert : Bool) → isFine (rowAt insert s ops fresh columns p .fault) ≡ true
-        → (wellAt s p ≡ true) × (rowAt insert s ops fresh columns p ≡ writtenRow insert s ops fresh columns p)
+    pub row-fine : (insert : Bool) → isFine (rowAt insert s names columns p .fault) ≡ true
+        → (wellAt s p ≡ true) × (rowAt insert s names columns p ≡ writtenRow insert s names columns p)
     row-fine insert g =
         split
         (isObject (kindOf (slotTree s p)))
         (λ a. (object-well s p fine a, row-is insert fine a))
-        (λ a. absurd (clash (isFine (rowAt insert s ops fresh columns p .fault)) g (ap isFine (row-not insert a))))
+        (λ a. absurd (clash (isFine (rowAt insert s names columns p .fault)) g (ap isFine (row-not insert a))))
+
+-- what conditions and a row come to, said of what they are
+pub told-as : {cs : List Column} {t u : Judged (List Test)} {r : Fault} {rows : List (List (List ℕ))} {before after : List Bool} → t ≡ u → TestsTold cs t r rows before after → TestsTold cs u r rows before after
+told-as {cs} {r = r} {rows = rows} {before = before} {after = after} e k = subst (λ (t : Judged (List Test)). TestsTold cs t r rows before after) e k
+
+pub told-missing : {cs : List Column} {u : Judged (List Test)} {rows : List (List (List ℕ))} {before after : List Bool} → u .fault ≡ Syntax → TestsTold cs u Syntax rows before after
+told-missing {u = u} e = record { fault = sym e; marks = λ h. absurd (clash (isFine (u .fault)) h (ap isFine e)) }
+
+pub row-as : {w u : Judged (List (Option Value))} {r : Fault} {entry exit : List (List ℕ)} {given : List Bool} → w ≡ u → RowRead w r entry exit given → RowRead u r entry exit given
+row-as {r = r} {entry = entry} {exit = exit} {given = given} e k = subst (λ (w : Judged (List (Option Value))). RowRead w r entry exit given) e k
+
+pub row-missing : {u : Judged (List (Option Value))} {entry exit : List (List ℕ)} {given : List Bool} → u .fault ≡ Syntax → RowRead u Syntax entry exit given
+row-missing {u = u} e = record { fault = sym e; assigned = λ h. absurd (clash (isFine (u .fault)) h (ap isFine e)); template = λ h. absurd (clash (isFine (u .fault)) h (ap isFine e)) }
 
 -- ── the model's readings of members, by slots ──
-module _ (s : List ℕ) (ops : Found) (fresh : List ℕ) (columns : List (List ℕ)) (ms : List Named) (p : ℕ) where
-  pub where-by : memberNamed (ascii "where") ms ≡ slotted s p → readWhere (namesAt s ops fresh) (map columnFrom columns) ms ≡ whereAt s ops fresh columns p
+module _ (s : List ℕ) (names : List ℕ) (columns : List (List ℕ)) (ms : List Named) (p : ℕ) where
+  pub where-by : memberNamed (ascii "where") ms ≡ slotted s p → readWhere (namesAt s names) (map columnFrom columns) ms ≡ whereAt s names columns p
   unfolding whereAt
-  where-by e = ap (λ (o : Option Json). testsOr s ops fresh columns p (elim o [ none ↦ none | some j ↦ arrayIn j ])) e
+  where-by e = ap (λ (o : Option Json). testsOr s names columns p (elim o [ none ↦ none | some j ↦ arrayIn j ])) e
 
-  pub mutations-by : memberNamed (ascii "mutations") ms ≡ slotted s p → readMutationList (namesAt s ops fresh) (map columnFrom columns) ms ≡ mutationsIn s ops fresh columns p
+  pub mutations-by : memberNamed (ascii "mutations") ms ≡ slotted s p → readMutationList (namesAt s names) (map columnFrom columns) ms ≡ mutationsIn s names columns p
   unfolding mutationsIn
-  mutations-by e = ap (λ (o : Option Json). mutationsOr s ops fresh columns p (elim o [ none ↦ none | some j ↦ arrayIn j ])) e
+  mutations-by e = ap (λ (o : Option Json). mutationsOr s names columns p (elim o [ none ↦ none | some j ↦ arrayIn j ])) e
 
-  pub row-by : (insert : Bool) → memberNamed (ascii "row") ms ≡ slotted s p → readRow (namesAt s ops fresh) (absentBy insert) (namedBy insert) (map columnFrom columns) ms ≡ rowAt insert s ops fresh columns p
+  pub row-by : (insert : Bool) → memberNamed (ascii "row") ms ≡ slotted s p → readRow (namesAt s names) (absentBy insert) (namedBy insert) (map columnFrom columns) ms ≡ rowAt insert s names columns p
   unfolding rowAt
-  row-by insert e = ap (λ (o : Option Json). rowOr s ops fresh columns p insert (elim o [ none ↦ none | some j ↦ objectIn j ])) e
+  row-by insert e = ap (λ (o : Option Json). rowOr s names columns p insert (elim o [ none ↦ none | some j ↦ objectIn j ])) e
 
 -- ── uuid-names ──
 -- a name by its cell
@@ -251,34 +254,26 @@ cell-id t =
     (λ e. rw (shortCell, e) (ap isId (textOf-textAtom t)))
     (λ e. rw (shortCell, e) (id-none [] refl ∙ sym (id-long t (leb-false (length t) 24 e))))
 
-cell-short : (t : List ℕ) → isId (textOf (shortCell t)) ≡ true → textOf (shortCell t) ≡ t
-unfolding shortCell
-cell-short t h =
-    split
-    (leb (length t) 24)
-    (λ e. rw (shortCell, e) (textOf-textAtom t))
-    (λ e. absurd (clash (isId t) (sym (cell-id t) ∙ h) (id-long t (leb-false (length t) 24 e))))
-
-module _ (s : List ℕ) (ops : Found) (i : ℕ) where
-  module _ (w : List ℕ) {f : Found} (e : f ≡ placeNamed 0 w (operationsAt s ops)) where
-    taken-by : {b : Bool} → foundBefore i f ≡ b → takenFault s ops i w ≡ check (not b) Duplicate Fine
+module _ (s names : List ℕ) (i : ℕ) where
+  module _ (w : List ℕ) {f : Found} (e : f ≡ placeIn s names w) where
+    taken-by : {b : Bool} → foundBefore i f ≡ b → takenFault s names i w ≡ check (not b) Duplicate Fine
     unfolding takenFault
     taken-by q = ap (λ (b : Bool). check (not b) Duplicate Fine) (ap (foundBefore i) (sym e) ∙ q)
 
-    pub taken-before : {k : ℕ} → f ≡ At k → k < i → Duplicate ≡ takenFault s ops i w
+    pub taken-before : {k : ℕ} → f ≡ At k → k < i → Duplicate ≡ takenFault s names i w
     unfolding foundBefore
     taken-before {k} g h = sym (taken-by (ap (foundBefore i) g ∙ lt-ltb k i h))
 
-    pub taken-later : {k : ℕ} → f ≡ At k → i ≤ k → Fine ≡ takenFault s ops i w
+    pub taken-later : {k : ℕ} → f ≡ At k → i ≤ k → Fine ≡ takenFault s names i w
     unfolding foundBefore
     taken-later {k} g h = sym (taken-by (ap (foundBefore i) g ∙ le-ltb k i h))
 
-    pub taken-never : f ≡ Nothing → Fine ≡ takenFault s ops i w
+    pub taken-never : f ≡ Nothing → Fine ≡ takenFault s names i w
     unfolding foundBefore
     taken-never g = sym (taken-by (ap (foundBefore i) g))
 
-  module _ (given : List (List ℕ)) (before : Earlier s ops i given) where
-    taken-is : (w : List ℕ) → takenFault s ops i w ≡ check (not (member w given)) Duplicate Fine
+  module _ (given : List (List ℕ)) (before : Earlier s names i given) where
+    taken-is : (w : List ℕ) → takenFault s names i w ≡ check (not (member w given)) Duplicate Fine
     unfolding takenFault Earlier
     taken-is w = ap (λ (b : Bool). check (not b) Duplicate Fine) (sym (before w))
 
@@ -310,11 +305,8 @@ module _ (s : List ℕ) (ops : Found) (i : ℕ) where
           pub name-bad : isId w ≡ false → Syntax ≡ nameFault given (slotted s p)
           name-bad n = sym (name-by (some-string j t) ∙ ap (λ (b : Bool). check b Syntax (check (not (member v given)) Duplicate Fine)) (sym same-id ∙ n))
 
-          pub name-good : isId w ≡ true → {r : Fault} → r ≡ takenFault s ops i w → r ≡ nameFault given (slotted s p)
-          unfolding nameCell
+          pub name-good : isId w ≡ true → {r : Fault} → r ≡ takenFault s names i v → r ≡ nameFault given (slotted s p)
           name-good n {r} g =
-              let same : w ≡ v = q ∙ cell-short v (sym (ap isId q) ∙ n) in
               g
-              ∙ ap (takenFault s ops i) same
               ∙ taken-is v
               ∙ sym (name-by (some-string j t) ∙ ap (λ (b : Bool). check b Syntax (check (not (member v given)) Duplicate Fine)) (sym same-id ∙ n))

@@ -19,8 +19,8 @@ use Rattle.model.specs.Conditions.{Test, readTests}
 use Rattle.model.specs.Mutations.{Mutation, readMutations}
 use Rattle.model.specs.Operations.{rowOf}
 use Rattle.model.specs.Catalog.{columnFrom}
-use Rattle.uuids.specs.Named.{namesAt, operationsAt, placeNamed}
-use Rattle.assign.specs.Assigned.{slotted, absentBy, namedBy}
+use Rattle.uuids.specs.Named.{namesAt, placeIn}
+use Rattle.request_rows.specs.Assigned.{slotted, absentBy, namedBy}
 
 -- a slot stands for nothing, or for a value that can be read
 unfoldable pub SlotFine : List ℕ → ℕ → Type 0
@@ -34,19 +34,19 @@ abbrev pub objectSlot : List ℕ → ℕ → Option (List Named)
 objectSlot s p = elim (slotted s p) [ none ↦ none | some j ↦ objectIn j ]
 
 -- "where", "mutations" and "row" of a slot: a syntax error where it is missing or mistyped
-unfoldable pub whereAt : List ℕ → Found → List ℕ → List (List ℕ) → ℕ → Judged (List Test)
-whereAt s ops fresh columns p =
-    elim (arraySlot s p) [ none ↦ record { fault = Syntax; got = [] } | some l ↦ readTests (namesAt s ops fresh) (map columnFrom columns) l ]
+unfoldable pub whereAt : List ℕ → List ℕ → List (List ℕ) → ℕ → Judged (List Test)
+whereAt s names columns p =
+    elim (arraySlot s p) [ none ↦ record { fault = Syntax; got = [] } | some l ↦ readTests (namesAt s names) (map columnFrom columns) l ]
 
-unfoldable pub mutationsIn : List ℕ → Found → List ℕ → List (List ℕ) → ℕ → Judged (List Mutation)
-mutationsIn s ops fresh columns p =
-    elim (arraySlot s p) [ none ↦ record { fault = Syntax; got = [] } | some l ↦ readMutations (namesAt s ops fresh) (map columnFrom columns) l ]
+unfoldable pub mutationsIn : List ℕ → List ℕ → List (List ℕ) → ℕ → Judged (List Mutation)
+mutationsIn s names columns p =
+    elim (arraySlot s p) [ none ↦ record { fault = Syntax; got = [] } | some l ↦ readMutations (namesAt s names) (map columnFrom columns) l ]
 
-unfoldable pub rowAt : Bool → List ℕ → Found → List ℕ → List (List ℕ) → ℕ → Judged (List (Option Value))
-rowAt insert s ops fresh columns p =
+unfoldable pub rowAt : Bool → List ℕ → List ℕ → List (List ℕ) → ℕ → Judged (List (Option Value))
+rowAt insert s names columns p =
     elim (objectSlot s p) [
       | none ↦ record { fault = Syntax; got = [] }
-      | some ms ↦ rowOf (namesAt s ops fresh) (absentBy insert) (namedBy insert) (map columnFrom columns) ms
+      | some ms ↦ rowOf (namesAt s names) (absentBy insert) (namedBy insert) (map columnFrom columns) ms
     ]
 
 -- ── uuid-names ──
@@ -56,9 +56,9 @@ foundBefore i (At k) = ltb k i
 foundBefore i Nothing = false
 
 -- the names that the operations before number i give
-unfoldable pub Earlier : List ℕ → Found → ℕ → List (List ℕ) → Type 0
-Earlier s ops i given = (w : List ℕ) → member w given ≡ foundBefore i (placeNamed 0 w (operationsAt s ops))
+unfoldable pub Earlier : List ℕ → List ℕ → ℕ → List (List ℕ) → Type 0
+Earlier s names i given = (w : List ℕ) → member w given ≡ foundBefore i (placeIn s names w)
 
 -- a name that was given is a duplicate
-unfoldable pub takenFault : List ℕ → Found → ℕ → List ℕ → Fault
-takenFault s ops i w = check (not (foundBefore i (placeNamed 0 w (operationsAt s ops)))) Duplicate Fine
+unfoldable pub takenFault : List ℕ → List ℕ → ℕ → List ℕ → Fault
+takenFault s names i w = check (not (foundBefore i (placeIn s names w))) Duplicate Fine

@@ -1,39 +1,45 @@
-// The members of an operation by the slots that keep their places: how each is judged.
+// The members of an operation by the slots that keep their places: each is judged, and conditions and rows are read on the way.
+use model::COLUMNS;
 use model::Entry;
 use model::Fault;
 use model::Found;
 use model::Kind;
+use model::ROWS;
+use model::Row;
 ghost use mathlib.Core.Path.{_≡_};
 ghost use mathlib.Core.Bool.{true};
-ghost use mathlib.Core.List.{List};
+ghost use mathlib.Core.List.{List, map};
 ghost use Prim.Native.Nat.{ℕ, _≤_};
 ghost use lib.ListN.{length};
-ghost use Rattle.model.specs.Limits.{mostColumns};
-ghost use Rattle.inner.specs.Positions.{Says, itemsFine};
+ghost use Rattle.model.specs.Limits.{mostColumns, mostRows};
+ghost use Rattle.inner.specs.Positions.{treeAt, wordIn};
 ghost use Rattle.model.specs.Operations.{nameFault};
-ghost use Rattle.uuids.specs.Named.{Running};
-ghost use Rattle.assign.specs.Assigned.{slotted};
+ghost use Rattle.model.specs.Catalog.{columnFrom};
+ghost use Rattle.uuids.specs.Named.{namesBytes, Running};
+ghost use Rattle.conditions.specs.Tests.{TestsTold};
+ghost use Rattle.request_rows.specs.Assigned.{slotted, RowRead};
 ghost use Rattle.clauses.specs.Clauses.{SlotFine, whereAt, mutationsIn, rowAt, Earlier, takenFault};
 
-// How the conditions of a slot are judged.
-pub fn where_fault(
+// The conditions of a slot: how they are judged; where none has a fault, marks of a table's rows become those of its rows that meet all of them. After a fault they are free.
+pub fn read_where(
     text: &[u8],
     ends: &[u16],
-    ops: Found,
-    fresh: &[u8],
+    names: &[u8],
     columns: &[Entry],
     p: usize,
+    rows: &[Row],
+    marks: &mut [bool; ROWS],
 ) -> Fault
-    requires { ⌜ Running (now text) (now ends) ops (now fresh) ⌝ }
+    requires { ⌜ Running (now text) (now ends) (now names) ⌝ }
     requires { ⌜ SlotFine (now text) p ⌝ }
-    requires { ⌜ length (now columns) ≤ mostColumns ⌝ }
-    ensures { λ r. ⌜ r ≡ whereAt (now (text .entry)) ops (now (fresh .entry)) (now (columns .entry)) p .fault ⌝ }
+    requires { ⌜ (length (now columns) ≤ mostColumns) × (length (now rows) ≤ mostRows) ⌝ }
+    ensures { λ r. ⌜ TestsTold (map columnFrom (now (columns .entry))) (whereAt (now (text .entry)) (now (names .entry)) (now (columns .entry)) p) r (now (rows .entry)) (now (marks .entry)) (now (marks .exit)) ⌝ }
 {
-    let k = fields::kind_in(text, p);
+    let k = members::kind_in(text, p);
     let a = leaf::is_kind(k, Kind::Array);
     if a {
         let f = nav::first(text, p, b'[', b']');
-        return conditions::tests_fault(text, ends, ops, fresh, columns, f);
+        return conditions::mark_rows(text, ends, names, columns, f, rows, marks);
     }
     Fault::Syntax
 }
@@ -42,53 +48,53 @@ pub fn where_fault(
 pub fn mutations_fault(
     text: &[u8],
     ends: &[u16],
-    ops: Found,
-    fresh: &[u8],
+    names: &[u8],
     columns: &[Entry],
     p: usize,
 ) -> Fault
-    requires { ⌜ Running (now text) (now ends) ops (now fresh) ⌝ }
+    requires { ⌜ Running (now text) (now ends) (now names) ⌝ }
     requires { ⌜ SlotFine (now text) p ⌝ }
-    ensures { λ r. ⌜ r ≡ mutationsIn (now (text .entry)) ops (now (fresh .entry)) (now (columns .entry)) p .fault ⌝ }
+    ensures { λ r. ⌜ r ≡ mutationsIn (now (text .entry)) (now (names .entry)) (now (columns .entry)) p .fault ⌝ }
 {
-    let k = fields::kind_in(text, p);
+    let k = members::kind_in(text, p);
     let a = leaf::is_kind(k, Kind::Array);
     if a {
         let f = nav::first(text, p, b'[', b']');
-        return mutations::mutations_fault(text, ends, ops, fresh, columns, f);
+        return mutations::read::mutations_fault(text, ends, names, columns, f);
     }
     Fault::Syntax
 }
 
-// How the row of a slot is judged, in an insert or in an update.
-pub fn row_fault(
+// The row of a slot, of an insert or of an update, read into a row and flags of the columns that it names; these are free after a fault.
+pub fn read_row(
     text: &[u8],
     ends: &[u16],
-    ops: Found,
-    fresh: &[u8],
+    names: &[u8],
     insert: bool,
     columns: &[Entry],
     p: usize,
+    row: &mut Row,
+    given: &mut [bool; COLUMNS],
 ) -> Fault
-    requires { ⌜ Running (now text) (now ends) ops (now fresh) ⌝ }
+    requires { ⌜ Running (now text) (now ends) (now names) ⌝ }
     requires { ⌜ SlotFine (now text) p ⌝ }
-    ensures { λ r. ⌜ r ≡ rowAt insert (now (text .entry)) ops (now (fresh .entry)) (now (columns .entry)) p .fault ⌝ }
+    requires { ⌜ length (now columns) ≤ mostColumns ⌝ }
+    ensures { λ r. ⌜ RowRead (rowAt insert (now (text .entry)) (now (names .entry)) (now (columns .entry)) p) r (now (row .entry)) (now (row .exit)) (now (given .exit)) ⌝ }
 {
-    let k = fields::kind_in(text, p);
+    let k = members::kind_in(text, p);
     let o = leaf::is_kind(k, Kind::Object);
     if o {
-        return assign::row_fault(text, ends, ops, fresh, insert, columns, p);
+        return request_rows::read_row(text, ends, names, insert, columns, p, row, given);
     }
     Fault::Syntax
 }
 
-// How a name is judged that operation i gives: by whether an earlier one gave it.
-fn taken_fault(text: &[u8], ends: &[u16], ops: Found, i: usize, name: &[u8]) -> Fault
-    requires { ⌜ Says (now text) (now ends) ⌝ }
-    requires { ⌜ itemsFine (now text) ops ≡ true ⌝ }
-    ensures { λ r. ⌜ r ≡ takenFault (now (text .entry)) ops i (now (name .entry)) ⌝ }
+// How the name at p is judged, which operation i gives: by whether an earlier one gave it.
+fn taken_fault(text: &[u8], names: &[u8], i: usize, p: usize) -> Fault
+    requires { ⌜ length (now names) ≡ namesBytes ⌝ }
+    ensures { λ r. ⌜ r ≡ takenFault (now (text .entry)) (now (names .entry)) i (wordIn (treeAt (now (text .entry)) p)) ⌝ }
 {
-    let f = uuids::place_of(text, ends, ops, name);
+    let f = uuids::place_of(text, names, p);
     match f {
         Found::At(k) => {
             if k < i {
@@ -101,10 +107,9 @@ fn taken_fault(text: &[u8], ends: &[u16], ops: Found, i: usize, name: &[u8]) -> 
 }
 
 // How the uuid-name of a slot is judged, in operation i.
-pub fn name_fault(text: &[u8], ends: &[u16], ops: Found, i: usize, p: usize) -> Fault
-    requires { ⌜ Says (now text) (now ends) ⌝ }
-    requires { ⌜ itemsFine (now text) ops ≡ true ⌝ }
-    ensures { λ r. ⌜ ((given : List (List ℕ)) → Earlier (now (text .entry)) ops i given → r ≡ nameFault given (slotted (now (text .entry)) p)) ⌝ }
+pub fn name_fault(text: &[u8], names: &[u8], i: usize, p: usize) -> Fault
+    requires { ⌜ length (now names) ≡ namesBytes ⌝ }
+    ensures { λ r. ⌜ ((given : List (List ℕ)) → Earlier (now (text .entry)) (now (names .entry)) i given → r ≡ nameFault given (slotted (now (text .entry)) p)) ⌝ }
 {
     if p == 0 {
         return Fault::Fine;
@@ -116,7 +121,7 @@ pub fn name_fault(text: &[u8], ends: &[u16], ops: Found, i: usize, p: usize) -> 
         let name = atom::text_of(&cell);
         let id = catalog::rules::is_id(name);
         if id {
-            return taken_fault(text, ends, ops, i, name);
+            return taken_fault(text, names, i, p);
         }
         return Fault::Syntax;
     }

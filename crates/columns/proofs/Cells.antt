@@ -25,11 +25,11 @@ use Rattle.model.proofs.Tests.{split, clash, and-l, and-r, parts}
 use Rattle.nav.proofs.Rest.{member-is, member-well}
 use Rattle.nav.proofs.Walk.{name-at}
 use Rattle.names.specs.Names.{shortCell, nameCell}
-use Rattle.fields.specs.Fields.{slotTree, Slots}
-use Rattle.fields.proofs.Slotted.{must-slot, may-slot}
-use Rattle.types.specs.declared.Shape.{Shape}
-use Rattle.types.specs.Types.{KeyRead, TypeRead}
-use Rattle.types.proofs.Keys.{both}
+use Rattle.members.specs.Fields.{slotTree, Slots}
+use Rattle.members.proofs.Slotted.{must-slot, may-slot}
+use Rattle.column_types.specs.declared.Shape.{Shape}
+use Rattle.column_types.specs.Types.{KeyRead, TypeRead}
+use Rattle.column_types.proofs.Keys.{both}
 use Rattle.catalog.specs.Writing.{limitBytes}
 use Rattle.columns.specs.Parts.{memberOf}
 use Rattle.columns.specs.Columns.{small, shapeBytes, TypeIn, truthTold, columnTold, ColumnRead}

@@ -24,7 +24,7 @@ use Rattle.nav.proofs.Rest.{members-fine}
 use Rattle.nav.proofs.Walk.{members-in, pass-end, pass-rest, pass-fine, pass-name}
 use Rattle.names.specs.Names.{shortCell, nameCell}
 use Rattle.catalog.proofs.Ids.{id-none}
-use Rattle.types.proofs.Tables.{Cell, short, long, cell-of}
+use Rattle.column_types.proofs.Tables.{Cell, short, long, cell-of}
 use Rattle.columns.specs.Parts.{memberOf, partsFew, Collected}
 
 -- places gathered so far: n of them, of members that count before g

@@ -17,7 +17,7 @@ use Rattle.model.specs.Catalog.{columnFrom}
 use Rattle.model.specs.SchemaText.{names, isId, columnFits, columnOf, columnsFit}
 use Rattle.model.proofs.Tests.{split, clash, and-l, and-r}
 use Rattle.model.proofs.SchemaLaws.{counting-all}
-use Rattle.types.proofs.Keys.{last}
+use Rattle.column_types.proofs.Keys.{last}
 use Rattle.columns.specs.declared.Read.{Read}
 use Rattle.columns.specs.Parts.{memberOf, partsFew, Collected}
 use Rattle.columns.specs.Columns.{ColumnRead, ColumnsPut, ColumnsRead}

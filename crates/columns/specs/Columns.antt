@@ -12,9 +12,9 @@ use Rattle.model.specs.Members.{membersIn, counting}
 use Rattle.model.specs.Catalog.{columnFrom, bit}
 use Rattle.catalog.specs.Writing.{columnBytes}
 use Rattle.model.specs.SchemaText.{names, isBool, isId, columnFits, columnOf, columnsFit}
-use Rattle.fields.specs.Fields.{mostWords, slotTree}
-use Rattle.types.specs.declared.Shape.{Shape}
-use Rattle.types.specs.Types.{TypeRead}
+use Rattle.members.specs.Fields.{mostWords, slotTree}
+use Rattle.column_types.specs.declared.Shape.{Shape}
+use Rattle.column_types.specs.Types.{TypeRead}
 use Rattle.columns.specs.Parts.{memberOf}
 use Rattle.columns.specs.declared.Read.{Read}
 

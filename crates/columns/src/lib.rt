@@ -1,6 +1,8 @@
 // Columns as a schema writes them, read into cells.
-use fields::Places;
-use fields::WORDS;
+use column_types::Key;
+use column_types::Shape;
+use members::Places;
+use members::WORDS;
 use model::Atom;
 use model::COLUMNS;
 use model::ENTRY;
@@ -8,8 +10,6 @@ use model::Entry;
 use model::Found;
 use model::Kind;
 use model::Whole;
-use types::Key;
-use types::Shape;
 ghost use mathlib.Core.Path.{_≡_};
 ghost use mathlib.Core.Bool.{true, false};
 ghost use mathlib.Core.List.{map, _++_};
@@ -95,14 +95,14 @@ fn type_in(text: &[u8], ends: &[u16], tables: &[Entry], p: usize) -> Shape
     if p == 0 {
         return no_type();
     }
-    types::read_type(text, ends, tables, p)
+    column_types::read_type(text, ends, tables, p)
 }
 
 // Whether a slot is empty, or holds true or false.
 fn truth_fits(text: &[u8], p: usize) -> bool
     ensures { λ r. ⌜ r ≡ truthTold (now (text .entry)) p ⌝ }
 {
-    let k = fields::kind_in(text, p);
+    let k = members::kind_in(text, p);
     let t = leaf::is_kind(k, Kind::Truth);
     (p == 0) | t
 }
@@ -126,10 +126,10 @@ fn read_column(text: &[u8], ends: &[u16], at: usize, tables: &[Entry]) -> Read
 {
     let name = names::name_at(text, at);
     let v = nav::member_value(text, at);
-    let f = fields::fields(text, ends, v, b"\x04type\x09ephemeral\x07mutable");
+    let f = members::fields(text, ends, v, b"\x04type\x09ephemeral\x07mutable");
     let t = type_in(text, ends, tables, f[0]);
     let fits = column_fits(text, f, t.fits);
-    let mutable = fields::truth_in(text, f[2], true);
+    let mutable = members::truth_in(text, f[2], true);
     let mut cell = [0u8; ENTRY];
     put_column(&mut cell, &name, t, mutable);
     Read { fits, cell }

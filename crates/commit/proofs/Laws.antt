@@ -4,18 +4,18 @@ use mathlib.Core.Bool.{Bool, true, false, not, _&&_}
 use mathlib.Core.List.{List}
 use Prim.Native.Nat.{ℕ, _≤_}
 use native.Mathlib.Omega.{arith}
-use lib.ListN.{length, take}
+use lib.ListN.{length}
 use Rattle.model.specs.Base.{any, all}
 use Rattle.model.specs.Schema.{Schema}
 use Rattle.model.specs.Rows.{Row}
-use Rattle.model.specs.Commit.{allFound, loose, collect, weaken, allEnough, tablesGood, settled, commit, lawful}
-use Rattle.inner.specs.Working.{working, Tidy}
+use Rattle.model.specs.Commit.{allFound, loose, collect, weaken, allEnough, tablesGood, settled, lawful}
+use Rattle.inner.specs.Working.{working, Ordered}
 use Rattle.model.specs.declared.Fault.the-variants.{Fine, Constraint, Integrity}
 use Rattle.model.proofs.Tests.{clash}
 use Rattle.inner.proofs.Working.{working-length}
 use Rattle.references.specs.Links.{referred}
-use Rattle.settle.specs.Loose.{Collected}
-use Rattle.settle.specs.Weak.{Weakened}
+use Rattle.garbage.specs.Loose.{Collected}
+use Rattle.garbage.specs.Weak.{Weakened}
 use Rattle.commit.specs.Steps.{Committed}
 
 -- ── references by how they refer ──
@@ -29,10 +29,10 @@ module _ (s : Schema) (n : ℕ) (entry : List (List (List ℕ))) where
   abbrev rows : List Row
   rows = working s n entry
 
-  pub commit-missing : all (referred s 1 rows) rows ≡ false → Committed s n entry entry (record { fault = Integrity; count = n })
-  commit-missing e =
+  pub commit-missing : Ordered n entry → all (referred s 1 rows) rows ≡ false → Committed s n entry entry (record { fault = Integrity; count = n })
+  commit-missing o e =
       let f : allFound s rows ≡ false = sym (strong-is s rows) ∙ e in
-      record { fault = rw f; rows = λ q. absurd (clash false q refl); few = omega arith; tidy = λ t q. absurd (clash false q refl); ordered = λ q. absurd (clash false q refl) }
+      record { fault = rw f; stays = λ q. (refl, refl); rows = λ q. absurd (clash _ q f); few = omega arith; tidy = λ t. t; ordered = o }
 
   module _ (m : ℕ) (mid exit : List (List (List ℕ))) (h : n ≤ length entry) (found : all (referred s 1 rows) rows ≡ true) (c : Collected s n m entry mid) (w : Weakened s m mid exit) where
     left : working s m exit ≡ settled s rows
@@ -45,7 +45,7 @@ module _ (s : Schema) (n : ℕ) (entry : List (List (List ℕ))) where
       pub commit-few : Committed s n entry exit (record { fault = Constraint; count = m })
       commit-few =
           let e : allEnough s (settled s rows) ≡ false = ap (allEnough s) (sym left) ∙ enough in
-          record { fault = rw (strong, e); rows = λ q. absurd (clash false q refl); few = c .few; tidy = λ t q. absurd (clash false q refl); ordered = λ q. absurd (clash false q refl) }
+          record { fault = rw (strong, e); stays = λ q. absurd (clash _ strong q); rows = λ q. left; few = c .few; tidy = λ t. w .tidy (c .tidy t); ordered = w .ordered }
 
     module _ (enough : allEnough s (working s m exit) ≡ true) where
       e : allEnough s (settled s rows) ≡ true
@@ -54,12 +54,12 @@ module _ (s : Schema) (n : ℕ) (entry : List (List (List ℕ))) where
       pub commit-over : tablesGood 0 s (working s m exit) ≡ false → Committed s n entry exit (record { fault = Constraint; count = m })
       commit-over good =
           let g : tablesGood 0 s (settled s rows) ≡ false = ap (tablesGood 0 s) (sym left) ∙ good in
-          record { fault = rw (strong, e, g); rows = λ q. absurd (clash false q refl); few = c .few; tidy = λ t q. absurd (clash false q refl); ordered = λ q. absurd (clash false q refl) }
+          record { fault = rw (strong, e, g); stays = λ q. absurd (clash _ strong q); rows = λ q. left; few = c .few; tidy = λ t. w .tidy (c .tidy t); ordered = w .ordered }
 
       pub commit-fine : tablesGood 0 s (working s m exit) ≡ true → Committed s n entry exit (record { fault = Fine; count = m })
       commit-fine good =
           let g : tablesGood 0 s (settled s rows) ≡ true = ap (tablesGood 0 s) (sym left) ∙ good in
-          record { fault = rw (strong, e, g); rows = λ q. left; few = c .few; tidy = λ t q. w .tidy (c .tidy t); ordered = λ q. w .ordered }
+          record { fault = rw (strong, e, g); stays = λ q. absurd (clash _ strong q); rows = λ q. left; few = c .few; tidy = λ t. w .tidy (c .tidy t); ordered = w .ordered }
 
 -- ── good order ──
 module _ (s : Schema) (rows : List Row) where

@@ -44,7 +44,7 @@ fn any_loose(schema: &Catalog, rows: &[Row], n: usize) -> bool
 {
     let mut i = 0;
     while i < n {
-        if settle::is_loose(schema, rows, n, &rows[i]) {
+        if garbage::is_loose(schema, rows, n, &rows[i]) {
             return true;
         }
         i += 1;
@@ -64,8 +64,8 @@ pub fn commit(schema: &Catalog, rows: &mut [Row], n: usize) -> Settled
             count: n,
         };
     }
-    let m = settle::collect(schema, rows, n);
-    settle::weaken(schema, rows, m);
+    let m = garbage::collect(schema, rows, n);
+    garbage::weaken(schema, rows, m);
     if !limits::all_enough(schema, rows, m) {
         return Settled {
             fault: Fault::Constraint,

@@ -127,12 +127,12 @@ module _ (names : Names) (cells : List (List ℕ)) (a v : Json) where
     subject-none p e = ap (λ o. testOf names v o (some f)) (subst (λ n. About cells n (subjectIn cs a)) e p)
 
 -- the condition at a position, by its three items
-module _ (s : List ℕ) (ops : Found) (fresh : List ℕ) (cells : List (List ℕ)) (at : ℕ) {t : Triple} (p : Triples s t (treeAt s at)) where
-  pub test-triple : {a b v : ℕ} → t ≡ triple.Of a b v → testAt s ops fresh cells at ≡ testAs (namesAt s ops fresh) (map columnFrom cells) (treeAt s a) (functionIn (treeAt s b)) (treeAt s v)
+module _ (s : List ℕ) (names : List ℕ) (cells : List (List ℕ)) (at : ℕ) {t : Triple} (p : Triples s t (treeAt s at)) where
+  pub test-triple : {a b v : ℕ} → t ≡ triple.Of a b v → testAt s names cells at ≡ testAs (namesAt s names) (map columnFrom cells) (treeAt s a) (functionIn (treeAt s b)) (treeAt s v)
   unfolding Triples testAt testAs functionIn subjectIn
   test-triple {a} {b} {v} e =
       let q : Thrice s a b v (treeAt s at) = subst (λ t. Triples s t (treeAt s at)) e p in
-      let n = namesAt s ops fresh in
+      let n = namesAt s names in
       let cs = map columnFrom cells in
       ap (λ o. elim o [ none ↦ noTest | some t ↦ testOf n (t .value) (subjectNamed cs (t .name)) (functionNamed (t .word)) ]) (q .all)
       ∙ ap (λ o. testOf n (treeAt s v) o (functionNamed (Text.wordIn (treeAt s b)))) (sym (ap (λ o. elim o [ none ↦ none | some w ↦ subjectNamed cs w ]) (q .name)))
@@ -142,36 +142,36 @@ module _ (s : List ℕ) (ops : Found) (fresh : List ℕ) (cells : List (List ℕ
   unfolding Triples
   value-well {a} {b} {v} e = let q : Thrice s a b v (treeAt s at) = subst (λ t. Triples s t (treeAt s at)) e p in q .well
 
-  pub test-other : t ≡ triple.Other → testAt s ops fresh cells at ≡ noTest
+  pub test-other : t ≡ triple.Other → testAt s names cells at ≡ noTest
   unfolding Triples testAt
   test-other e =
-      let n = namesAt s ops fresh in
+      let n = namesAt s names in
       let cs = map columnFrom cells in
       ap (λ o. elim o [ none ↦ noTest | some t ↦ testOf n (t .value) (subjectNamed cs (t .name)) (functionNamed (t .word)) ]) (subst (λ t. Triples s t (treeAt s at)) e p)
 
 -- ── conditions from a place on ──
-module _ (s : List ℕ) (ops : Found) (fresh : List ℕ) (cells : List (List ℕ)) {g : Found} where
+module _ (s : List ℕ) (names : List ℕ) (cells : List (List ℕ)) {g : Found} where
   tests-on : {p : ℕ} → g ≡ At p
-      → testsAt s ops fresh cells g ≡ record { fault = earlier (testAt s ops fresh cells p .fault) (testsAt s ops fresh cells (nextItem s p) .fault); got = testAt s ops fresh cells p .got ∷ testsAt s ops fresh cells (nextItem s p) .got }
+      → testsAt s names cells g ≡ record { fault = earlier (testAt s names cells p .fault) (testsAt s names cells (nextItem s p) .fault); got = testAt s names cells p .got ∷ testsAt s names cells (nextItem s p) .got }
   unfolding testsAt testAt
-  tests-on h = ap (readTests (namesAt s ops fresh) (map columnFrom cells)) (walk-rest s h)
+  tests-on h = ap (readTests (namesAt s names) (map columnFrom cells)) (walk-rest s h)
 
-  pub fault-on : {p : ℕ} → g ≡ At p → testsAt s ops fresh cells g .fault ≡ earlier (testAt s ops fresh cells p .fault) (testsAt s ops fresh cells (nextItem s p) .fault)
+  pub fault-on : {p : ℕ} → g ≡ At p → testsAt s names cells g .fault ≡ earlier (testAt s names cells p .fault) (testsAt s names cells (nextItem s p) .fault)
   fault-on h = ap (λ t. t .fault) (tests-on h)
 
-  pub got-on : {p : ℕ} → g ≡ At p → testsAt s ops fresh cells g .got ≡ testAt s ops fresh cells p .got ∷ testsAt s ops fresh cells (nextItem s p) .got
+  pub got-on : {p : ℕ} → g ≡ At p → testsAt s names cells g .got ≡ testAt s names cells p .got ∷ testsAt s names cells (nextItem s p) .got
   got-on h = ap (λ t. t .got) (tests-on h)
 
-  pub tests-end : g ≡ Nothing → testsAt s ops fresh cells g ≡ record { fault = Fine; got = [] }
+  pub tests-end : g ≡ Nothing → testsAt s names cells g ≡ record { fault = Fine; got = [] }
   unfolding testsAt
-  tests-end h = ap (readTests (namesAt s ops fresh) (map columnFrom cells)) (walk-end s h)
+  tests-end h = ap (readTests (namesAt s names) (map columnFrom cells)) (walk-end s h)
 
   -- a turn that keeps the earliest fault so far
-  pub worst-on : (all w t : Fault) {p : ℕ} → all ≡ earlier w (testsAt s ops fresh cells g .fault) → g ≡ At p → t ≡ testAt s ops fresh cells p .fault → {v : Fault} → v ≡ earlier w t
-      → all ≡ earlier v (testsAt s ops fresh cells (nextItem s p) .fault)
+  pub worst-on : (all w t : Fault) {p : ℕ} → all ≡ earlier w (testsAt s names cells g .fault) → g ≡ At p → t ≡ testAt s names cells p .fault → {v : Fault} → v ≡ earlier w t
+      → all ≡ earlier v (testsAt s names cells (nextItem s p) .fault)
   worst-on all w t {p} e h q {v} r =
-      let rest = testsAt s ops fresh cells (nextItem s p) .fault in
+      let rest = testsAt s names cells (nextItem s p) .fault in
       e ∙ ap (earlier w) (fault-on h) ∙ ap (λ x. earlier w (earlier x rest)) (sym q) ∙ earlier-assoc w t rest ∙ ap (λ x. earlier x rest) (sym r)
 
-  pub worst-end : (all w : Fault) → all ≡ earlier w (testsAt s ops fresh cells g .fault) → g ≡ Nothing → all ≡ w
+  pub worst-end : (all w : Fault) → all ≡ earlier w (testsAt s names cells g .fault) → g ≡ Nothing → all ≡ w
   worst-end all w e h = e ∙ ap (λ t. earlier w (t .fault)) (tests-end h) ∙ earlier-last w

@@ -21,23 +21,21 @@ use Rattle.model.specs.Catalog.{baseNumbered}
 use Rattle.model.specs.Value.{uuidAtom, pad, elements, Value}
 use Rattle.model.specs.Faults.{Judged, isFine}
 use Rattle.model.specs.Written.{Names, testFault, written}
-use Rattle.model.specs.Conditions.{Subject, idColumn, isIntegerBase, allowed, Test, noTest, testBy, testOf, compare, holds, matches}
+use Rattle.model.specs.Conditions.{Subject, idColumn, isIntegerBase, orders, allowed, Test, noTest, testBy, testOf, compare, holds, matches}
 use Rattle.model.specs.Areas.{rowFrom}
 use Rattle.model.specs.Catalog.{columnFrom}
 use Rattle.inner.specs.Working.{tableIn, idIn, valueIn}
-use Rattle.model.proofs.Tests.{split, clash, and-l}
+use Rattle.model.proofs.Tests.{split, clash, and-l, and-r}
 use Rattle.model.proofs.Octets.{octet, big-value}
 use Rattle.model.proofs.FaultLaws.{earlier-fine}
 use Rattle.inner.proofs.Columns.{column-value}
 use Rattle.inner.proofs.Working.{row-table, row-id}
-use Rattle.references.proofs.Walks.{take-min}
-use Rattle.judged.specs.Weights.{atomsAs}
-use Rattle.judged.proofs.Fits.{fine-typed, fine-got}
-use Rattle.comparison.specs.Comparing.{Comparable}
+use Rattle.request_values.specs.Weights.{atomsAs}
+use Rattle.request_values.proofs.Fits.{fine-typed, fine-got}
 use Rattle.conditions.specs.declared.Named.{Named}
 use Rattle.conditions.specs.declared.Named.the-variants as named
-use Rattle.conditions.specs.Tests.{About, subjectIn, columnFault, testAs, testAt, testsAt, Holds, HoldAll}
-use Rattle.conditions.proofs.Faulty.{fault-allowed, fault-not, test-by, fault-on, got-on, tests-end}
+use Rattle.conditions.specs.Tests.{About, subjectIn, columnFault, testAs}
+use Rattle.conditions.proofs.Faulty.{fault-allowed, fault-not, test-by}
 
 -- ── a test without a fault ──
 is-integer : (k : Base) → isIntegerBase k ≡ true → k ≡ integer
@@ -47,17 +45,17 @@ is-integer text h = cc
 is-integer uuid h = cc
 
 module _ (names : Names) (c : Column) (f : Function) (j : Json) (h : isFine (columnFault names c f j) ≡ true) where
-  takes : allowed c f ≡ true
+  pub takes : allowed c f ≡ true
   takes = split (allowed c f) (λ e. e) (λ e. absurd (clash false (sym (ap isFine (fault-not names c f j e)) ∙ h) refl))
 
-  written-fine : isFine (written names (c .base) (testFault c f) j .fault) ≡ true
+  pub written-fine : isFine (written names (c .base) (testFault c f) j .fault) ≡ true
   written-fine = ap isFine (sym (fault-allowed names c f j takes)) ∙ h
 
-  comparable : Comparable names (c .base) f j
-  comparable = record {
-    typed = fine-typed names (c .base) (testFault c f) j written-fine;
-    ordered = λ o. is-integer (c .base) (and-l (isIntegerBase (c .base)) (scalar c) (ap (λ b. not b || (isIntegerBase (c .base) && scalar c)) (sym o) ∙ takes));
-  }
+  -- a function of order takes integers, one of them
+  pub ordered : orders f ≡ true → (c .base ≡ integer) × (scalar c ≡ true)
+  ordered o =
+      let e = ap (λ b. not b || (isIntegerBase (c .base) && scalar c)) (sym o) ∙ takes in
+      (is-integer (c .base) (and-l (isIntegerBase (c .base)) (scalar c) e), and-r (isIntegerBase (c .base)) (scalar c) e)
 
   -- what is read of it
   test-got : (s : Subject) → s .column ≡ c → testBy names j s f .got ≡ record { place = s .place; base = c .base; function = f; atoms = atomsAs names (c .base) j }
@@ -84,15 +82,11 @@ module _ (names : Names) (cells : List (List ℕ)) (a : Json) (f : Function) (v 
       unfolding About
       about = subst (λ n. About cells n (subjectIn (map columnFrom cells) a)) e p
 
-      pub column-comparable : Comparable names (baseNumbered (getD (getD cells k []) 25 0)) f v
-      column-comparable = comparable names (columnFrom (getD cells k [])) f v (fine-of (about .1))
-
       pub column-within : k < length cells
       column-within = about .0
 
       pub column-says : (row : List (List ℕ)) {r : Bool} {kind : ℕ} → kind ≡ getD (getD cells k []) 25 0 → r ≡ compare f (baseNumbered kind) (elements (valueIn k row)) (atomsAs names (baseNumbered kind) v)
-          → Holds (map columnFrom cells) row (testAs names (map columnFrom cells) a (some f) v .got) r
-      unfolding Holds
+          → (s : Schema) → columnsOf s (tableIn row) ≡ map columnFrom cells → r ≡ holds (rowFrom s row) (testAs names (map columnFrom cells) a (some f) v .got)
       column-says row {r} {kind} same q = λ s w.
           let b = baseNumbered (getD (getD cells k []) 25 0) in
           let l : k < length (columnsOf s (tableIn row)) = omega (arith, about .0, ap length w, length-map cells columnFrom) in
@@ -103,60 +97,6 @@ module _ (names : Names) (cells : List (List ℕ)) (a : Json) (f : Function) (v 
       unfolding About
       own = subst (λ n. About cells n (subjectIn (map columnFrom cells) a)) e p
 
-      pub id-comparable : Comparable names uuid f v
-      id-comparable = comparable names idColumn f v (fine-of own)
-
       pub id-says : (row : List (List ℕ)) {r : Bool} → r ≡ compare f uuid (uuidAtom (idIn row) ∷ []) (atomsAs names uuid v)
-          → Holds (map columnFrom cells) row (testAs names (map columnFrom cells) a (some f) v .got) r
-      unfolding Holds
+          → (s : Schema) → columnsOf s (tableIn row) ≡ map columnFrom cells → r ≡ holds (rowFrom s row) (testAs names (map columnFrom cells) a (some f) v .got)
       id-says row {r} q = λ s w. q ∙ ap (λ i. compare f uuid (uuidAtom i ∷ []) (atomsAs names uuid v)) (sym (row-id s row)) ∙ ap (holds (rowFrom s row)) (sym (got-of own))
-
-    pub none-says : n ≡ named.Nothing → ⊥
-    unfolding About testAs
-    none-says e = clash false (sym (ap (λ o. isFine (testOf names v o (some f) .fault)) (subst (λ n. About cells n (subjectIn (map columnFrom cells) a)) e p)) ∙ h) refl
-
--- ── all tests from a place on ──
-abbrev here : Schema → List (List ℕ) → List Test → Bool
-here sc row ts = all (holds (rowFrom sc row)) ts
-
-module _ (s : List ℕ) (ops : Found) (fresh : List ℕ) (cells : List (List ℕ)) {g : Found} where
-  pub fine-on : {p : ℕ} → g ≡ At p → isFine (testsAt s ops fresh cells g .fault) ≡ true → (isFine (testAt s ops fresh cells p .fault) ≡ true) × (isFine (testsAt s ops fresh cells (nextItem s p) .fault) ≡ true)
-  fine-on {p} h e = earlier-fine (testAt s ops fresh cells p .fault) (testsAt s ops fresh cells (nextItem s p) .fault) (ap isFine (sym (fault-on s ops fresh cells h)) ∙ e)
-
-  module _ (row : List (List ℕ)) (sc : Schema) (w : columnsOf sc (tableIn row) ≡ map columnFrom cells) where
-    hold-by : {p : ℕ} → g ≡ At p → {r b : Bool} → Holds (map columnFrom cells) row (testAt s ops fresh cells p .got) r → r ≡ b
-        → here sc row (testsAt s ops fresh cells g .got) ≡ (b && here sc row (testsAt s ops fresh cells (nextItem s p) .got))
-    unfolding Holds
-    hold-by {p} h q e = ap (here sc row) (got-on s ops fresh cells h) ∙ ap (λ x. x && here sc row (testsAt s ops fresh cells (nextItem s p) .got)) (sym (q sc w) ∙ e)
-
-    pub hold-on : {p : ℕ} → g ≡ At p → {r : Bool} → Holds (map columnFrom cells) row (testAt s ops fresh cells p .got) r → r ≡ true
-        → here sc row (testsAt s ops fresh cells g .got) ≡ here sc row (testsAt s ops fresh cells (nextItem s p) .got)
-    hold-on h q e = hold-by h q e
-
-    pub hold-off : {p : ℕ} → g ≡ At p → {r : Bool} → Holds (map columnFrom cells) row (testAt s ops fresh cells p .got) r → r ≡ false → here sc row (testsAt s ops fresh cells g .got) ≡ false
-    hold-off h q e = hold-by h q e
-
-    pub hold-end : g ≡ Nothing → here sc row (testsAt s ops fresh cells g .got) ≡ true
-    hold-end h = ap (λ t. here sc row (t .got)) (tests-end s ops fresh cells h)
-
--- ── and the row's table ──
-module _ (cs : List Column) (t : ℕ) (ts : List Test) (row : List (List ℕ)) (s : Schema) (w : columnsOf s t ≡ cs) where
-  pub other-table : (t ≡ tableIn row → ⊥) → matches t ts (rowFrom s row) ≡ false
-  other-table h = ap (λ n. eqb t n && all (holds (rowFrom s row)) ts) (row-table s row) ∙ ap (λ b. b && all (holds (rowFrom s row)) ts) (ne-eqb t (tableIn row) h)
-
-  pub same-table : t ≡ tableIn row → {r : Bool} → HoldAll cs row ts r → r ≡ matches t ts (rowFrom s row)
-  unfolding HoldAll
-  same-table h q = q s (ap (columnsOf s) (sym h) ∙ w) ∙ sym (ap (λ n. eqb t n && all (holds (rowFrom s row)) ts) (row-table s row) ∙ ap (λ b. b && all (holds (rowFrom s row)) ts) (eq-eqb t (tableIn row) h))
-
--- ── the id as an atom ──
-pub id-atom : (id : List ℕ) → length id ≡ 16 → all octet id ≡ true → id ++ drop (length id) (replicate 25 0) ≡ uuidAtom (value id)
-id-atom id e h =
-    ap (λ n. id ++ drop n (replicate 25 0)) e ∙ ap (λ n. id ++ replicate {A = ℕ} (25 - n) 0) (sym e) ∙ ap pad (sym (big-value 16 id e h))
-
--- the elements of a column: as many atoms as its count says, of four
-pub elements-min : (v : Value) {n : ℕ} {xs : List (List ℕ)} → xs ≡ v .atoms → length xs ≡ 4 → n ≡ min (v .count) 4 → (take n xs ≡ elements v) × (n ≡ length (take n xs)) × (n ≤ 4)
-elements-min v {n} {xs} e l m = (
-  ap (λ k. take k xs) m ∙ sym (take-min (v .count) 4 xs l) ∙ ap (take (v .count)) e,
-  sym (length-take-le n xs (omega (arith, m, l))),
-  omega (arith, m),
-)

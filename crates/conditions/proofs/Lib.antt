@@ -1,5 +1,5 @@
--- What the proofs of several functions use.
 pub mod Faulty
 pub mod Naming
 pub mod Holding
-pub mod Picking
+pub mod Beyond
+pub mod Told

@@ -17,7 +17,7 @@ use Rattle.model.specs.Schema.{Column, columnNamed}
 use Rattle.model.specs.Conditions.{Subject, idColumn, placeSubject}
 use Rattle.model.specs.Catalog.{columnFrom}
 use Rattle.model.proofs.Tests.{split}
-use Rattle.fields.specs.Fields.{wordsFrom, wordsOf, choiceFrom, choice}
+use Rattle.members.specs.Fields.{wordsFrom, wordsOf, choiceFrom, choice}
 use Rattle.catalog.specs.Entries.{foundAt}
 use Rattle.lookup.specs.Lookup.{columnIn}
 use Rattle.conditions.specs.declared.Named.the-variants as named

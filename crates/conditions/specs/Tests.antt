@@ -1,21 +1,22 @@
 -- Conditions by places of the text. Assumes nothing: these are definitions.
-use Prim.Native.Nat.{ℕ, _≤_, _<_}
+use Prim.Native.Nat.{ℕ, _<_}
 use mathlib.Core.Path.{_≡_}
-use mathlib.Core.Bool.{Bool, true, false, not}
+use mathlib.Core.Bool.{Bool, true, false, not, _&&_}
 use mathlib.Core.List.{List, [], map}
 use mathlib.Core.Option.{Option, none, some}
-use lib.Dec.{eqb}
+use lib.Dec.{eqb, leb}
 use lib.ListN.{length, getD, take}
-use Rattle.model.specs.Base.{if_then_else_, all, keep}
+use Rattle.model.specs.Limits.{mostElements}
+use Rattle.model.specs.Base.{if_then_else_, any}
 use Rattle.model.specs.Json.{Json}
 use Rattle.inner.specs.Positions.{treeAt, itemsFrom}
-use Rattle.model.specs.Schema.{Column, Schema, columnsOf}
-use Rattle.model.specs.Faults.{Judged}
-use Rattle.model.specs.Written.{Names, stringIn, testFault, written}
-use Rattle.model.specs.Rows.{Row}
+use Rattle.model.specs.Schema.{Base, Column, Schema, columnsOf}
+use Rattle.model.specs.Faults.{isFine, Judged}
+use Rattle.model.specs.Value.{valueOf}
+use Rattle.model.specs.Written.{Names, stringIn, longAtom, testFault, written}
 use Rattle.model.specs.Areas.{rowFrom}
-use Rattle.inner.specs.Working.{working, tableIn, Tidy}
-use Rattle.model.specs.Conditions.{Subject, idColumn, subjectNamed, functionNamed, allowed, Test, testOf, readTest, readTests, holds, matches}
+use Rattle.inner.specs.Working.{tableIn}
+use Rattle.model.specs.Conditions.{Subject, idColumn, subjectNamed, functionNamed, orders, allowed, Test, testOf, readTest, readTests, compare, holds}
 use Rattle.model.specs.Catalog.{columnFrom}
 use Rattle.model.specs.declared.Found.{Found}
 use Rattle.model.specs.declared.Fault.{Fault}
@@ -23,6 +24,9 @@ use Rattle.model.specs.declared.Fault.the-variants.{Syntax}
 use Rattle.model.specs.declared.Function.{Function}
 use Rattle.model.specs.declared.Function.the-variants.{Less, AtMost, Equal, Unequal, AtLeast, Greater, Includes, Excludes}
 use Rattle.uuids.specs.Named.{namesAt}
+use Rattle.request_values.specs.Weights.{atomsAs}
+use Rattle.marks.specs.declared.Place.{Place}
+use Rattle.marks.specs.Marks.{keptAs, atomsAt, OfTable, Narrowed, MarkedRows}
 use Rattle.conditions.specs.declared.Choice.{Choice}
 use Rattle.conditions.specs.declared.Choice.the-variants.{Of, Nothing}
 use Rattle.conditions.specs.declared.Named.{Named}
@@ -71,23 +75,44 @@ unfoldable pub testAs : Names → List Column → Json → Option Function → J
 testAs names cs name f value = testOf names value (subjectIn cs name) f
 
 -- the one at a position
-unfoldable pub testAt : List ℕ → Found → List ℕ → List (List ℕ) → ℕ → Judged Test
-testAt text ops fresh columns at = readTest (namesAt text ops fresh) (map columnFrom columns) (treeAt text at)
+unfoldable pub testAt : List ℕ → List ℕ → List (List ℕ) → ℕ → Judged Test
+testAt text names columns at = readTest (namesAt text names) (map columnFrom columns) (treeAt text at)
 
 -- those from a place on
-unfoldable pub testsAt : List ℕ → Found → List ℕ → List (List ℕ) → Found → Judged (List Test)
-testsAt text ops fresh columns f = readTests (namesAt text ops fresh) (map columnFrom columns) (itemsFrom text f)
+unfoldable pub testsAt : List ℕ → List ℕ → List (List ℕ) → Found → Judged (List Test)
+testsAt text names columns f = readTests (namesAt text names) (map columnFrom columns) (itemsFrom text f)
 
--- ── rows ──
--- whether a row of a table that has these columns meets a test, and all of them
-unfoldable pub Holds : List Column → List (List ℕ) → Test → Bool → Type 0
-Holds cs row t r = (s : Schema) → columnsOf s (tableIn row) ≡ cs → r ≡ holds (rowFrom s row) t
+-- ── marks ──
+-- atoms that fit four places of 25 bytes
+unfoldable pub fits : Base → List (List ℕ) → Bool
+fits k l = leb (length l) mostElements && not (any (longAtom k) l)
 
-unfoldable pub HoldAll : List Column → List (List ℕ) → List Test → Bool → Type 0
-HoldAll cs row ts r = (s : Schema) → columnsOf s (tableIn row) ≡ cs → r ≡ all (holds (rowFrom s row)) ts
+-- the first n atoms of a condition as they are kept
+unfoldable pub KeptAs : Function → Base → ℕ → List (List ℕ) → List (List ℕ) → Type 0
+KeptAs f k n entry exit = (l : List (List ℕ)) → n ≡ length l → entry ≡ valueOf l .atoms → take n exit ≡ keptAs f k l
 
--- the first n rows without those of a table that meet all tests, r of them
-pub record Deleted (cs : List Column) (table : ℕ) (tests : List Test) (n r : ℕ) (entry exit : List (List (List ℕ))) : Type 0 where
-  pub rows : (s : Schema) → columnsOf s table ≡ cs → working s r exit ≡ keep (λ (q : Row). not (matches table tests q)) (working s n entry)
-  pub few : r ≤ n
-  pub tidy : (s : Schema) → Tidy s (take n entry) → Tidy s (take r exit)
+unfoldable pub storing : Bool → Function
+storing true = Includes
+storing false = Excludes
+
+-- a value that no column can have, of a function that is not one of order
+pub record Beyond (names : Names) (k : Base) (f : Function) (j : Json) : Type 0 where
+  pub unordered : orders f ≡ false
+  pub unfit : fits k (atomsAs names k j) ≡ false
+
+-- what a condition on a column comes to: its fault r; where that is none the marks are narrowed by it, and else they stay
+pub record ValueTold (names : Names) (c : Column) (place : Place) (f : Function) (j : Json) (r : Fault) (rows : List (List (List ℕ))) (before after : List Bool) : Type 0 where
+  pub fault : r ≡ columnFault names c f j
+  pub marks : isFine (columnFault names c f j) ≡ true → Narrowed (λ row. compare f (c .base) (atomsAt place row) (atomsAs names (c .base) j)) rows before after
+  pub still : isFine (columnFault names c f j) ≡ false → after ≡ before
+
+-- the same of a condition that is read; a row is asked as one of a table with the columns cs
+pub record TestTold (cs : List Column) (t : Judged Test) (r : Fault) (rows : List (List (List ℕ))) (before after : List Bool) : Type 0 where
+  pub fault : r ≡ t .fault
+  pub marks : isFine (t .fault) ≡ true → (q : List (List ℕ) → Bool) × Narrowed q rows before after × ((s : Schema) (row : List (List ℕ)) → columnsOf s (tableIn row) ≡ cs → q row ≡ holds (rowFrom s row) (t .got))
+  pub still : isFine (t .fault) ≡ false → after ≡ before
+
+-- what all conditions come to: their fault r; where that is none, marks of a table's rows become those of its rows that meet them; else they are free
+pub record TestsTold (cs : List Column) (ts : Judged (List Test)) (r : Fault) (rows : List (List (List ℕ))) (before after : List Bool) : Type 0 where
+  pub fault : r ≡ ts .fault
+  pub marks : isFine (ts .fault) ≡ true → (table : ℕ) → OfTable table rows before → MarkedRows cs (ts .got) table (length rows) rows after

@@ -1,34 +1,32 @@
-// Conditions, [column, function, value]: how they are judged, and the rows that meet them.
+// Conditions, [column, function, value]: each is read once, and narrows the marks of the rows that meet those before it.
 use lookup::Triple;
+use marks::Place;
 use model::ATOM;
-use model::Atom;
+use model::Atoms;
+use model::ELEMENTS;
 use model::Entry;
 use model::Fault;
 use model::Found;
 use model::Function;
+use model::ROWS;
 use model::Row;
 ghost use mathlib.Core.Path.{_≡_};
 ghost use mathlib.Core.Bool.{true};
 ghost use mathlib.Core.List.{[], _∷_, map};
-ghost use mathlib.Core.Option.{some};
-ghost use Prim.Native.Nat.{_≤_, _<_};
-ghost use lib.ListN.{length, getD, set};
-ghost use Rattle.model.specs.Limits.{mostColumns, idBytes};
-ghost use Rattle.model.specs.Octets.{value};
-ghost use Rattle.model.specs.Base.{count};
+ghost use Prim.Native.Nat.{_≤_};
+ghost use lib.ListN.{length};
+ghost use Rattle.model.specs.Limits.{mostColumns, mostElements, mostRows};
 ghost use Rattle.inner.specs.Positions.{wellAt, treeAt, itemsFine};
-ghost use Rattle.model.specs.Schema.{uuid, Schema, columnsOf};
-ghost use Rattle.model.specs.Catalog.{baseNumbered};
-ghost use Rattle.model.specs.Value.{uuidAtom, elements};
-ghost use Rattle.model.specs.Faults.{isFine, rank, earlier};
-ghost use Rattle.model.specs.Conditions.{orders, allowed, compare, matches};
-ghost use Rattle.model.specs.Areas.{rowFrom};
-ghost use Rattle.model.specs.Catalog.{columnFrom};
-ghost use Rattle.inner.specs.Working.{working, idIn, valueIn};
+ghost use Rattle.model.specs.Catalog.{baseNumbered, columnFrom};
+ghost use Rattle.model.specs.Conditions.{orders, allowed, compare};
 ghost use Rattle.uuids.specs.Named.{namesAt, Running};
-ghost use Rattle.judged.specs.Weights.{atomsAs};
-ghost use Rattle.comparison.specs.Comparing.{Comparable};
-ghost use Rattle.conditions.specs.Tests.{chosen, functionBy, functionIn, About, subjectIn, columnFault, testAs, testAt, testsAt, Holds, HoldAll, Deleted};
+ghost use Rattle.element_atoms.specs.Atoms.{atomAs};
+ghost use Rattle.request_values.specs.Weights.{atomsAs};
+ghost use Rattle.marks.specs.Marks.{every, InRow, atomsAt, Narrowed};
+ghost use Rattle.conditions.specs.Tests.{chosen, functionBy, functionIn, About, subjectIn, testAt, testsAt, KeptAs, storing, Beyond, ValueTold, TestTold, TestsTold};
+
+// The base type of an id, by its number.
+const UUID: u8 = 3;
 
 // The function that a word is, or that it is none.
 pub enum Choice {
@@ -78,7 +76,7 @@ fn function_of(k: usize) -> Choice
 fn function_at(text: &[u8], at: usize) -> Choice
     ensures { λ r. ⌜ functionIn (treeAt (now (text .entry)) at) ≡ chosen r ⌝ }
 {
-    let k = fields::choose(
+    let k = members::choose(
         text,
         at,
         b"\x01<\x02<=\x02==\x02!=\x02>=\x01>\x08includes\x08excludes",
@@ -128,379 +126,244 @@ fn is_allowed(column: &Entry, f: Function) -> bool
     true
 }
 
-// How a condition on a column is judged.
-fn column_fault(
-    text: &[u8],
-    ends: &[u16],
-    ops: Found,
-    fresh: &[u8],
-    column: &Entry,
-    f: Function,
-    at: usize,
-) -> Fault
-    requires { ⌜ Running (now text) (now ends) ops (now fresh) ⌝ }
-    requires { ⌜ wellAt (now text) at ≡ true ⌝ }
-    ensures { λ r. ⌜ r ≡ columnFault (namesAt (now (text .entry)) ops (now (fresh .entry))) (columnFrom (now (column .entry))) f (treeAt (now (text .entry)) at) ⌝ }
-{
-    let ok = is_allowed(column, f);
-    if ok {
-        return judged::test_fault(text, ends, ops, fresh, column, f, at);
-    }
-    Fault::Syntax
+// A condition as read, but for its elements: what it is about, of which base type, and its function.
+pub struct Test {
+    place: Place,
+    kind: u8,
+    function: Function,
 }
 
-// How a condition of a function is judged, whose name stands at a and whose value at v.
-fn subject_fault(
+// The first n atoms of a condition as they are kept: sorted where they are to be equal.
+fn kept(f: Function, kind: u8, atoms: Atoms, n: usize) -> Atoms
+    requires { ⌜ n ≤ mostElements ⌝ }
+    ensures { λ r. ⌜ KeptAs f (baseNumbered kind) n atoms r ⌝ }
+{
+    match f {
+        Function::Less => atoms,
+        Function::AtMost => atoms,
+        Function::Equal => value::sort(kind, atoms, n),
+        Function::Unequal => value::sort(kind, atoms, n),
+        Function::AtLeast => atoms,
+        Function::Greater => atoms,
+        Function::Includes => atoms,
+        Function::Excludes => atoms,
+    }
+}
+
+// The function by which each element is to be stored, or none.
+fn storing(stored: bool) -> Function
+    ensures { λ r. ⌜ r ≡ storing stored ⌝ }
+{
+    if stored {
+        return Function::Includes;
+    }
+    Function::Excludes
+}
+
+// The marks narrowed by one element of a condition, at `at`, which is to be stored or not; a string above 24 bytes is not.
+fn narrow_element(
     text: &[u8],
     ends: &[u16],
-    ops: Found,
-    fresh: &[u8],
-    columns: &[Entry],
-    a: usize,
-    f: Function,
-    v: usize,
-) -> Fault
-    requires { ⌜ Running (now text) (now ends) ops (now fresh) ⌝ }
-    requires { ⌜ wellAt (now text) v ≡ true ⌝ }
-    ensures { λ r. ⌜ r ≡ testAs (namesAt (now (text .entry)) ops (now (fresh .entry))) (map columnFrom (now (columns .entry))) (treeAt (now (text .entry)) a) (some f) (treeAt (now (text .entry)) v) .fault ⌝ }
+    names: &[u8],
+    test: Test,
+    stored: bool,
+    at: usize,
+    rows: &[Row],
+    marks: &mut [bool; ROWS],
+)
+    requires { ⌜ Running (now text) (now ends) (now names) ⌝ }
+    requires { ⌜ wellAt (now text) at ≡ true ⌝ }
+    requires { ⌜ InRow (test .place) × (length (now rows) ≤ mostRows) ⌝ }
+    ensures { λ _. ⌜ Narrowed (λ row. every stored (atomsAt (test .place) row) (atomAs (namesAt (now (text .entry)) (now (names .entry))) (baseNumbered (test .kind)) (treeAt (now (text .entry)) at) ∷ [])) (now (rows .entry)) (now (marks .entry)) (now (marks .exit)) ⌝ }
 {
+    let mut cell = [0u8; ATOM];
+    let place = test.place;
+    let f = storing(stored);
+    let a = element_atoms::atom_at(text, ends, names, test.kind, at, &mut cell);
+    match a {
+        element_atoms::Atom::Wrong => {
+            let one = [cell];
+            marks::narrow(place, f, &one, rows, marks);
+        }
+        element_atoms::Atom::Long => marks::narrow_all(place, !stored, rows, marks),
+        element_atoms::Atom::Fits => {
+            let one = [cell];
+            marks::narrow(place, f, &one, rows, marks);
+        }
+    }
+}
+
+// The marks narrowed by all elements of a condition, one after another: so many as there may be.
+fn narrow_each(
+    text: &[u8],
+    ends: &[u16],
+    names: &[u8],
+    test: Test,
+    stored: bool,
+    at: usize,
+    rows: &[Row],
+    marks: &mut [bool; ROWS],
+)
+    requires { ⌜ Running (now text) (now ends) (now names) ⌝ }
+    requires { ⌜ wellAt (now text) at ≡ true ⌝ }
+    requires { ⌜ InRow (test .place) × (length (now rows) ≤ mostRows) ⌝ }
+    ensures { λ _. ⌜ Narrowed (λ row. every stored (atomsAt (test .place) row) (atomsAs (namesAt (now (text .entry)) (now (names .entry))) (baseNumbered (test .kind)) (treeAt (now (text .entry)) at))) (now (rows .entry)) (now (marks .entry)) (now (marks .exit)) ⌝ }
+{
+    let e = elements::elements_at(text, ends, at);
+    let set = e.set;
+    let mut g = e.first;
+    loop {
+        match g {
+            Found::At(p) => {
+                narrow_element(text, ends, names, test, stored, p, rows, marks);
+                g = elements::next_element(text, ends, p, set);
+            }
+            Found::Nothing => return,
+        }
+    }
+}
+
+// The marks narrowed by a condition that has what no column can have: more than four elements, or a string above 24 bytes.
+fn narrow_beyond(
+    text: &[u8],
+    ends: &[u16],
+    names: &[u8],
+    test: Test,
+    at: usize,
+    rows: &[Row],
+    marks: &mut [bool; ROWS],
+)
+    requires { ⌜ Running (now text) (now ends) (now names) ⌝ }
+    requires { ⌜ wellAt (now text) at ≡ true ⌝ }
+    requires { ⌜ InRow (test .place) × (length (now rows) ≤ mostRows) ⌝ }
+    requires { ⌜ Beyond (namesAt (now text) (now names)) (baseNumbered (test .kind)) (test .function) (treeAt (now text) at) ⌝ }
+    ensures { λ _. ⌜ Narrowed (λ row. compare (test .function) (baseNumbered (test .kind)) (atomsAt (test .place) row) (atomsAs (namesAt (now (text .entry)) (now (names .entry))) (baseNumbered (test .kind)) (treeAt (now (text .entry)) at))) (now (rows .entry)) (now (marks .entry)) (now (marks .exit)) ⌝ }
+{
+    let place = test.place;
+    let f = test.function;
+    match f {
+        Function::Less => {}
+        Function::AtMost => {}
+        Function::Equal => marks::narrow_all(place, false, rows, marks),
+        Function::Unequal => marks::narrow_all(place, true, rows, marks),
+        Function::AtLeast => {}
+        Function::Greater => {}
+        Function::Includes => { narrow_each(text, ends, names, test, true, at, rows, marks) }
+        Function::Excludes => { narrow_each(text, ends, names, test, false, at, rows, marks) }
+    }
+}
+
+// A condition on a column, whose value stands at `at`: how it is judged; where it has no fault, the marks are narrowed by it.
+fn narrow_value(
+    text: &[u8],
+    ends: &[u16],
+    names: &[u8],
+    column: &Entry,
+    test: Test,
+    at: usize,
+    rows: &[Row],
+    marks: &mut [bool; ROWS],
+) -> Fault
+    requires { ⌜ Running (now text) (now ends) (now names) ⌝ }
+    requires { ⌜ wellAt (now text) at ≡ true ⌝ }
+    requires { ⌜ InRow (test .place) × (length (now rows) ≤ mostRows) ⌝ }
+    requires { ⌜ baseNumbered (test .kind) ≡ columnFrom (now column) .base ⌝ }
+    ensures { λ r. ⌜ ValueTold (namesAt (now (text .entry)) (now (names .entry))) (columnFrom (now (column .entry))) (test .place) (test .function) (treeAt (now (text .entry)) at) r (now (rows .entry)) (now (marks .entry)) (now (marks .exit)) ⌝ }
+{
+    let place = test.place;
+    let f = test.function;
+    let ok = is_allowed(column, f);
+    if !ok {
+        return Fault::Syntax;
+    }
+    let mut atoms = [[0u8; ATOM]; ELEMENTS];
+    let g = request_values::test_value(text, ends, names, column, f, at, &mut atoms);
+    let v = g.fault;
+    let fine = leaf::is_fine(v);
+    if fine {
+        if g.fits {
+            let n = g.count;
+            let l = kept(f, test.kind, atoms, n);
+            marks::narrow(place, f, &l[..n], rows, marks);
+        } else {
+            narrow_beyond(text, ends, names, test, at, rows, marks);
+        }
+    }
+    v
+}
+
+// The condition at `at`: how it is judged; where it has no fault, the marks are narrowed by it.
+fn narrow_by(
+    text: &[u8],
+    ends: &[u16],
+    names: &[u8],
+    columns: &[Entry],
+    at: usize,
+    rows: &[Row],
+    marks: &mut [bool; ROWS],
+) -> Fault
+    requires { ⌜ Running (now text) (now ends) (now names) ⌝ }
+    requires { ⌜ wellAt (now text) at ≡ true ⌝ }
+    requires { ⌜ (length (now columns) ≤ mostColumns) × (length (now rows) ≤ mostRows) ⌝ }
+    ensures { λ r. ⌜ TestTold (map columnFrom (now (columns .entry))) (testAt (now (text .entry)) (now (names .entry)) (now (columns .entry)) at) r (now (rows .entry)) (now (marks .entry)) (now (marks .exit)) ⌝ }
+{
+    let t = lookup::triple_at(text, ends, at);
+    let Triple::Of(a, b, v) = t else {
+        return Fault::Syntax;
+    };
+    let w = function_at(text, b);
+    let Choice::Of(f) = w else {
+        return Fault::Syntax;
+    };
     let n = subject_at(text, a, columns);
     match n {
-        Named::Column(i) => column_fault(text, ends, ops, fresh, &columns[i], f, v),
+        Named::Column(i) => {
+            let kind = catalog::kind(&columns[i]);
+            let test = Test {
+                place: Place::Column(i),
+                kind,
+                function: f,
+            };
+            narrow_value(text, ends, names, &columns[i], test, v, rows, marks)
+        }
         Named::Id => {
             let cell = catalog::id_column();
-            column_fault(text, ends, ops, fresh, &cell, f, v)
+            let test = Test {
+                place: Place::Id,
+                kind: UUID,
+                function: f,
+            };
+            narrow_value(text, ends, names, &cell, test, v, rows, marks)
         }
         Named::Nothing => Fault::Syntax,
     }
 }
 
-// How a condition is judged, whose name stands at a, its word at b and its value at v.
-fn triple_fault(
+// The conditions from f on: how they are judged; where none has a fault, marks of a table's rows become those of its rows that meet all of them. After a fault they are free.
+pub fn mark_rows(
     text: &[u8],
     ends: &[u16],
-    ops: Found,
-    fresh: &[u8],
-    columns: &[Entry],
-    a: usize,
-    b: usize,
-    v: usize,
-) -> Fault
-    requires { ⌜ Running (now text) (now ends) ops (now fresh) ⌝ }
-    requires { ⌜ wellAt (now text) v ≡ true ⌝ }
-    ensures { λ r. ⌜ r ≡ testAs (namesAt (now (text .entry)) ops (now (fresh .entry))) (map columnFrom (now (columns .entry))) (treeAt (now (text .entry)) a) (functionIn (treeAt (now (text .entry)) b)) (treeAt (now (text .entry)) v) .fault ⌝ }
-{
-    let w = function_at(text, b);
-    match w {
-        Choice::Of(f) => subject_fault(text, ends, ops, fresh, columns, a, f, v),
-        Choice::Nothing => Fault::Syntax,
-    }
-}
-
-// How the condition at `at` is judged.
-fn test_fault(
-    text: &[u8],
-    ends: &[u16],
-    ops: Found,
-    fresh: &[u8],
-    columns: &[Entry],
-    at: usize,
-) -> Fault
-    requires { ⌜ Running (now text) (now ends) ops (now fresh) ⌝ }
-    requires { ⌜ wellAt (now text) at ≡ true ⌝ }
-    ensures { λ r. ⌜ r ≡ testAt (now (text .entry)) ops (now (fresh .entry)) (now (columns .entry)) at .fault ⌝ }
-{
-    let t = lookup::triple_at(text, ends, at);
-    match t {
-        Triple::Of(a, b, v) => triple_fault(text, ends, ops, fresh, columns, a, b, v),
-        Triple::Other => Fault::Syntax,
-    }
-}
-
-// How the conditions from f on are judged.
-pub fn tests_fault(
-    text: &[u8],
-    ends: &[u16],
-    ops: Found,
-    fresh: &[u8],
+    names: &[u8],
     columns: &[Entry],
     f: Found,
+    rows: &[Row],
+    marks: &mut [bool; ROWS],
 ) -> Fault
-    requires { ⌜ Running (now text) (now ends) ops (now fresh) ⌝ }
+    requires { ⌜ Running (now text) (now ends) (now names) ⌝ }
     requires { ⌜ itemsFine (now text) f ≡ true ⌝ }
-    requires { ⌜ length (now columns) ≤ mostColumns ⌝ }
-    ensures { λ r. ⌜ r ≡ testsAt (now (text .entry)) ops (now (fresh .entry)) (now (columns .entry)) f .fault ⌝ }
+    requires { ⌜ (length (now columns) ≤ mostColumns) × (length (now rows) ≤ mostRows) ⌝ }
+    ensures { λ r. ⌜ TestsTold (map columnFrom (now (columns .entry))) (testsAt (now (text .entry)) (now (names .entry)) (now (columns .entry)) f) r (now (rows .entry)) (now (marks .entry)) (now (marks .exit)) ⌝ }
 {
     let mut g = f;
     let mut w = Fault::Fine;
     loop {
         match g {
             Found::At(p) => {
-                let t = test_fault(text, ends, ops, fresh, columns, p);
+                let t = narrow_by(text, ends, names, columns, p, rows, marks);
                 w = leaf::earlier(w, t);
                 g = nav::next_item(text, ends, p);
             }
             Found::Nothing => return w,
         }
     }
-}
-
-// An id as an atom.
-fn atom_of(id: &[u8]) -> Atom
-    requires { ⌜ length (now id) ≡ idBytes ⌝ }
-    ensures { λ r. ⌜ r ≡ uuidAtom (value (now (id .entry))) ⌝ }
-{
-    let mut cell = [0u8; ATOM];
-    octets::put_bytes(&mut cell, id);
-    cell
-}
-
-// What a condition on the row's id says.
-fn id_holds(
-    text: &[u8],
-    ends: &[u16],
-    ops: Found,
-    fresh: &[u8],
-    f: Function,
-    at: usize,
-    row: &Row,
-) -> bool
-    requires { ⌜ Running (now text) (now ends) ops (now fresh) ⌝ }
-    requires { ⌜ wellAt (now text) at ≡ true ⌝ }
-    requires { ⌜ Comparable (namesAt (now text) ops (now fresh)) uuid f (treeAt (now text) at) ⌝ }
-    ensures { λ r. ⌜ r ≡ compare f uuid (uuidAtom (idIn (now (row .entry))) ∷ []) (atomsAs (namesAt (now (text .entry)) ops (now (fresh .entry))) uuid (treeAt (now (text .entry)) at)) ⌝ }
-{
-    let x = atom_of(rows::id_of(row));
-    let one = [x];
-    comparison::compare_at(text, ends, ops, fresh, 3, f, at, &one)
-}
-
-// What a condition on column c of a base type says.
-fn column_holds(
-    text: &[u8],
-    ends: &[u16],
-    ops: Found,
-    fresh: &[u8],
-    kind: u8,
-    f: Function,
-    at: usize,
-    row: &Row,
-    c: usize,
-) -> bool
-    requires { ⌜ Running (now text) (now ends) ops (now fresh) ⌝ }
-    requires { ⌜ wellAt (now text) at ≡ true ⌝ }
-    requires { ⌜ Comparable (namesAt (now text) ops (now fresh)) (baseNumbered kind) f (treeAt (now text) at) ⌝ }
-    requires { ⌜ c < mostColumns ⌝ }
-    ensures { λ r. ⌜ r ≡ compare f (baseNumbered kind) (elements (valueIn c (now (row .entry)))) (atomsAs (namesAt (now (text .entry)) ops (now (fresh .entry))) (baseNumbered kind) (treeAt (now (text .entry)) at)) ⌝ }
-{
-    let xs = rows::atoms_in(row, c);
-    let n = references::size(rows::count_of(row, c));
-    comparison::compare_at(text, ends, ops, fresh, kind, f, at, &xs[..n])
-}
-
-// Whether a row meets a condition of a function, whose name stands at a and whose value at v.
-fn subject_holds(
-    text: &[u8],
-    ends: &[u16],
-    ops: Found,
-    fresh: &[u8],
-    columns: &[Entry],
-    a: usize,
-    f: Function,
-    v: usize,
-    row: &Row,
-) -> bool
-    requires { ⌜ Running (now text) (now ends) ops (now fresh) ⌝ }
-    requires { ⌜ wellAt (now text) v ≡ true ⌝ }
-    requires { ⌜ length (now columns) ≤ mostColumns ⌝ }
-    requires { ⌜ isFine (testAs (namesAt (now text) ops (now fresh)) (map columnFrom (now columns)) (treeAt (now text) a) (some f) (treeAt (now text) v) .fault) ≡ true ⌝ }
-    ensures { λ r. ⌜ Holds (map columnFrom (now (columns .entry))) (now (row .entry)) (testAs (namesAt (now (text .entry)) ops (now (fresh .entry))) (map columnFrom (now (columns .entry))) (treeAt (now (text .entry)) a) (some f) (treeAt (now (text .entry)) v) .got) r ⌝ }
-{
-    let n = subject_at(text, a, columns);
-    match n {
-        Named::Column(i) => {
-            let kind = catalog::kind(&columns[i]);
-            column_holds(text, ends, ops, fresh, kind, f, v, row, i)
-        }
-        Named::Id => id_holds(text, ends, ops, fresh, f, v, row),
-        Named::Nothing => false,
-    }
-}
-
-// Whether a row meets a condition, whose name stands at a, its word at b and its value at v.
-fn triple_holds(
-    text: &[u8],
-    ends: &[u16],
-    ops: Found,
-    fresh: &[u8],
-    columns: &[Entry],
-    a: usize,
-    b: usize,
-    v: usize,
-    row: &Row,
-) -> bool
-    requires { ⌜ Running (now text) (now ends) ops (now fresh) ⌝ }
-    requires { ⌜ wellAt (now text) v ≡ true ⌝ }
-    requires { ⌜ length (now columns) ≤ mostColumns ⌝ }
-    requires { ⌜ isFine (testAs (namesAt (now text) ops (now fresh)) (map columnFrom (now columns)) (treeAt (now text) a) (functionIn (treeAt (now text) b)) (treeAt (now text) v) .fault) ≡ true ⌝ }
-    ensures { λ r. ⌜ Holds (map columnFrom (now (columns .entry))) (now (row .entry)) (testAs (namesAt (now (text .entry)) ops (now (fresh .entry))) (map columnFrom (now (columns .entry))) (treeAt (now (text .entry)) a) (functionIn (treeAt (now (text .entry)) b)) (treeAt (now (text .entry)) v) .got) r ⌝ }
-{
-    let w = function_at(text, b);
-    match w {
-        Choice::Of(f) => subject_holds(text, ends, ops, fresh, columns, a, f, v, row),
-        Choice::Nothing => false,
-    }
-}
-
-// Whether a row meets the condition at `at`.
-fn test_holds(
-    text: &[u8],
-    ends: &[u16],
-    ops: Found,
-    fresh: &[u8],
-    columns: &[Entry],
-    at: usize,
-    row: &Row,
-) -> bool
-    requires { ⌜ Running (now text) (now ends) ops (now fresh) ⌝ }
-    requires { ⌜ wellAt (now text) at ≡ true ⌝ }
-    requires { ⌜ length (now columns) ≤ mostColumns ⌝ }
-    requires { ⌜ isFine (testAt (now text) ops (now fresh) (now columns) at .fault) ≡ true ⌝ }
-    ensures { λ r. ⌜ Holds (map columnFrom (now (columns .entry))) (now (row .entry)) (testAt (now (text .entry)) ops (now (fresh .entry)) (now (columns .entry)) at .got) r ⌝ }
-{
-    let t = lookup::triple_at(text, ends, at);
-    match t {
-        Triple::Of(a, b, v) => triple_holds(text, ends, ops, fresh, columns, a, b, v, row),
-        Triple::Other => false,
-    }
-}
-
-// Whether a row meets all conditions from f on.
-fn tests_hold(
-    text: &[u8],
-    ends: &[u16],
-    ops: Found,
-    fresh: &[u8],
-    columns: &[Entry],
-    f: Found,
-    row: &Row,
-) -> bool
-    requires { ⌜ Running (now text) (now ends) ops (now fresh) ⌝ }
-    requires { ⌜ itemsFine (now text) f ≡ true ⌝ }
-    requires { ⌜ length (now columns) ≤ mostColumns ⌝ }
-    requires { ⌜ isFine (testsAt (now text) ops (now fresh) (now columns) f .fault) ≡ true ⌝ }
-    ensures { λ r. ⌜ HoldAll (map columnFrom (now (columns .entry))) (now (row .entry)) (testsAt (now (text .entry)) ops (now (fresh .entry)) (now (columns .entry)) f .got) r ⌝ }
-{
-    let mut g = f;
-    loop {
-        match g {
-            Found::At(p) => {
-                let h = test_holds(text, ends, ops, fresh, columns, p, row);
-                if h {
-                    g = nav::next_item(text, ends, p);
-                } else {
-                    return false;
-                }
-            }
-            Found::Nothing => return true,
-        }
-    }
-}
-
-// Whether a row is one of a table and meets all conditions from f on.
-pub fn matches(
-    text: &[u8],
-    ends: &[u16],
-    ops: Found,
-    fresh: &[u8],
-    columns: &[Entry],
-    table: u8,
-    f: Found,
-    row: &Row,
-) -> bool
-    requires { ⌜ Running (now text) (now ends) ops (now fresh) ⌝ }
-    requires { ⌜ itemsFine (now text) f ≡ true ⌝ }
-    requires { ⌜ length (now columns) ≤ mostColumns ⌝ }
-    requires { ⌜ isFine (testsAt (now text) ops (now fresh) (now columns) f .fault) ≡ true ⌝ }
-    ensures { λ r. ⌜ ((s : Schema) → columnsOf s table ≡ map columnFrom (now (columns .entry)) → r ≡ matches table (testsAt (now (text .entry)) ops (now (fresh .entry)) (now (columns .entry)) f .got) (rowFrom s (now (row .entry)))) ⌝ }
-{
-    if table != rows::table_of(row) {
-        return false;
-    }
-    tests_hold(text, ends, ops, fresh, columns, f, row)
-}
-
-// How many of the first n rows are of a table and meet all conditions from f on.
-pub fn count_rows(
-    text: &[u8],
-    ends: &[u16],
-    ops: Found,
-    fresh: &[u8],
-    columns: &[Entry],
-    table: u8,
-    f: Found,
-    rows: &[Row],
-    n: usize,
-) -> usize
-    requires { ⌜ Running (now text) (now ends) ops (now fresh) ⌝ }
-    requires { ⌜ itemsFine (now text) f ≡ true ⌝ }
-    requires { ⌜ length (now columns) ≤ mostColumns ⌝ }
-    requires { ⌜ isFine (testsAt (now text) ops (now fresh) (now columns) f .fault) ≡ true ⌝ }
-    requires { ⌜ n ≤ length (now rows) ⌝ }
-    ensures { λ r. ⌜ ((s : Schema) → columnsOf s table ≡ map columnFrom (now (columns .entry)) → r ≡ count (matches table (testsAt (now (text .entry)) ops (now (fresh .entry)) (now (columns .entry)) f .got)) (working s n (now (rows .entry)))) ⌝ }
-{
-    let mut found = 0;
-    let mut i = 0;
-    while i < n {
-        let m = matches(text, ends, ops, fresh, columns, table, f, &rows[i]);
-        if m {
-            found += 1;
-        }
-        i += 1;
-    }
-    found
-}
-
-// The row at one place copied to another.
-fn copy_row(rows: &mut [Row], to: usize, from: usize)
-    requires { ⌜ (to ≤ from) × (from < length (now rows)) ⌝ }
-    ensures { λ _. ⌜ now (rows .exit) ≡ set (now (rows .entry)) to (getD (now (rows .entry)) from []) ⌝ }
-{
-    if from <= to {
-        return;
-    }
-    let r = rows[from];
-    rows[to] = r;
-}
-
-// The rows of a table that meet all conditions from f on taken out of the first n; how many are left.
-pub fn delete_rows(
-    text: &[u8],
-    ends: &[u16],
-    ops: Found,
-    fresh: &[u8],
-    columns: &[Entry],
-    table: u8,
-    f: Found,
-    rows: &mut [Row],
-    n: usize,
-) -> usize
-    requires { ⌜ Running (now text) (now ends) ops (now fresh) ⌝ }
-    requires { ⌜ itemsFine (now text) f ≡ true ⌝ }
-    requires { ⌜ length (now columns) ≤ mostColumns ⌝ }
-    requires { ⌜ isFine (testsAt (now text) ops (now fresh) (now columns) f .fault) ≡ true ⌝ }
-    requires { ⌜ n ≤ length (now rows) ⌝ }
-    ensures { λ r. ⌜ Deleted (map columnFrom (now (columns .entry))) table (testsAt (now (text .entry)) ops (now (fresh .entry)) (now (columns .entry)) f .got) n r (now (rows .entry)) (now (rows .exit)) ⌝ }
-{
-    let mut kept = 0;
-    let mut i = 0;
-    while i < n {
-        let m = matches(text, ends, ops, fresh, columns, table, f, &rows[i]);
-        if !m {
-            copy_row(rows, kept, i);
-            kept += 1;
-        }
-        i += 1;
-    }
-    kept
 }

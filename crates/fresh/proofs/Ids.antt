@@ -25,7 +25,7 @@ ids-at (suc n) (suc k) b h =
     let z : 16 + 16 * k ≡ 16 * suc k = omega arith in
     ap (λ l. value (take 16 l)) (sym (drop-drop (16 * k) 16 b ∙ ap (λ n. drop n b) z)) ∙ ids-at n k (drop 16 b) (omega arith)
 
-pub fresh-id : (fresh id : List ℕ) (k : ℕ) → k < 16 → length fresh ≡ 256 → id ≡ take 16 (drop (16 * k) fresh) → FreshId fresh k id
+pub fresh-id : (fresh id : List ℕ) (k : ℕ) → k < 16 → 256 ≤ length fresh → id ≡ take 16 (drop (16 * k) fresh) → FreshId fresh k id
 unfolding freshAt
 fresh-id fresh id k h n e =
     record {

@@ -21,9 +21,9 @@ fn same(a: &[u8], b: &[u8]) -> bool
     octets::equal(a, b)
 }
 
-// Fresh id k, lent.
+// Fresh id k, lent, of a slice that begins with the fresh ids.
 pub fn id_at<'f>(fresh: &'f [u8], k: usize) -> &'f [u8]
-    requires { ⌜ (length (now fresh) ≡ freshBytes) × (k < mostOperations) ⌝ }
+    requires { ⌜ (freshBytes ≤ length (now fresh)) × (k < mostOperations) ⌝ }
     ensures { λ r. ⌜ FreshId (now (fresh .entry)) k (now r) ⌝ }
 {
     &fresh[ID * k..ID * k + ID]

@@ -3,23 +3,23 @@ use mathlib.Core.Path.{_≡_, refl, sym, ap, subst, _∙_}
 use mathlib.Core.Bool.{true, false}
 use mathlib.Core.List.{List, [], _∷_, map}
 use mathlib.Core.Option.{Option, none, some}
-use Prim.Native.Nat.{ℕ, _<_}
+use Prim.Native.Nat.{ℕ}
 use lib.Dec.{eqb}
-use lib.ListN.{length, getD}
+use lib.ListN.{getD}
 use Rattle.model.specs.declared.Found.{Found}
 use Rattle.model.specs.declared.Found.the-variants.{At, Nothing}
 use Rattle.model.specs.declared.Fault.{Fault}
 use Rattle.model.specs.declared.Fault.the-variants.{Fine, Syntax, Constraint}
 use Rattle.model.specs.declared.Mutator.{Mutator}
 use Rattle.model.specs.Json.{Json}
-use Rattle.inner.specs.Positions.{treeAt, wellAt, nextItem}
+use Rattle.inner.specs.Positions.{treeAt, nextItem}
 use Rattle.inner.specs.Positions as Text
 use Rattle.model.specs.Catalog.{baseNumbered}
 use Rattle.model.specs.Schema.{Column, columnNamed}
 use Rattle.model.specs.Faults.{isFine, earlier, check}
 use Rattle.model.specs.Written.{Names}
 use Rattle.model.specs.Conditions.{isIntegerBase}
-use Rattle.model.specs.Mutations.{suits, noMutation, mutationBy, mutationOf, mutatorNamed, readMutations}
+use Rattle.model.specs.Mutations.{suits, noMutation, mutationBy, mutationOf, mutatorNamed, readMutation, readMutations}
 use Rattle.model.specs.Catalog.{columnFrom}
 use Rattle.model.proofs.Tests.{split, clash}
 use Rattle.model.proofs.FaultLaws.{earlier-fine}
@@ -28,10 +28,13 @@ use Rattle.uuids.specs.Named.{namesAt}
 use Rattle.conditions.proofs.Faulty.{earlier-last, earlier-assoc}
 use Rattle.lookup.specs.declared.Triple.{Triple}
 use Rattle.lookup.specs.declared.Triple.the-variants as triple
+use Rattle.catalog.specs.Entries.{foundAt}
 use Rattle.lookup.specs.Lookup.{columnIn, Thrice, Triples}
-use Rattle.mutation_step.specs.Steps.{operandOf}
-use Rattle.mutations.specs.Mutating.{mutatorIn, columnFault, mutationAs, mutationAt, mutationsAt}
-use Rattle.mutations.proofs.Naming.{nth-cells}
+use Rattle.mutations.specs.Steps.{operandOf}
+use Rattle.mutations.specs.Mutating.{mutatorIn, columnFault, Parted, PartsOf, mutationAt, mutationsAt}
+use Rattle.mutations.specs.declared.read.Parts.{Parts}
+use Rattle.mutations.specs.declared.read.Parts.the-variants as parts
+use Rattle.mutations.proofs.Naming.{nth-cells, column-some, column-none, column-place}
 
 -- ── what a column takes ──
 pub base-integer : (k : ℕ) → isIntegerBase (baseNumbered k) ≡ eqb k 0
@@ -65,81 +68,93 @@ module _ (names : Names) (c : Column) (m : Mutator) (j : Json) where
     unfolding operandOf
     by-got h = rw h
 
--- ── by its name, its mutator and its value ──
+-- ── by its three items ──
 no-mutator : (names : Names) (cs : List Column) (j : Json) (o : Option ℕ) → mutationOf names cs j o none ≡ noMutation
 no-mutator names cs j none = refl
 no-mutator names cs j (some k) = refl
 
-module _ (names : Names) (cells : List (List ℕ)) (a v : Json) where
-  abbrev cs : List Column
-  cs = map columnFrom cells
+module _ (s : List ℕ) (cells : List (List ℕ)) (at : ℕ) {t : Triple} (p : Triples s t (treeAt s at)) where
+  pub parts-other : t ≡ triple.Other → PartsOf s cells at parts.Nothing
+  unfolding Triples PartsOf
+  parts-other e names = ap (λ o. elim o [ none ↦ noMutation | some t ↦ mutationOf names (map columnFrom cells) (t .value) (columnNamed (map columnFrom cells) (t .name)) (mutatorNamed (t .word)) ]) (subst (λ t. Triples s t (treeAt s at)) e p)
 
-  pub mutator-none : {o : Option Mutator} → o ≡ none → mutationAs names cs a o v ≡ noMutation
-  unfolding mutationAs
-  mutator-none e = ap (mutationOf names cs v (columnIn cs a)) e ∙ no-mutator names cs v (columnIn cs a)
+  module _ {a b v : ℕ} (e : t ≡ triple.Of a b v) where
+    thrice : Thrice s a b v (treeAt s at)
+    unfolding Triples
+    thrice = subst (λ t. Triples s t (treeAt s at)) e p
 
-  pub column-missing : (o : Option Mutator) → columnIn cs a ≡ none → mutationAs names cs a o v ≡ noMutation
-  unfolding mutationAs
-  column-missing o e = ap (λ k. mutationOf names cs v k o) e
+    by-items : (names : Names) → readMutation names (map columnFrom cells) (treeAt s at) ≡ mutationOf names (map columnFrom cells) (treeAt s v) (columnIn (map columnFrom cells) (treeAt s a)) (mutatorIn (treeAt s b))
+    unfolding mutatorIn
+    by-items names =
+        ap (λ o. elim o [ none ↦ noMutation | some t ↦ mutationOf names (map columnFrom cells) (t .value) (columnNamed (map columnFrom cells) (t .name)) (mutatorNamed (t .word)) ]) (thrice .all)
+        ∙ ap (λ o. mutationOf names (map columnFrom cells) (treeAt s v) o (mutatorNamed (Text.wordIn (treeAt s b)))) (sym (ap (λ o. elim o [ none ↦ none | some w ↦ columnNamed (map columnFrom cells) w ]) (thrice .name)))
+        ∙ ap (mutationOf names (map columnFrom cells) (treeAt s v) (columnIn (map columnFrom cells) (treeAt s a))) (sym (ap (λ o. elim o [ none ↦ none | some w ↦ mutatorNamed w ]) (thrice .word)))
 
-  module _ (k : ℕ) (m : Mutator) (e : columnIn cs a ≡ some k) (l : k < length cells) where
-    by-column : mutationAs names cs a (some m) v ≡ mutationBy names v k m (columnFrom (getD cells k []))
-    unfolding mutationAs
-    by-column = ap (λ o. mutationOf names cs v o (some m)) e ∙ ap (λ o. elim o [ none ↦ noMutation | some c ↦ mutationBy names v k m c ]) (nth-cells cells k l)
+    pub parts-mutator : mutatorIn (treeAt s b) ≡ none → PartsOf s cells at parts.Nothing
+    unfolding PartsOf
+    parts-mutator h names = by-items names ∙ ap (mutationOf names (map columnFrom cells) (treeAt s v) (columnIn (map columnFrom cells) (treeAt s a))) h ∙ no-mutator names (map columnFrom cells) (treeAt s v) (columnIn (map columnFrom cells) (treeAt s a))
 
-    pub column-judged : mutationAs names cs a (some m) v .fault ≡ columnFault names (columnFrom (getD cells k [])) m v
-    column-judged = ap (λ q. q .fault) by-column ∙ by-fault names (columnFrom (getD cells k [])) m v k
+    module _ {f : Found} (ef : f ≡ foundAt (columnIn (map columnFrom cells) (treeAt s a))) where
+      pub parts-column : f ≡ Nothing → PartsOf s cells at parts.Nothing
+      unfolding PartsOf
+      parts-column h names = by-items names ∙ ap (λ k. mutationOf names (map columnFrom cells) (treeAt s v) k (mutatorIn (treeAt s b))) (column-none cells (treeAt s a) ef h)
 
-    pub column-got : suits (columnFrom (getD cells k [])) m ≡ true
-        → mutationAs names cs a (some m) v .got ≡ record { place = k; column = columnFrom (getD cells k []); mutator = m; atoms = operandOf names (columnFrom (getD cells k [])) m v .got }
-    column-got h = ap (λ q. q .got) by-column ∙ by-got names (columnFrom (getD cells k [])) m v k h
+      pub parts-all : {i : ℕ} {m : Mutator} → f ≡ At i → mutatorIn (treeAt s b) ≡ some m → PartsOf s cells at (parts.Of i m v)
+      unfolding PartsOf
+      parts-all {i} {m} h q = record {
+        place = column-place cells (treeAt s a) ef h;
+        well = thrice .well;
+        all = λ names.
+            by-items names
+            ∙ (λ j. mutationOf names (map columnFrom cells) (treeAt s v) (column-some cells (treeAt s a) ef h j) (q j))
+            ∙ ap (λ o. elim o [ none ↦ noMutation | some c ↦ mutationBy names (treeAt s v) i m c ]) (nth-cells cells i (column-place cells (treeAt s a) ef h));
+      }
 
--- ── the one at a position, by its three items ──
-module _ (s : List ℕ) (ops : Found) (fresh : List ℕ) (cells : List (List ℕ)) (at : ℕ) {t : Triple} (p : Triples s t (treeAt s at)) where
-  pub mutation-triple : {a b v : ℕ} → t ≡ triple.Of a b v → mutationAt s ops fresh cells at ≡ mutationAs (namesAt s ops fresh) (map columnFrom cells) (treeAt s a) (mutatorIn (treeAt s b)) (treeAt s v)
-  unfolding Triples mutationAt mutationAs mutatorIn
-  mutation-triple {a} {b} {v} e =
-      let q : Thrice s a b v (treeAt s at) = subst (λ t. Triples s t (treeAt s at)) e p in
-      let n = namesAt s ops fresh in
-      let cs = map columnFrom cells in
-      ap (λ o. elim o [ none ↦ noMutation | some t ↦ mutationOf n cs (t .value) (columnNamed cs (t .name)) (mutatorNamed (t .word)) ]) (q .all)
-      ∙ ap (λ o. mutationOf n cs (treeAt s v) o (mutatorNamed (Text.wordIn (treeAt s b)))) (sym (ap (λ o. elim o [ none ↦ none | some w ↦ columnNamed cs w ]) (q .name)))
-      ∙ ap (mutationOf n cs (treeAt s v) (columnIn cs (treeAt s a))) (sym (ap (λ o. elim o [ none ↦ none | some w ↦ mutatorNamed w ]) (q .word)))
+-- ── by its parts ──
+module _ (s : List ℕ) (names : List ℕ) (cells : List (List ℕ)) (at : ℕ) {t : Parts} (p : PartsOf s cells at t) where
+  pub parts-none : t ≡ parts.Nothing → mutationAt s names cells at ≡ noMutation
+  unfolding PartsOf mutationAt
+  parts-none e =
+      let q : PartsOf s cells at parts.Nothing = subst (PartsOf s cells at) e p in
+      q (namesAt s names)
 
-  pub value-well : {a b v : ℕ} → t ≡ triple.Of a b v → wellAt s v ≡ true
-  unfolding Triples
-  value-well {a} {b} {v} e = let q : Thrice s a b v (treeAt s at) = subst (λ t. Triples s t (treeAt s at)) e p in q .well
+  module _ {i : ℕ} {m : Mutator} {v : ℕ} (e : t ≡ parts.Of i m v) where
+    pub parted : Parted s cells at i m v
+    unfolding PartsOf
+    parted = subst (PartsOf s cells at) e p
 
-  pub mutation-other : t ≡ triple.Other → mutationAt s ops fresh cells at ≡ noMutation
-  unfolding Triples mutationAt
-  mutation-other e =
-      let n = namesAt s ops fresh in
-      let cs = map columnFrom cells in
-      ap (λ o. elim o [ none ↦ noMutation | some t ↦ mutationOf n cs (t .value) (columnNamed cs (t .name)) (mutatorNamed (t .word)) ]) (subst (λ t. Triples s t (treeAt s at)) e p)
+    pub parts-fault : mutationAt s names cells at .fault ≡ columnFault (namesAt s names) (columnFrom (getD cells i [])) m (treeAt s v)
+    unfolding mutationAt
+    parts-fault = ap (λ q. q .fault) (parted .all (namesAt s names)) ∙ by-fault (namesAt s names) (columnFrom (getD cells i [])) m (treeAt s v) i
+
+    pub parts-got : suits (columnFrom (getD cells i [])) m ≡ true
+        → mutationAt s names cells at .got ≡ record { place = i; column = columnFrom (getD cells i []); mutator = m; atoms = operandOf (namesAt s names) (columnFrom (getD cells i [])) m (treeAt s v) .got }
+    unfolding mutationAt
+    parts-got h = ap (λ q. q .got) (parted .all (namesAt s names)) ∙ by-got (namesAt s names) (columnFrom (getD cells i [])) m (treeAt s v) i h
 
 -- ── those from a place on ──
-module _ (s : List ℕ) (ops : Found) (fresh : List ℕ) (cells : List (List ℕ)) {g : Found} where
+module _ (s : List ℕ) (names : List ℕ) (cells : List (List ℕ)) {g : Found} where
   mutations-on : {p : ℕ} → g ≡ At p
-      → mutationsAt s ops fresh cells g ≡ record { fault = earlier (mutationAt s ops fresh cells p .fault) (mutationsAt s ops fresh cells (nextItem s p) .fault); got = mutationAt s ops fresh cells p .got ∷ mutationsAt s ops fresh cells (nextItem s p) .got }
+      → mutationsAt s names cells g ≡ record { fault = earlier (mutationAt s names cells p .fault) (mutationsAt s names cells (nextItem s p) .fault); got = mutationAt s names cells p .got ∷ mutationsAt s names cells (nextItem s p) .got }
   unfolding mutationsAt mutationAt
-  mutations-on h = ap (readMutations (namesAt s ops fresh) (map columnFrom cells)) (walk-rest s h)
+  mutations-on h = ap (readMutations (namesAt s names) (map columnFrom cells)) (walk-rest s h)
 
-  pub fault-on : {p : ℕ} → g ≡ At p → mutationsAt s ops fresh cells g .fault ≡ earlier (mutationAt s ops fresh cells p .fault) (mutationsAt s ops fresh cells (nextItem s p) .fault)
+  pub fault-on : {p : ℕ} → g ≡ At p → mutationsAt s names cells g .fault ≡ earlier (mutationAt s names cells p .fault) (mutationsAt s names cells (nextItem s p) .fault)
   fault-on h = ap (λ t. t .fault) (mutations-on h)
 
-  pub got-on : {p : ℕ} → g ≡ At p → mutationsAt s ops fresh cells g .got ≡ mutationAt s ops fresh cells p .got ∷ mutationsAt s ops fresh cells (nextItem s p) .got
+  pub got-on : {p : ℕ} → g ≡ At p → mutationsAt s names cells g .got ≡ mutationAt s names cells p .got ∷ mutationsAt s names cells (nextItem s p) .got
   got-on h = ap (λ t. t .got) (mutations-on h)
 
-  pub mutations-end : g ≡ Nothing → mutationsAt s ops fresh cells g ≡ record { fault = Fine; got = [] }
+  pub mutations-end : g ≡ Nothing → mutationsAt s names cells g ≡ record { fault = Fine; got = [] }
   unfolding mutationsAt
-  mutations-end h = ap (readMutations (namesAt s ops fresh) (map columnFrom cells)) (walk-end s h)
+  mutations-end h = ap (readMutations (namesAt s names) (map columnFrom cells)) (walk-end s h)
 
   -- a turn that keeps the earliest fault so far
-  pub worst-on : (all w t : Fault) {p : ℕ} → all ≡ earlier w (mutationsAt s ops fresh cells g .fault) → g ≡ At p → t ≡ mutationAt s ops fresh cells p .fault → {v : Fault} → v ≡ earlier w t
-      → all ≡ earlier v (mutationsAt s ops fresh cells (nextItem s p) .fault)
+  pub worst-on : (all w t : Fault) {p : ℕ} → all ≡ earlier w (mutationsAt s names cells g .fault) → g ≡ At p → t ≡ mutationAt s names cells p .fault → {v : Fault} → v ≡ earlier w t
+      → all ≡ earlier v (mutationsAt s names cells (nextItem s p) .fault)
   worst-on all w t {p} e h q {v} r =
-      let rest = mutationsAt s ops fresh cells (nextItem s p) .fault in
+      let rest = mutationsAt s names cells (nextItem s p) .fault in
       e ∙ ap (earlier w) (fault-on h) ∙ ap (λ x. earlier w (earlier x rest)) (sym q) ∙ earlier-assoc w t rest ∙ ap (λ x. earlier x rest) (sym r)
 
-  pub worst-end : (all w : Fault) → all ≡ earlier w (mutationsAt s ops fresh cells g .fault) → g ≡ Nothing → all ≡ w
+  pub worst-end : (all w : Fault) → all ≡ earlier w (mutationsAt s names cells g .fault) → g ≡ Nothing → all ≡ w
   worst-end all w e h = e ∙ ap (λ t. earlier w (t .fault)) (mutations-end h) ∙ earlier-last w

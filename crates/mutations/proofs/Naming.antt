@@ -16,7 +16,7 @@ use Rattle.model.specs.Text.{isWord}
 use Rattle.model.specs.Schema.{Column}
 use Rattle.model.specs.Catalog.{columnFrom}
 use Rattle.model.proofs.Tests.{split}
-use Rattle.fields.specs.Fields.{wordsFrom, wordsOf, choiceFrom, choice}
+use Rattle.members.specs.Fields.{wordsFrom, wordsOf, choiceFrom, choice}
 use Rattle.catalog.specs.Entries.{foundAt}
 use Rattle.lookup.specs.Lookup.{columnIn}
 use Rattle.mutations.specs.Mutating.{chosen, mutatorBy, mutatorIn}

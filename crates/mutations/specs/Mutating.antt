@@ -1,16 +1,18 @@
 -- Mutations by places of the text. Assumes nothing: these are definitions.
-use Prim.Native.Nat.{ℕ}
+use Prim.Native.Nat.{ℕ, _<_}
+use mathlib.Core.Path.{_≡_}
 use mathlib.Core.Bool.{true, false}
-use mathlib.Core.List.{List, map}
+use mathlib.Core.List.{List, [], map}
 use mathlib.Core.Option.{Option, none, some}
 use lib.Dec.{eqb}
+use lib.ListN.{length, getD}
 use Rattle.model.specs.Base.{if_then_else_}
 use Rattle.model.specs.Json.{Json}
-use Rattle.inner.specs.Positions.{treeAt, itemsFrom}
+use Rattle.inner.specs.Positions.{wellAt, treeAt, itemsFrom}
 use Rattle.model.specs.Schema.{Column}
 use Rattle.model.specs.Faults.{earlier, check, Judged}
 use Rattle.model.specs.Written.{Names, stringIn}
-use Rattle.model.specs.Mutations.{Mutation, mutatorNamed, suits, mutationOf, readMutation, readMutations}
+use Rattle.model.specs.Mutations.{Mutation, mutatorNamed, suits, noMutation, mutationBy, readMutation, readMutations}
 use Rattle.model.specs.Catalog.{columnFrom}
 use Rattle.model.specs.declared.Found.{Found}
 use Rattle.model.specs.declared.Fault.{Fault}
@@ -18,10 +20,11 @@ use Rattle.model.specs.declared.Fault.the-variants.{Fine, Syntax, Constraint}
 use Rattle.model.specs.declared.Mutator.{Mutator}
 use Rattle.model.specs.declared.Mutator.the-variants.{Add, Subtract, Multiply, Divide, Remainder, Insert, Delete}
 use Rattle.uuids.specs.Named.{namesAt}
-use Rattle.lookup.specs.Lookup.{columnIn}
-use Rattle.mutation_step.specs.Steps.{operandOf}
-use Rattle.mutations.specs.declared.Choice.{Choice}
-use Rattle.mutations.specs.declared.Choice.the-variants.{Of, Nothing}
+use Rattle.mutations.specs.Steps.{operandOf}
+use Rattle.mutations.specs.declared.read.Choice.{Choice}
+use Rattle.mutations.specs.declared.read.Choice.the-variants.{Of, Nothing}
+use Rattle.mutations.specs.declared.read.Parts.{Parts}
+use Rattle.mutations.specs.declared.read.Parts.the-variants as parts
 
 -- ── mutators ──
 unfoldable pub chosen : Choice → Option Mutator
@@ -49,14 +52,20 @@ mutatorIn j = elim (stringIn j) [ none ↦ none | some w ↦ mutatorNamed w ]
 unfoldable pub columnFault : Names → Column → Mutator → Json → Fault
 columnFault names c m j = elim (suits c m) [ true ↦ earlier (operandOf names c m j .fault) (check (c .mutable) Constraint Fine) | false ↦ Syntax ]
 
--- one by its name, its mutator and its value
-unfoldable pub mutationAs : Names → List Column → Json → Option Mutator → Json → Judged Mutation
-mutationAs names cs name m value = mutationOf names cs value (columnIn cs name) m
+-- one by its parts: the place of its column, its mutator, and where its value stands
+pub record Parted (text : List ℕ) (cells : List (List ℕ)) (at i : ℕ) (m : Mutator) (v : ℕ) : Type 0 where
+  pub place : i < length cells
+  pub well : wellAt text v ≡ true
+  pub all : (names : Names) → readMutation names (map columnFrom cells) (treeAt text at) ≡ mutationBy names (treeAt text v) i m (columnFrom (getD cells i []))
+
+unfoldable pub PartsOf : List ℕ → List (List ℕ) → ℕ → Parts → Type 0
+PartsOf text cells at (parts.Of i m v) = Parted text cells at i m v
+PartsOf text cells at parts.Nothing = (names : Names) → readMutation names (map columnFrom cells) (treeAt text at) ≡ noMutation
 
 -- the one at a position
-unfoldable pub mutationAt : List ℕ → Found → List ℕ → List (List ℕ) → ℕ → Judged Mutation
-mutationAt text ops fresh columns at = readMutation (namesAt text ops fresh) (map columnFrom columns) (treeAt text at)
+unfoldable pub mutationAt : List ℕ → List ℕ → List (List ℕ) → ℕ → Judged Mutation
+mutationAt text names columns at = readMutation (namesAt text names) (map columnFrom columns) (treeAt text at)
 
 -- those from a place on
-unfoldable pub mutationsAt : List ℕ → Found → List ℕ → List (List ℕ) → Found → Judged (List Mutation)
-mutationsAt text ops fresh columns f = readMutations (namesAt text ops fresh) (map columnFrom columns) (itemsFrom text f)
+unfoldable pub mutationsAt : List ℕ → List ℕ → List (List ℕ) → Found → Judged (List Mutation)
+mutationsAt text names columns f = readMutations (namesAt text names) (map columnFrom columns) (itemsFrom text f)

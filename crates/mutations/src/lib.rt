@@ -1,203 +1,109 @@
-// Mutations, [column, mutator, value], and how they are judged.
-use lookup::Triple;
+// Rows mutated: mutation by mutation on a row, row by row.
+pub mod read;
+pub mod step;
+
 use model::Entry;
 use model::Fault;
 use model::Found;
-use model::Mutator;
+use model::ROWS;
+use model::Row;
+use read::Parts;
 ghost use mathlib.Core.Path.{_≡_};
 ghost use mathlib.Core.Bool.{true};
 ghost use mathlib.Core.List.{map};
-ghost use Rattle.inner.specs.Positions.{wellAt, treeAt, itemsFine};
-ghost use Rattle.model.specs.Faults.{check};
-ghost use Rattle.model.specs.Mutations.{suits};
-ghost use Rattle.model.specs.declared.Fault.the-variants.{Fine, Constraint};
+ghost use Prim.Native.Nat.{_≤_};
+ghost use lib.ListN.{length};
+ghost use Rattle.model.specs.Limits.{mostColumns, mostRows};
+ghost use Rattle.inner.specs.Positions.{wellAt, itemsFine};
+ghost use Rattle.model.specs.Faults.{isFine};
 ghost use Rattle.model.specs.Catalog.{columnFrom};
-ghost use Rattle.uuids.specs.Named.{namesAt, Running};
-ghost use Rattle.mutation_step.specs.Steps.{operandOf};
-ghost use Rattle.mutations.specs.Mutating.{chosen, mutatorBy, mutatorIn, columnFault, mutationAs, mutationAt, mutationsAt};
+ghost use Rattle.uuids.specs.Named.{Running};
+ghost use Rattle.mutations.specs.Mutating.{mutationAt, mutationsAt};
+ghost use Rattle.mutations.specs.Rows.{RowStepped, RowMutated, MarkedMutated};
 
-// The mutator that a word is, or that it is none.
-pub enum Choice {
-    Of(Mutator),
-    Nothing,
-}
-
-// The mutator of a number.
-fn mutator_of(k: usize) -> Choice
-    ensures { λ r. ⌜ r ≡ mutatorBy k ⌝ }
-{
-    if k == 0 {
-        return Choice::Of(Mutator::Add);
-    }
-    if k == 1 {
-        return Choice::Of(Mutator::Subtract);
-    }
-    if k == 2 {
-        return Choice::Of(Mutator::Multiply);
-    }
-    if k == 3 {
-        return Choice::Of(Mutator::Divide);
-    }
-    if k == 4 {
-        return Choice::Of(Mutator::Remainder);
-    }
-    if k == 5 {
-        return Choice::Of(Mutator::Insert);
-    }
-    if k == 6 {
-        return Choice::Of(Mutator::Delete);
-    }
-    Choice::Nothing
-}
-
-// The mutator that the value at `at` names.
-pub fn mutator_at(text: &[u8], at: usize) -> Choice
-    ensures { λ r. ⌜ mutatorIn (treeAt (now (text .entry)) at) ≡ chosen r ⌝ }
-{
-    let k = fields::choose(
-        text,
-        at,
-        b"\x02+=\x02-=\x02*=\x02/=\x02%=\x06insert\x06delete",
-    );
-    mutator_of(k)
-}
-
-// Whether a column takes a mutator.
-fn suits(column: &Entry, m: Mutator) -> bool
-    ensures { λ r. ⌜ r ≡ suits (columnFrom (now (column .entry))) m ⌝ }
-{
-    let integer = catalog::kind(column) == 0;
-    let one = catalog::is_scalar(column);
-    match m {
-        Mutator::Insert => !one,
-        Mutator::Delete => !one,
-        _ => integer,
-    }
-}
-
-// How the value of a mutation is judged.
-fn value_fault(
+// The mutation at `at`, which has no fault, on a row; after a fault of the step the row is as it was.
+fn step_at(
     text: &[u8],
     ends: &[u16],
-    ops: Found,
-    fresh: &[u8],
-    column: &Entry,
-    m: Mutator,
-    at: usize,
-) -> Fault
-    requires { ⌜ Running (now text) (now ends) ops (now fresh) ⌝ }
-    requires { ⌜ wellAt (now text) at ≡ true ⌝ }
-    ensures { λ r. ⌜ r ≡ operandOf (namesAt (now (text .entry)) ops (now (fresh .entry))) (columnFrom (now (column .entry))) m (treeAt (now (text .entry)) at) .fault ⌝ }
-{
-    match m {
-        Mutator::Insert => judged::insert_fault(text, ends, ops, fresh, column, at),
-        Mutator::Delete => judged::delete_fault(text, ends, ops, fresh, column, at),
-        _ => judged::operand_fault(text, ends, ops, fresh, column, at),
-    }
-}
-
-// That a column cannot be changed, or no fault.
-fn fixed_fault(column: &Entry) -> Fault
-    ensures { λ r. ⌜ r ≡ check (columnFrom (now (column .entry)) .mutable) Constraint Fine ⌝ }
-{
-    if catalog::is_mutable(column) {
-        return Fault::Fine;
-    }
-    Fault::Constraint
-}
-
-// How a mutation on a column is judged.
-fn column_fault(
-    text: &[u8],
-    ends: &[u16],
-    ops: Found,
-    fresh: &[u8],
-    column: &Entry,
-    m: Mutator,
-    at: usize,
-) -> Fault
-    requires { ⌜ Running (now text) (now ends) ops (now fresh) ⌝ }
-    requires { ⌜ wellAt (now text) at ≡ true ⌝ }
-    ensures { λ r. ⌜ r ≡ columnFault (namesAt (now (text .entry)) ops (now (fresh .entry))) (columnFrom (now (column .entry))) m (treeAt (now (text .entry)) at) ⌝ }
-{
-    let ok = suits(column, m);
-    if ok {
-        let v = value_fault(text, ends, ops, fresh, column, m, at);
-        let w = fixed_fault(column);
-        return leaf::earlier(v, w);
-    }
-    Fault::Syntax
-}
-
-// How a mutation is judged, whose name stands at a, its word at b and its value at v.
-fn triple_fault(
-    text: &[u8],
-    ends: &[u16],
-    ops: Found,
-    fresh: &[u8],
-    columns: &[Entry],
-    a: usize,
-    b: usize,
-    v: usize,
-) -> Fault
-    requires { ⌜ Running (now text) (now ends) ops (now fresh) ⌝ }
-    requires { ⌜ wellAt (now text) v ≡ true ⌝ }
-    ensures { λ r. ⌜ r ≡ mutationAs (namesAt (now (text .entry)) ops (now (fresh .entry))) (map columnFrom (now (columns .entry))) (treeAt (now (text .entry)) a) (mutatorIn (treeAt (now (text .entry)) b)) (treeAt (now (text .entry)) v) .fault ⌝ }
-{
-    let f = lookup::column_at(text, a, columns);
-    let Found::At(i) = f else {
-        return Fault::Syntax;
-    };
-    let c = mutator_at(text, b);
-    match c {
-        Choice::Of(m) => column_fault(text, ends, ops, fresh, &columns[i], m, v),
-        Choice::Nothing => Fault::Syntax,
-    }
-}
-
-// How the mutation at `at` is judged.
-fn mutation_fault(
-    text: &[u8],
-    ends: &[u16],
-    ops: Found,
-    fresh: &[u8],
+    names: &[u8],
     columns: &[Entry],
     at: usize,
+    row: &mut Row,
 ) -> Fault
-    requires { ⌜ Running (now text) (now ends) ops (now fresh) ⌝ }
+    requires { ⌜ Running (now text) (now ends) (now names) ⌝ }
     requires { ⌜ wellAt (now text) at ≡ true ⌝ }
-    ensures { λ r. ⌜ r ≡ mutationAt (now (text .entry)) ops (now (fresh .entry)) (now (columns .entry)) at .fault ⌝ }
+    requires { ⌜ length (now columns) ≤ mostColumns ⌝ }
+    requires { ⌜ isFine (mutationAt (now text) (now names) (now columns) at .fault) ≡ true ⌝ }
+    ensures { λ r. ⌜ RowStepped (map columnFrom (now (columns .entry))) (mutationAt (now (text .entry)) (now (names .entry)) (now (columns .entry)) at .got) r (now (row .entry)) (now (row .exit)) ⌝ }
 {
-    let t = lookup::triple_at(text, ends, at);
+    let t = read::parts_at(text, ends, columns, at);
     match t {
-        Triple::Of(a, b, v) => triple_fault(text, ends, ops, fresh, columns, a, b, v),
-        Triple::Other => Fault::Syntax,
+        Parts::Of(i, m, v) => { step::mutate_column(text, ends, names, &columns[i], m, v, row, i) }
+        Parts::Nothing => Fault::Syntax,
     }
 }
 
-// How the mutations from f on are judged.
-pub fn mutations_fault(
+// The mutations from f on, which have no fault, on a row, up to the first step that fails; after a fault the row is free, but in
+// order.
+fn mutate_row(
     text: &[u8],
     ends: &[u16],
-    ops: Found,
-    fresh: &[u8],
+    names: &[u8],
     columns: &[Entry],
     f: Found,
+    row: &mut Row,
 ) -> Fault
-    requires { ⌜ Running (now text) (now ends) ops (now fresh) ⌝ }
+    requires { ⌜ Running (now text) (now ends) (now names) ⌝ }
     requires { ⌜ itemsFine (now text) f ≡ true ⌝ }
-    ensures { λ r. ⌜ r ≡ mutationsAt (now (text .entry)) ops (now (fresh .entry)) (now (columns .entry)) f .fault ⌝ }
+    requires { ⌜ length (now columns) ≤ mostColumns ⌝ }
+    requires { ⌜ isFine (mutationsAt (now text) (now names) (now columns) f .fault) ≡ true ⌝ }
+    ensures { λ r. ⌜ RowMutated (map columnFrom (now (columns .entry))) (mutationsAt (now (text .entry)) (now (names .entry)) (now (columns .entry)) f .got) r (now (row .entry)) (now (row .exit)) ⌝ }
 {
     let mut g = f;
-    let mut w = Fault::Fine;
     loop {
         match g {
             Found::At(p) => {
-                let t = mutation_fault(text, ends, ops, fresh, columns, p);
-                w = leaf::earlier(w, t);
+                let r = step_at(text, ends, names, columns, p, row);
+                let ok = leaf::is_fine(r);
+                if !ok {
+                    return r;
+                }
                 g = nav::next_item(text, ends, p);
             }
-            Found::Nothing => return w,
+            Found::Nothing => return Fault::Fine,
         }
     }
+}
+
+// The rows that are marked, of the first n, mutated row by row, up to the first step that fails; after a fault the rows are
+// free, but in order.
+pub fn mutate_rows(
+    text: &[u8],
+    ends: &[u16],
+    names: &[u8],
+    columns: &[Entry],
+    mutations: Found,
+    rows: &mut [Row],
+    n: usize,
+    marks: &[bool; ROWS],
+) -> Fault
+    requires { ⌜ Running (now text) (now ends) (now names) ⌝ }
+    requires { ⌜ itemsFine (now text) mutations ≡ true ⌝ }
+    requires { ⌜ length (now columns) ≤ mostColumns ⌝ }
+    requires { ⌜ isFine (mutationsAt (now text) (now names) (now columns) mutations .fault) ≡ true ⌝ }
+    requires { ⌜ (n ≤ mostRows) × (n ≤ length (now rows)) ⌝ }
+    ensures { λ r. ⌜ MarkedMutated (map columnFrom (now (columns .entry))) (mutationsAt (now (text .entry)) (now (names .entry)) (now (columns .entry)) mutations .got) n (now (marks .entry)) r (now (rows .entry)) (now (rows .exit)) ⌝ }
+{
+    let mut i = 0;
+    while i < n {
+        if marks[i] {
+            let r = mutate_row(text, ends, names, columns, mutations, &mut rows[i]);
+            let ok = leaf::is_fine(r);
+            if !ok {
+                return r;
+            }
+        }
+        i += 1;
+    }
+    Fault::Fine
 }

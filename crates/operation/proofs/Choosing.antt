@@ -1,9 +1,9 @@
 -- An operation by its word and its table. Assumes nothing.
-use mathlib.Core.Path.{_≡_, refl, sym, ap, subst, _∙_}
+use mathlib.Core.Path.{_≡_, refl, sym, ap, _∙_}
 use mathlib.Core.Bool.{Bool, true, false, _&&_}
 use mathlib.Core.List.{List, [], _∷_, map}
 use mathlib.Core.Option.{Option, none, some}
-use Prim.Native.Nat.{ℕ, zero, suc, _≤_, _<_}
+use Prim.Native.Nat.{ℕ, suc, _≤_, _<_}
 use native.Mathlib.Omega.{arith}
 use borrow.Author.Tests.{eq-eqb, ne-eqb}
 use lib.Dec.{eqb}
@@ -19,30 +19,32 @@ use Rattle.model.specs.Nav.{kindOf, isText}
 use Rattle.model.specs.Members.{membersIn, hasMember, memberValue}
 use Rattle.inner.specs.Positions.{Means}
 use Rattle.model.specs.Text.{isWord}
-use Rattle.model.specs.Schema.{Table, Schema, columnsOf, tableNamed}
+use Rattle.model.specs.Schema.{Table, Schema, tableNamed}
 use Rattle.model.specs.Rows.{Row}
 use Rattle.model.specs.Faults.{check}
 use Rattle.model.specs.Written.{Names, stringIn}
 use Rattle.model.specs.Transact.{freshIds}
 use Rattle.model.specs.Operations as Model
-use Rattle.model.specs.Catalog.{columnFrom, packedTables}
+use Rattle.model.specs.Catalog.{packedTables}
 use Rattle.inner.specs.Working.{working}
-use Rattle.model.proofs.Tests.{split}
-use Rattle.catalog.specs.Entries.{foundAt, columnsAt}
-use Rattle.fields.specs.Fields.{choiceFrom, choice, slotTree, Slots}
-use Rattle.area.proofs.Schemas.{tables-count, columns-in}
-use Rattle.answer.specs.Put.{Put}
-use Rattle.answer.proofs.Putting.{put-is}
+use Rattle.model.proofs.Tests.{split, clash}
+use Rattle.catalog.specs.Entries.{foundAt}
+use Rattle.members.specs.Fields.{choiceFrom, choice, slotTree, Slots}
+use Rattle.area.proofs.Schemas.{tables-count}
 use Rattle.uuids.specs.Named.{namesAt}
-use Rattle.fresh.specs.Fresh.{freshAt}
-use Rattle.assign.specs.Assigned.{slotted}
-use Rattle.assign.proofs.Faults.{find-there, find-missing}
+use Rattle.request_rows.specs.Assigned.{slotted}
+use Rattle.request_rows.proofs.Faults.{find-there, find-missing}
 use Rattle.lookup.specs.Lookup as lookup
 use Rattle.clauses.proofs.Slots.{slot-find}
+use Rattle.table_operations.specs.declared.Call.{Call}
 use Rattle.table_operations.specs.declared.Done.{Done}
-use Rattle.table_operations.specs.Ran.{Ran, inserting, selecting, updating, mutating, deleting}
+use Rattle.table_operations.specs.declared.Reply.{Reply}
+use Rattle.table_operations.specs.declared.Reply.the-variants.{Empty, Count, Id, Rows}
+use Rattle.table_operations.specs.declared.Operation.{Operation}
+use Rattle.table_operations.specs.declared.Operation.the-variants.{Insert, Select, Update, Mutate, Delete, Comment, Abort, Unknown}
+use Rattle.table_operations.specs.Ran.{Ready, Ran, Replies, Answers}
 use Rattle.table_operations.proofs.Doing.{ran-failed, ran-done}
-use Rattle.operation.specs.Performed.{commenting, aborting, pick, tabled, performed}
+use Rattle.operation.specs.Performed.{operationBy, operationNamed, operationIn, isOnTable, performed, Called, Begun, commenting, aborting}
 
 -- ── comment and abort ──
 and-true : {a b : Bool} → a ≡ true → b ≡ true → (a && b) ≡ true
@@ -75,37 +77,35 @@ module _ (text : List ℕ) (op : ℕ) {slots : List ℕ} (k : Slots text (ascii 
   comment-fault rows =
       λ i. check (k .listed i && (ap (λ (o : Option Json). isSome (stringOr o)) (slot-find k 1 (omega arith)) ∙ string-slot text (getD slots 1 0) ∙ sym et) i) Syntax Fine
 
-  pub comment-done : (s : Schema) (rows : List (List (List ℕ))) {n at e : ℕ} {before after : List ℕ} → n ≤ 32 → getD slots 9 0 ≡ 0 → t ≡ true → Put 2 before at (ascii "{}") e after
-      → Ran s (commenting text op (working s n rows)) n rows rows at before after (record { fault = Fine; count = n; at = e })
-  unfolding commenting
-  comment-done s rows {n} few l y put =
-      ran-done
-      few
-      (sym (comment-fault (working s n rows) ∙ ap (λ (b : Bool). check b Syntax Fine) (and-true (eq-eqb (getD slots 9 0) 0 l) y)))
-      refl
-      refl
-      (λ x. x)
-      (put-is put refl (omega arith))
+  module _ (s : Schema) (rows : List (List (List ℕ))) (id : ℕ) {n : ℕ} (few : n ≤ 32) where
+    pub comment-done : getD slots 9 0 ≡ 0 → t ≡ true → Ran s (commenting text op (working s n rows)) (Replies id) n rows rows (record { fault = Fine; count = n; reply = Empty })
+    unfolding commenting Replies
+    comment-done l y =
+        ran-done
+        few
+        (sym (comment-fault (working s n rows) ∙ ap (λ (b : Bool). check b Syntax Fine) (and-true (eq-eqb (getD slots 9 0) 0 l) y)))
+        refl
+        refl
+        (λ x. x)
+        refl
 
-  pub comment-untold : (s : Schema) (rows : List (List (List ℕ))) {n at : ℕ} {before : List ℕ} → n ≤ 32 → t ≡ false
-      → Ran s (commenting text op (working s n rows)) n rows rows at before before (record { fault = Syntax; count = n; at = at })
-  comment-untold s rows {n} few f =
-      ran-failed few (sym (comment-fault (working s n rows) ∙ ap (λ (b : Bool). check (eqb (getD slots 9 0) 0 && b) Syntax Fine) f ∙ ap (λ (b : Bool). check b Syntax Fine) (and-false (eqb (getD slots 9 0) 0)))) refl
+    pub comment-bare : t ≡ false → Ran s (commenting text op (working s n rows)) (Replies id) n rows rows (record { fault = Syntax; count = n; reply = Empty })
+    comment-bare f =
+        ran-failed few (sym (comment-fault (working s n rows) ∙ ap (λ (b : Bool). check (eqb (getD slots 9 0) 0 && b) Syntax Fine) f ∙ ap (λ (b : Bool). check b Syntax Fine) (and-false (eqb (getD slots 9 0) 0)))) refl
 
-  pub comment-extra : (s : Schema) (rows : List (List (List ℕ))) {n at : ℕ} {before : List ℕ} → n ≤ 32 → (getD slots 9 0 ≡ 0 → ⊥)
-      → Ran s (commenting text op (working s n rows)) n rows rows at before before (record { fault = Syntax; count = n; at = at })
-  comment-extra s rows {n} few f =
-      ran-failed few (sym (comment-fault (working s n rows) ∙ ap (λ (b : Bool). check (b && t) Syntax Fine) (ne-eqb (getD slots 9 0) 0 f))) refl
+    pub comment-extra : (getD slots 9 0 ≡ 0 → ⊥) → Ran s (commenting text op (working s n rows)) (Replies id) n rows rows (record { fault = Syntax; count = n; reply = Empty })
+    comment-extra f =
+        ran-failed few (sym (comment-fault (working s n rows) ∙ ap (λ (b : Bool). check (b && t) Syntax Fine) (ne-eqb (getD slots 9 0) 0 f))) refl
 
-module _ (text : List ℕ) (op : ℕ) {slots : List ℕ} (k : Slots text (ascii "op" ∷ []) (membersIn (treeAt text op)) slots) (s : Schema) (rows : List (List (List ℕ))) (before : List ℕ) (n at : ℕ) (few : n ≤ 32) where
+module _ (text : List ℕ) (op : ℕ) {slots : List ℕ} (k : Slots text (ascii "op" ∷ []) (membersIn (treeAt text op)) slots) (s : Schema) (rows : List (List (List ℕ))) (id : ℕ) {n : ℕ} (few : n ≤ 32) where
   abort-fault : {b : Bool} → eqb (getD slots 9 0) 0 ≡ b → check b Syntax Aborted ≡ aborting text op (working s n rows) .fault
   unfolding aborting
   abort-fault e = sym (ap (λ (b : Bool). check b Syntax Aborted) (k .listed ∙ e))
 
-  pub abort-done : getD slots 9 0 ≡ 0 → Ran s (aborting text op (working s n rows)) n rows rows at before before (record { fault = Aborted; count = n; at = at })
+  pub abort-done : getD slots 9 0 ≡ 0 → Ran s (aborting text op (working s n rows)) (Replies id) n rows rows (record { fault = Aborted; count = n; reply = Empty })
   abort-done l = ran-failed few (abort-fault (eq-eqb (getD slots 9 0) 0 l)) refl
 
-  pub abort-extra : (getD slots 9 0 ≡ 0 → ⊥) → Ran s (aborting text op (working s n rows)) n rows rows at before before (record { fault = Syntax; count = n; at = at })
+  pub abort-extra : (getD slots 9 0 ≡ 0 → ⊥) → Ran s (aborting text op (working s n rows)) (Replies id) n rows rows (record { fault = Syntax; count = n; reply = Empty })
   abort-extra l = ran-failed few (abort-fault (ne-eqb (getD slots 9 0) 0 l)) refl
 
 -- ── the table ──
@@ -159,127 +159,101 @@ module _ (cells : List (List ℕ)) (ms : List Named) {r : Found} (e : r ≡ foun
           let l = place-small w (map (λ (x : Table). x .name) (packedTables cells)) t q in
           omega (arith, l, length-map (packedTables cells) (λ (x : Table). x .name), tables-count cells 0 (getD (getD cells 0 []) 25 0))
 
--- ── an operation on a table, by its number ──
-module _ (text : List ℕ) (ops : Found) (fresh : List ℕ) (cells columns : List (List ℕ)) (k t i op n : ℕ) (given : List (List ℕ)) (rows : List (List (List ℕ))) where
-  abbrev s : Schema
-  s = packedTables cells
-
-  abbrev names : Names
-  names = namesAt text ops fresh
-
-  abbrev ms : List Named
-  ms = membersIn (treeAt text op)
-
-  abbrev work : List Row
-  work = working s n rows
-
-  abbrev id : ℕ
-  id = getD (freshIds fresh) i 0
-
-  abbrev on : ℕ → Model.Done
-  on j = tabled j s names given id work ms t
-
-  by-number : {exit : List (List (List ℕ))} {at : ℕ} {before after : List ℕ} {r : Done} {d : Model.Done} → (j : ℕ) → k ≡ j → d ≡ on j
-      → Ran s d n rows exit at before after r → Ran s (on k) n rows exit at before after r
-  by-number {exit} {at} {before} {after} {r} j e q o = subst (λ (x : Model.Done). Ran s x n rows exit at before after r) (q ∙ ap on (sym e)) o
-
-  module _ (same : columnsOf s t ≡ map columnFrom columns) {exit : List (List (List ℕ))} {at : ℕ} {before after : List ℕ} {r : Done} where
-    pub on-insert : k ≡ 0 → Ran s (inserting given (freshAt fresh i) text ops fresh op work t (map columnFrom columns)) n rows exit at before after r → Ran s (on k) n rows exit at before after r
-    unfolding tabled pick inserting freshAt
-    on-insert e o = by-number 0 e (ap (Model.runInsert names given id work ms t) (sym same)) o
-
-    pub on-update : k ≡ 2 → Ran s (updating text ops fresh op work t (map columnFrom columns)) n rows exit at before after r → Ran s (on k) n rows exit at before after r
-    unfolding tabled pick updating
-    on-update e o = by-number 2 e (ap (Model.runUpdate names work ms t) (sym same)) o
-
-    pub on-mutate : k ≡ 3 → Ran s (mutating text ops fresh op work t (map columnFrom columns)) n rows exit at before after r → Ran s (on k) n rows exit at before after r
-    unfolding tabled pick mutating
-    on-mutate e o = by-number 3 e (ap (Model.runMutate names work ms t) (sym same)) o
-
-    pub on-delete : k ≡ 4 → Ran s (deleting text ops fresh op work t (map columnFrom columns)) n rows exit at before after r → Ran s (on k) n rows exit at before after r
-    unfolding tabled pick deleting
-    on-delete e o = by-number 4 e (ap (Model.runDelete names work ms t) (sym same)) o
-
-  pub on-select : k ≡ 1 → {exit : List (List (List ℕ))} {at : ℕ} {before after : List ℕ} {r : Done}
-      → Ran s (selecting text ops fresh op work t (columnsOf s t)) n rows exit at before after r → Ran s (on k) n rows exit at before after r
-  unfolding tabled pick selecting
-  on-select e o = by-number 1 e refl o
-
--- the cells of its columns
-pub columns-same : (cells columns : List (List ℕ)) (t : ℕ) → t < getD (getD cells 0 []) 25 0 → columns ≡ columnsAt cells t → columnsOf (packedTables cells) t ≡ map columnFrom columns
-columns-same cells columns t h e = columns-in cells t h ∙ ap (map columnFrom) (sym e)
-
--- ── any operation, by its number ──
-module _ (s : Schema) (names : Names) (given : List (List ℕ)) (id : ℕ) (rows : List Row) (ms : List Named) (k : ℕ) where
-  pub performed-comment : k ≡ 5 → performed k s names given id rows ms ≡ Model.runComment rows ms
-  unfolding performed pick
-  performed-comment e = ap (λ (j : ℕ). performed j s names given id rows ms) e
-
-  pub performed-abort : k ≡ 6 → performed k s names given id rows ms ≡ Model.runAbort rows ms
-  unfolding performed pick
-  performed-abort e = ap (λ (j : ℕ). performed j s names given id rows ms) e
-
-  pub performed-none : 5 ≤ k → (k ≡ 5 → ⊥) → (k ≡ 6 → ⊥) → performed k s names given id rows ms ≡ Model.failed Syntax rows
-  unfolding performed pick
-  performed-none h a b =
-      rw
-      (performed, pick, ne-eqb k 0 (λ e. omega arith), ne-eqb k 1 (λ e. omega arith), ne-eqb k 2 (λ e. omega arith), ne-eqb k 3 (λ e. omega arith), ne-eqb k 4 (λ e. omega arith), ne-eqb k 5 a, ne-eqb k 6 b)
-
-  -- below 5 it is one on a table
-  below : (j : ℕ) → j < 5 → (o : Option ℕ) → Model.tableIn s ms ≡ o → performed j s names given id rows ms ≡ elim o [ none ↦ Model.failed Syntax rows | some t ↦ tabled j s names given id rows ms t ]
-  unfolding performed tabled pick
-  below zero h none e = ap (Model.onTable s (Model.runInsert names given id rows ms) rows) e
-  below zero h (some t) e = ap (Model.onTable s (Model.runInsert names given id rows ms) rows) e
-  below (suc zero) h none e = ap (Model.onTable s (Model.runSelect names rows ms) rows) e
-  below (suc zero) h (some t) e = ap (Model.onTable s (Model.runSelect names rows ms) rows) e
-  below (suc (suc zero)) h none e = ap (Model.onTable s (Model.runUpdate names rows ms) rows) e
-  below (suc (suc zero)) h (some t) e = ap (Model.onTable s (Model.runUpdate names rows ms) rows) e
-  below (suc (suc (suc zero))) h none e = ap (Model.onTable s (Model.runMutate names rows ms) rows) e
-  below (suc (suc (suc zero))) h (some t) e = ap (Model.onTable s (Model.runMutate names rows ms) rows) e
-  below (suc (suc (suc (suc zero)))) h none e = ap (Model.onTable s (Model.runDelete names rows ms) rows) e
-  below (suc (suc (suc (suc zero)))) h (some t) e = ap (Model.onTable s (Model.runDelete names rows ms) rows) e
-  below (suc (suc (suc (suc (suc j))))) h o e = absurd (omega arith)
-
-  pub performed-on : k < 5 → {t : ℕ} → Model.tableIn s ms ≡ some t → performed k s names given id rows ms ≡ tabled k s names given id rows ms t
-  performed-on h {t} e = below k h (some t) e
-
-  pub performed-nowhere : k < 5 → Model.tableIn s ms ≡ none → performed k s names given id rows ms ≡ Model.failed Syntax rows
-  performed-nowhere h e = below k h none e
-
 -- ── the word ──
 abbrev pub operations : List (List ℕ)
 operations = ascii "insert" ∷ ascii "select" ∷ ascii "update" ∷ ascii "mutate" ∷ ascii "delete" ∷ ascii "comment" ∷ ascii "abort" ∷ []
 
-picked : {A : Type 0} (d0 d1 d2 d3 d4 d5 d6 other : A) (a b c d e f g : Bool)
-    → elim a [ true ↦ d0 | false ↦ elim b [ true ↦ d1 | false ↦ elim c [ true ↦ d2 | false ↦ elim d [ true ↦ d3 | false ↦ elim e [ true ↦ d4 | false ↦ elim f [ true ↦ d5 | false ↦ elim g [ true ↦ d6 | false ↦ other ] ] ] ] ] ] ]
-    ≡ pick (elim a [ true ↦ 0 | false ↦ elim b [ true ↦ 1 | false ↦ elim c [ true ↦ 2 | false ↦ elim d [ true ↦ 3 | false ↦ elim e [ true ↦ 4 | false ↦ elim f [ true ↦ 5 | false ↦ elim g [ true ↦ 6 | false ↦ 9 ] ] ] ] ] ] ]) d0 d1 d2 d3 d4 d5 d6 other
-unfolding pick
-picked d0 d1 d2 d3 d4 d5 d6 other true b c d e f g = refl
-picked d0 d1 d2 d3 d4 d5 d6 other false true c d e f g = refl
-picked d0 d1 d2 d3 d4 d5 d6 other false false true d e f g = refl
-picked d0 d1 d2 d3 d4 d5 d6 other false false false true e f g = refl
-picked d0 d1 d2 d3 d4 d5 d6 other false false false false true f g = refl
-picked d0 d1 d2 d3 d4 d5 d6 other false false false false false true g = refl
-picked d0 d1 d2 d3 d4 d5 d6 other false false false false false false true = refl
-picked d0 d1 d2 d3 d4 d5 d6 other false false false false false false false = refl
+numbered : (a b c d e f g : Bool)
+    → operationBy (elim a [ true ↦ 0 | false ↦ elim b [ true ↦ 1 | false ↦ elim c [ true ↦ 2 | false ↦ elim d [ true ↦ 3 | false ↦ elim e [ true ↦ 4 | false ↦ elim f [ true ↦ 5 | false ↦ elim g [ true ↦ 6 | false ↦ 9 ] ] ] ] ] ] ])
+    ≡ elim a [ true ↦ Insert | false ↦ elim b [ true ↦ Select | false ↦ elim c [ true ↦ Update | false ↦ elim d [ true ↦ Mutate | false ↦ elim e [ true ↦ Delete | false ↦ elim f [ true ↦ Comment | false ↦ elim g [ true ↦ Abort | false ↦ Unknown ] ] ] ] ] ] ]
+unfolding operationBy
+numbered true b c d e f g = refl
+numbered false true c d e f g = refl
+numbered false false true d e f g = refl
+numbered false false false true e f g = refl
+numbered false false false false true f g = refl
+numbered false false false false false true g = refl
+numbered false false false false false false true = refl
+numbered false false false false false false false = refl
 
+abbrev namedOr : Option (List ℕ) → Operation
+namedOr o = elim o [ none ↦ Unknown | some w ↦ operationNamed w ]
+
+-- by its number or by its word, an operation is the same
+by-word : (j : Json) → operationBy (choice operations j) ≡ namedOr (stringIn j)
+unfolding operationBy operationNamed choice choiceFrom isWord
+by-word null = refl
+by-word (bool b) = refl
+by-word (num t) = refl
+by-word (str w) =
+    numbered
+    (eqBytes w (ascii "insert"))
+    (eqBytes w (ascii "select"))
+    (eqBytes w (ascii "update"))
+    (eqBytes w (ascii "mutate"))
+    (eqBytes w (ascii "delete"))
+    (eqBytes w (ascii "comment"))
+    (eqBytes w (ascii "abort"))
+by-word (arr xs) = refl
+by-word (obj m) = refl
+
+module _ (text : List ℕ) (ms : List Named) {f : Found} (m : Means text f (hasMember (ascii "op") ms) (memberValue (ascii "op") ms)) where
+  pub operation-there : {p k : ℕ} {r : Operation} → f ≡ At p → k ≡ choice operations (treeAt text p) → r ≡ operationBy k → r ≡ operationIn ms
+  unfolding operationIn
+  operation-there {p} e h q = q ∙ ap operationBy h ∙ by-word (treeAt text p) ∙ sym (ap (λ (o : Option Json). namedOr (stringOr o)) (find-there text ms m refl e .0))
+
+  pub operation-missing : f ≡ Nothing → Unknown ≡ operationIn ms
+  unfolding operationIn
+  operation-missing e = sym (ap (λ (o : Option Json). namedOr (stringOr o)) (find-missing text ms m refl e))
+
+-- ── what the model does ──
 module _ (s : Schema) (names : Names) (given : List (List ℕ)) (id : ℕ) (rows : List Row) (ms : List Named) where
-  -- by its number or by its word, an operation is the same
-  by-word : (j : Json) → Model.perform s names given id rows ms (stringIn j) ≡ performed (choice operations j) s names given id rows ms
-  unfolding performed pick choice choiceFrom isWord
-  by-word null = refl
-  by-word (bool b) = refl
-  by-word (num t) = refl
-  by-word (str w) =
-      picked
-      (Model.onTable s (Model.runInsert names given id rows ms) rows (Model.tableIn s ms))
-      (Model.onTable s (Model.runSelect names rows ms) rows (Model.tableIn s ms))
-      (Model.onTable s (Model.runUpdate names rows ms) rows (Model.tableIn s ms))
-      (Model.onTable s (Model.runMutate names rows ms) rows (Model.tableIn s ms))
-      (Model.onTable s (Model.runDelete names rows ms) rows (Model.tableIn s ms))
-      (Model.runComment rows ms)
-      (Model.runAbort rows ms)
-      (Model.failed Syntax rows)
+  abbrev does : Operation → ℕ → Model.Done
+  does k t = performed k s names given id rows ms t
+
+  -- an operation by its table
+  abbrev doesOn : Operation → Option ℕ → Model.Done
+  doesOn k o = elim (isOnTable k) [ true ↦ elim o [ none ↦ Model.failed Syntax rows | some t ↦ does k t ] | false ↦ does k 0 ]
+
+  one-of : (o : Option ℕ) (a b c d e f g : Bool)
+      → elim a [
+        | true ↦ Model.onTable s (Model.runInsert names given id rows ms) rows o
+        | false ↦ elim b [
+          | true ↦ Model.onTable s (Model.runSelect names rows ms) rows o
+          | false ↦ elim c [
+            | true ↦ Model.onTable s (Model.runUpdate names rows ms) rows o
+            | false ↦ elim d [
+              | true ↦ Model.onTable s (Model.runMutate names rows ms) rows o
+              | false ↦ elim e [
+                | true ↦ Model.onTable s (Model.runDelete names rows ms) rows o
+                | false ↦ elim f [ true ↦ Model.runComment rows ms | false ↦ elim g [ true ↦ Model.runAbort rows ms | false ↦ Model.failed Syntax rows ] ]
+              ]
+            ]
+          ]
+        ]
+      ]
+      ≡ doesOn (elim a [ true ↦ Insert | false ↦ elim b [ true ↦ Select | false ↦ elim c [ true ↦ Update | false ↦ elim d [ true ↦ Mutate | false ↦ elim e [ true ↦ Delete | false ↦ elim f [ true ↦ Comment | false ↦ elim g [ true ↦ Abort | false ↦ Unknown ] ] ] ] ] ] ]) o
+  unfolding performed isOnTable
+  one-of none true b c d e f g = refl
+  one-of (some t) true b c d e f g = refl
+  one-of none false true c d e f g = refl
+  one-of (some t) false true c d e f g = refl
+  one-of none false false true d e f g = refl
+  one-of (some t) false false true d e f g = refl
+  one-of none false false false true e f g = refl
+  one-of (some t) false false false true e f g = refl
+  one-of none false false false false true f g = refl
+  one-of (some t) false false false false true f g = refl
+  one-of o false false false false false true g = refl
+  one-of o false false false false false false true = refl
+  one-of o false false false false false false false = refl
+
+  by-name : (w : Option (List ℕ)) → Model.perform s names given id rows ms w ≡ doesOn (namedOr w) (Model.tableIn s ms)
+  unfolding performed isOnTable operationNamed
+  by-name none = refl
+  by-name (some w) =
+      one-of
+      (Model.tableIn s ms)
       (eqBytes w (ascii "insert"))
       (eqBytes w (ascii "select"))
       (eqBytes w (ascii "update"))
@@ -287,21 +261,103 @@ module _ (s : Schema) (names : Names) (given : List (List ℕ)) (id : ℕ) (rows
       (eqBytes w (ascii "delete"))
       (eqBytes w (ascii "comment"))
       (eqBytes w (ascii "abort"))
-  by-word (arr xs) = refl
-  by-word (obj m) = refl
 
-  abbrev performOr : Option Json → Model.Done
-  performOr o = Model.perform s names given id rows ms (stringOr o)
+  module _ {k : Operation} (ek : k ≡ operationIn ms) where
+    operates : Model.operate s names given id rows ms ≡ doesOn k (Model.tableIn s ms)
+    unfolding operationIn
+    operates = by-name (Model.memberAs stringIn (ascii "op") ms) ∙ ap (λ (j : Operation). doesOn j (Model.tableIn s ms)) (sym ek)
 
-  module _ (text : List ℕ) {f : Found} (m : Means text f (hasMember (ascii "op") ms) (memberValue (ascii "op") ms)) where
-    pub operate-there : {p k : ℕ} → f ≡ At p → k ≡ choice operations (treeAt text p) → Model.operate s names given id rows ms ≡ performed k s names given id rows ms
-    operate-there {p} {k} e h =
-        ap performOr (find-there text ms m refl e .0) ∙ by-word (treeAt text p) ∙ ap (λ (j : ℕ). performed j s names given id rows ms) (sym h)
+    module _ (on : isOnTable k ≡ true) where
+      on-table : Model.operate s names given id rows ms ≡ elim (Model.tableIn s ms) [ none ↦ Model.failed Syntax rows | some t ↦ does k t ]
+      on-table =
+          operates
+          ∙ ap (λ (b : Bool). elim b [ true ↦ elim (Model.tableIn s ms) [ none ↦ Model.failed Syntax rows | some t ↦ does k t ] | false ↦ does k 0 ]) on
 
-    pub operate-missing : f ≡ Nothing → Model.operate s names given id rows ms ≡ Model.failed Syntax rows
-    operate-missing e = ap performOr (find-missing text ms m refl e)
+      pub operates-on : {t : ℕ} → Model.tableIn s ms ≡ some t → Model.operate s names given id rows ms ≡ does k t
+      operates-on e = on-table ∙ ap (λ (o : Option ℕ). elim o [ none ↦ Model.failed Syntax rows | some t ↦ does k t ]) e
 
--- ── what was done is what the operation is ──
-pub ran-as : {s : Schema} {d x : Model.Done} {n at : ℕ} {entry exit : List (List (List ℕ))} {before after : List ℕ} {r : Done}
-    → x ≡ d → Ran s d n entry exit at before after r → Ran s x n entry exit at before after r
-ran-as {s} {n = n} {at} {entry} {exit} {before} {after} {r} e o = subst (λ (y : Model.Done). Ran s y n entry exit at before after r) (sym e) o
+      pub operates-nowhere : Model.tableIn s ms ≡ none → Model.operate s names given id rows ms ≡ does Unknown 0
+      unfolding performed
+      operates-nowhere e = on-table ∙ ap (λ (o : Option ℕ). elim o [ none ↦ Model.failed Syntax rows | some t ↦ does k t ]) e
+
+    pub operates-off : isOnTable k ≡ false → Model.operate s names given id rows ms ≡ does k 0
+    operates-off off =
+        operates
+        ∙ ap (λ (b : Bool). elim b [ true ↦ elim (Model.tableIn s ms) [ none ↦ Model.failed Syntax rows | some t ↦ does k t ] | false ↦ does k 0 ]) off
+
+-- ── a call ──
+module _ (cells : List (List ℕ)) (ms : List Named) {i op : ℕ} {k : Operation} (ek : k ≡ operationIn ms) where
+  pub called-off : isOnTable k ≡ false → Called cells ms (record { operation = k; number = i; at = op; table = 0 })
+  called-off off =
+      record {
+        does = λ names given id rows. operates-off (packedTables cells) names given id rows ms ek off;
+        here = λ on. absurd (clash (isOnTable k) on off);
+      }
+
+  module _ (on : isOnTable k ≡ true) {f : Found} (ef : f ≡ foundAt (Model.tableIn (packedTables cells) ms)) where
+    pub called-on : {t : ℕ} → f ≡ At t → Called cells ms (record { operation = k; number = i; at = op; table = t })
+    called-on h =
+        record {
+          does = λ names given id rows. operates-on (packedTables cells) names given id rows ms ek on (table-is cells ms ef h);
+          here = λ _. table-small cells ms ef h;
+        }
+
+    pub called-nowhere : f ≡ Nothing → Called cells ms (record { operation = Unknown; number = i; at = op; table = 0 })
+    unfolding isOnTable
+    called-nowhere h =
+        record {
+          does = λ names given id rows. operates-nowhere (packedTables cells) names given id rows ms ek on (table-none cells ms ef h);
+          here = λ x. absurd (clash false x refl);
+        }
+
+-- ── what is done is what the call is ──
+-- an operation that writes nothing leaves any answer alone
+plain : (id at : ℕ) (out : List ℕ) (q : Reply) (t : List ℕ) → Replies id q t → Answers id at out out q t
+unfolding Replies Answers
+plain id at out Empty t h = (h, refl)
+plain id at out (Count k) t h = (h, refl)
+plain id at out Id t h = (h, refl)
+plain id at out (Rows e) t h = absurd h
+
+pub ran-plain : {s : Schema} {d : Model.Done} (id : ℕ) {n : ℕ} {entry exit : List (List (List ℕ))} {r : Done} (at : ℕ) (out : List ℕ) → Ran s d (Replies id) n entry exit r → Ran s d (Answers id at out out) n entry exit r
+ran-plain {d = d} id {r = r} at out o =
+    record {
+      fault = o .fault;
+      few = o .few;
+      rows = o .rows;
+      reply = λ f. plain id at out (r .reply) (d .answer) (o .reply f);
+      still = o .still;
+      tidy = o .tidy;
+    }
+
+module _ {text ends : List ℕ} {names : List ℕ} {cells : List (List ℕ)} {call : Call} {n : ℕ} {rows : List (List (List ℕ))} (b : Begun text ends names cells call n rows) where
+  pub ready : isOnTable (call .operation) ≡ true → Ready text ends names cells call n rows
+  ready on =
+      record {
+        running = b .running;
+        well = b .well;
+        early = b .early;
+        accepted = b .accepted;
+        here = b .called .here on;
+        count = b .count;
+        room = b .room;
+      }
+
+  pub on-a-table : {k : Operation} → call .operation ≡ k → isOnTable k ≡ true → isOnTable (call .operation) ≡ true
+  on-a-table e on = ap isOnTable e ∙ on
+
+  abbrev s : Schema
+  s = packedTables cells
+
+  abbrev ms : List Named
+  ms = membersIn (treeAt text (call .at))
+
+  abbrev work : List Row
+  work = working s n rows
+
+  -- the operation of the model, by what the call is
+  pub operates-as : (given : List (List ℕ)) {k : Operation} → call .operation ≡ k
+      → Model.operate s (namesAt text names) given (getD (freshIds names) (call .number) 0) work ms ≡ performed k s (namesAt text names) given (getD (freshIds names) (call .number) 0) work ms (call .table)
+  operates-as given e =
+      b .called .does (namesAt text names) given (getD (freshIds names) (call .number) 0) work
+      ∙ ap (λ (j : Operation). performed j s (namesAt text names) given (getD (freshIds names) (call .number) 0) work ms (call .table)) e

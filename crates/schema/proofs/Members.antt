@@ -21,10 +21,10 @@ use Rattle.model.specs.SchemaText.{must, may, isString, isStringOf, isId, versi
 use Rattle.model.proofs.Tests.{split, clash, and-l, and-r}
 use Rattle.names.specs.Names.{shortCell, nameCell}
 use Rattle.names.proofs.Cells.{name-none}
-use Rattle.fields.specs.Fields.{slotTree, Slots}
-use Rattle.fields.proofs.Kept.{slot-none}
-use Rattle.fields.proofs.Slotted.{at-some, must-null, may-slot}
-use Rattle.types.proofs.Keys.{both}
+use Rattle.members.specs.Fields.{slotTree, Slots}
+use Rattle.members.proofs.Kept.{slot-none}
+use Rattle.members.proofs.Slotted.{at-some, must-null, may-slot}
+use Rattle.column_types.proofs.Keys.{both}
 use Rattle.columns.proofs.Gathering.{cell-id}
 use Rattle.tables.specs.Tables.{tableWith, FewColumns, TablesRead}
 use Rattle.tables.proofs.Cells.{name-front}

@@ -12,7 +12,7 @@ use Rattle.model.specs.Catalog.{tableCount, columnCount, databaseFrom}
 use Rattle.model.specs.Limits.{mostTables, mostColumns, entryCount}
 use Rattle.model.specs.SchemaText.{isString, isStringOf, isVersion, schemaFits, databaseOf, readSchema}
 use Rattle.catalog.specs.Accepted.{Accepted}
-use Rattle.fields.specs.Fields.{slotTree}
+use Rattle.members.specs.Fields.{slotTree}
 use Rattle.tables.specs.Tables.{FewColumns}
 
 -- the tests of a schema's members but tables, by its slots; id says whether its name is one

@@ -1,5 +1,5 @@
 // A schema's text read into a catalog.
-use fields::Places;
+use members::Places;
 use model::ATOM;
 use model::Atom;
 use model::Catalog;
@@ -21,7 +21,7 @@ ghost use Rattle.model.specs.SchemaText.{isStringOf, isVersion};
 ghost use Rattle.model.specs.Limits.{mostSchemaBytes, atomBytes, entryCount};
 ghost use Rattle.model.specs.Catalog.{blankEntry};
 ghost use Rattle.names.specs.Names.{nameCell};
-ghost use Rattle.fields.specs.Fields.{slotTree};
+ghost use Rattle.members.specs.Fields.{slotTree};
 ghost use Rattle.tables.specs.Tables.{TablesRead};
 ghost use Rattle.schema.specs.Schema.{restTold, Filled, EntriesRead, SchemaRead};
 
@@ -68,7 +68,7 @@ fn rest_fits(text: &[u8], f: Places, id: bool) -> bool
     ensures { λ r. ⌜ r ≡ restTold (now (text .entry)) f id ⌝ }
 {
     let v = version_in(text, f[1]);
-    let k = fields::kind_in(text, f[3]);
+    let k = members::kind_in(text, f[3]);
     let c = leaf::is_kind(k, Kind::Text);
     (f[9] == 0) & (id & (v & ((f[3] == 0) | c)))
 }
@@ -81,7 +81,7 @@ fn fill(text: &[u8], ends: &[u16], cells: &mut [Entry]) -> bool
     requires { ⌜ now cells ≡ replicate entryCount blankEntry ⌝ }
     ensures { λ r. ⌜ Filled (treeAt (now (text .entry)) 0) r (now (cells .exit)) ⌝ }
 {
-    let f = fields::fields(text, ends, 0, b"\x04name\x07version\x06tables\x05cksum");
+    let f = members::fields(text, ends, 0, b"\x04name\x07version\x06tables\x05cksum");
     let name = name_in(text, f[0]);
     let id = catalog::rules::is_id(atom::text_of(&name));
     let ok = rest_fits(text, f, id);

@@ -6,10 +6,10 @@ use Prim.Native.Nat.{ℕ, zero, suc, _+_, _-_, _*_, _≤_, _<_}
 use native.Mathlib.Nat.{add-zero}
 use native.Mathlib.Numerals.{add-one}
 use native.Mathlib.Omega.{arith}
-use borrow.Author.Tests.{eqb-true, eqb-false}
+use borrow.Author.Tests.{eqb-true}
 use lib.Dec.{eqb}
-use lib.ListN.{length, getD, take, drop, set, length-set, length-map, length-drop, List·getD-map, drop-of-length-le}
-use lib.Seq.{drop-cons, getD-set-same, getD-set-other, getD-take, getD-drop, length-take-le}
+use lib.ListN.{length, getD, take, drop, length-map, length-drop, List·getD-map, drop-of-length-le}
+use lib.Seq.{drop-cons, getD-take, getD-drop, length-take-le, take-length}
 use Rattle.model.specs.Base.{if_then_else_, any, all, keep, ascii}
 use Rattle.model.specs.Schema.{Column, Schema, columnsOf}
 use Rattle.model.specs.Value.{sameValue}
@@ -23,14 +23,17 @@ use Rattle.inner.specs.Working.{working, tableIn, idIn, valueIn}
 use Rattle.model.proofs.Tests.{split, and-l}
 use Rattle.inner.proofs.Working.{row-table, row-id, working-on, working-end}
 use Rattle.references.proofs.Links.{values-on}
+use Rattle.answer.specs.Put.{Put}
 use Rattle.answer.specs.Texts.{commaText, joined}
+use Rattle.answer.proofs.Putting.{put-is}
 use Rattle.answer.proofs.Joins.{rows-is}
 use Rattle.catalog.specs.Entries.{columnsAt}
 use Rattle.area.proofs.Schemas.{columns-in}
 use Rattle.projection.specs.Shown.{shownText, rowShown}
 use Rattle.projection.proofs.Rows.{row-text}
 use Rattle.selection.specs.Shown.{Flagged}
-use Rattle.selection.specs.Picks.{sameFrom, sameBy, repeated, picked, pickedFrom, Marked, selected}
+use Rattle.marks.specs.Marks.{MarkedRows}
+use Rattle.selection.specs.Picks.{sameFrom, sameBy, repeated, picked, pickedFrom, selected, Selected}
 
 -- ── two rows that show the same ──
 module _ (show : List ℕ → Bool) (cells : List (List ℕ)) (flags : List Bool) (fl : Flagged show cells flags) (s : Schema) (x y : List (List ℕ))
@@ -149,24 +152,6 @@ module _ (flags : List Bool) (x y : List (List ℕ)) (c k : ℕ) where
   pub columns-end : k ≤ c → sameFrom flags x y c (k - c) ≡ true
   columns-end h = let z : k - c ≡ 0 = omega arith in ap (sameFrom flags x y c) z
 
--- ── marks ──
-module _ (cs : List Column) (ts : List Test) (table : ℕ) (rows : List (List (List ℕ))) where
-  -- the rows before i are done
-  pub record Marking (i : ℕ) (marks : List Bool) : Type 0 where
-    pub size : length marks ≡ 32
-    pub mark : (s : Schema) → columnsOf s table ≡ cs → (j : ℕ) → j < i → getD marks j false ≡ matches table ts (rowFrom s (getD rows j []))
-
-  pub marking-on : (i : ℕ) {marks : List Bool} {m : Bool} → i < 32 → Marking i marks → ((s : Schema) → columnsOf s table ≡ cs → m ≡ matches table ts (rowFrom s (getD rows i []))) → Marking (i + 1) (set marks i m)
-  marking-on i {marks} {m} h g e = record {
-    size = length-set marks i m ∙ g .size;
-    mark = λ s w j l. split (eqb j i)
-        (λ q. let z : j ≡ i = eqb-true j i q in rw z (getD-set-same marks i m false (omega (arith, g .size)) ∙ e s w))
-        (λ q. let z = eqb-false j i q in getD-set-other marks i j m false z ∙ g .mark s w j (below j i (omega arith) z));
-  }
-    where
-      below : (j i : ℕ) → j ≤ i → (j ≡ i → ⊥) → j < i
-      below j i l n = omega arith
-
 -- ── two rows by their flags ──
 module _ (flags : List Bool) (k : ℕ) (x y : List (List ℕ)) where
   by-flag : {b : Bool} → getD flags 0 false ≡ b → sameBy flags k x y ≡ ((not b || eqb (idIn x) (idIn y)) && sameFrom flags x y 0 k)
@@ -214,15 +199,36 @@ module _ (schema : List (List ℕ)) (t : ℕ) (size : length schema ≡ 29) (few
         (omega arith)
         ∙ ap (λ (l : List Column). rowText show l (rowFrom s row)) table-columns
 
-pub answer-is : (schema : List (List ℕ)) (t : ℕ) → length schema ≡ 29 → getD (getD schema (1 + t) []) 25 0 ≤ 6 → t < 4 → t < getD (getD schema 0 []) 25 0 → (show : List ℕ → Bool) (flags marks : List Bool) (rows : List (List (List ℕ))) (n : ℕ) → n ≤ length rows → (ts : List Test)
-    → Flagged show (columnsAt schema t) flags → Marked (map columnFrom (columnsAt schema t)) ts t n rows marks
-    → (ascii "{\"rows\":[" ++ (joined true (pickedFrom schema t flags (length (columnsAt schema t)) marks rows 0 n) ++ ascii "]}")) ≡ selected show (columnsOf (packedTables schema) t) t ts (working (packedTables schema) n rows)
-unfolding Marked selected
-answer-is schema t size few four lt show flags marks rows n room ts fl mk =
+answer-is : (schema : List (List ℕ)) (t : ℕ) → length schema ≡ 29 → getD (getD schema (1 + t) []) 25 0 ≤ 6 → t < 4 → t < getD (getD schema 0 []) 25 0 → (rows : List (List (List ℕ))) (flags marks : List Bool) (show : List ℕ → Bool) (ts : List Test)
+    → Flagged show (columnsAt schema t) flags → MarkedRows (columnsOf (packedTables schema) t) ts t (length rows) rows marks
+    → (ascii "{\"rows\":[" ++ (joined true (pickedFrom schema t flags (length (columnsAt schema t)) marks rows 0 (length rows)) ++ ascii "]}")) ≡ selected show (columnsOf (packedTables schema) t) t ts (map (rowFrom (packedTables schema)) rows)
+unfolding MarkedRows selected working
+answer-is schema t size few four lt rows flags marks show ts fl mk =
     let s = packedTables schema in
     let cs = map columnFrom (columnsAt schema t) in
     let here : columnsOf s t ≡ cs = columns-in schema t lt in
     ap (λ (l : List (List ℕ)). ascii "{\"rows\":[" ++ (joined true l ++ ascii "]}"))
-    (picks-are schema (columnsAt schema t) t show flags marks rows n room s ts fl here (mk s here) (object-is schema t size few four show flags fl s) n 0 (omega arith))
-    ∙ rows-is (map (rowText show cs) (firsts (sameShown show cs) [] (keep (matches t ts) (working s n rows))))
-    ∙ ap (λ (l : List Column). rowsText (map (rowText show l) (firsts (sameShown show l) [] (keep (matches t ts) (working s n rows))))) (sym here)
+    (picks-are schema (columnsAt schema t) t show flags marks rows (length rows) (omega arith) s ts fl here (mk s refl) (object-is schema t size few four show flags fl s) (length rows) 0 (omega arith))
+    ∙ rows-is (map (rowText show cs) (firsts (sameShown show cs) [] (keep (matches t ts) (working s (length rows) rows))))
+    ∙ ap (λ (l : List Column). rowsText (map (rowText show l) (firsts (sameShown show l) [] (keep (matches t ts) (working s (length rows) rows))))) (sym here)
+    ∙ ap (λ (l : List (List (List ℕ))). rowsText (map (rowText show (columnsOf s t)) (firsts (sameShown show (columnsOf s t)) [] (keep (matches t ts) (map (rowFrom s) l))))) (take-length rows)
+
+-- what is written
+pub select-is : (schema : List (List ℕ)) (t : ℕ) → length schema ≡ 29 → getD (getD schema (1 + t) []) 25 0 ≤ 6 → t < 4 → t < getD (getD schema 0 []) 25 0 → (rows : List (List (List ℕ))) (flags marks : List Bool) {before after : List ℕ} {at r : ℕ}
+    → Put 200000 before at (ascii "{\"rows\":[" ++ (joined true (pickedFrom schema t flags (length (columnsAt schema t)) marks rows 0 (length rows)) ++ ascii "]}")) r after → Selected schema t rows flags marks before at r after
+unfolding Selected
+select-is schema t size few four lt rows flags marks q show ts fl mk = put-is q (answer-is schema t size few four lt rows flags marks show ts fl mk) (omega arith)
+
+-- ── the rows in front, as those above lend them ──
+module _ (rows : List (List (List ℕ))) (n : ℕ) (room : n ≤ length rows) where
+  marks-front : (cs : List Column) (ts : List Test) (t : ℕ) (marks : List Bool) → MarkedRows cs ts t n rows marks → MarkedRows cs ts t (length (take n rows)) (take n rows) marks
+  unfolding MarkedRows
+  marks-front cs ts t marks k s h i l =
+      let j : i < n = omega (arith, length-take-le n rows room) in
+      k s h i j ∙ ap (λ (x : List (List ℕ)). matches t ts (rowFrom s x)) (sym (getD-take n rows i [] j))
+
+  pub select-front : (schema : List (List ℕ)) (t : ℕ) (flags marks : List Bool) {before after : List ℕ} {at r : ℕ} → Selected schema t (take n rows) flags marks before at r after
+      → (show : List ℕ → Bool) (ts : List Test) → Flagged show (columnsAt schema t) flags → MarkedRows (columnsOf (packedTables schema) t) ts t n rows marks
+      → Put 200000 before at (selected show (columnsOf (packedTables schema) t) t ts (working (packedTables schema) n rows)) r after
+  unfolding Selected working
+  select-front schema t flags marks q show ts fl mk = q show ts fl (marks-front (columnsOf (packedTables schema) t) ts t marks mk)

@@ -1,3 +1,3 @@
+pub mod Most
 pub mod Shown
 pub mod Picks
-pub mod Most

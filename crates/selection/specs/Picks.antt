@@ -1,20 +1,25 @@
 -- The rows that a select answers, by marks of those that meet its conditions and flags of what is shown. Assumes nothing: these are definitions.
-use Prim.Native.Nat.{ℕ, zero, suc, _+_, _<_}
-use mathlib.Core.Path.{_≡_}
+use Prim.Native.Nat.{ℕ, zero, suc, _+_}
 use mathlib.Core.Bool.{Bool, true, false, not, _&&_, _||_}
 use mathlib.Core.List.{List, [], _∷_, map}
 use lib.Dec.{eqb}
-use lib.ListN.{getD}
+use lib.ListN.{length, getD}
 use Rattle.model.specs.Base.{keep}
-use Rattle.model.specs.Schema.{Column, Schema, columnsOf}
+use Rattle.model.specs.Schema.{Column, columnsOf}
 use Rattle.model.specs.Value.{sameValue}
 use Rattle.model.specs.Rows.{Row}
 use Rattle.model.specs.Answers.{rowsText}
 use Rattle.model.specs.Conditions.{Test, matches}
 use Rattle.model.specs.Operations.{rowText, sameShown, firsts}
 use Rattle.model.specs.Areas.{rowFrom}
+use Rattle.model.specs.Catalog.{packedTables}
 use Rattle.inner.specs.Working.{idIn, valueIn}
+use Rattle.catalog.specs.Entries.{columnsAt}
+use Rattle.answer.specs.Put.{Put}
+use Rattle.marks.specs.Marks.{MarkedRows}
 use Rattle.projection.specs.Shown.{rowShown}
+use Rattle.selection.specs.Most.{resultMost}
+use Rattle.selection.specs.Shown.{Flagged}
 
 -- whether two rows have the same values for k columns from c on, of those that are shown
 abbrev pub sameFrom : List Bool → List (List ℕ) → List (List ℕ) → ℕ → ℕ → Bool
@@ -43,10 +48,12 @@ pickedFrom schema t flags k marks rows i (suc m) =
       | false ↦ pickedFrom schema t flags k marks rows (suc i) m
     ]
 
--- marks of the rows of a table that meet conditions
-unfoldable pub Marked : List Column → List Test → ℕ → ℕ → List (List (List ℕ)) → List Bool → Type 0
-Marked cs ts table n rows marks = (s : Schema) → columnsOf s table ≡ cs → (i : ℕ) → i < n → getD marks i false ≡ matches table ts (rowFrom s (getD rows i []))
-
 -- what a select answers
 unfoldable pub selected : (List ℕ → Bool) → List Column → ℕ → List Test → List Row → List ℕ
 selected show cs table ts rows = rowsText (map (rowText show cs) (firsts (sameShown show cs) [] (keep (matches table ts) rows)))
+
+-- what it writes of rows that are marked, by flags: for all tests that the marks are of, and every choice of names that the flags are of
+unfoldable pub Selected : List (List ℕ) → ℕ → List (List (List ℕ)) → List Bool → List Bool → List ℕ → ℕ → ℕ → List ℕ → Type 0
+Selected schema t rows flags marks before at r after =
+    (show : List ℕ → Bool) (ts : List Test) → Flagged show (columnsAt schema t) flags → MarkedRows (columnsOf (packedTables schema) t) ts t (length rows) rows marks
+    → Put resultMost before at (selected show (columnsOf (packedTables schema) t) t ts (map (rowFrom (packedTables schema)) rows)) r after

@@ -8,145 +8,121 @@ use model::ROWS;
 use model::Row;
 use projection::SHOWN;
 ghost use mathlib.Core.Path.{_≡_};
-ghost use mathlib.Core.Bool.{true, not, _&&_, _||_};
-ghost use mathlib.Core.List.{[], map};
-ghost use Prim.Native.Nat.{_+_, _^_, _≤_, _<_};
+ghost use mathlib.Core.Bool.{Bool, true, not, _&&_, _||_};
+ghost use mathlib.Core.List.{List, [], map};
+ghost use Prim.Native.Nat.{ℕ, _+_, _^_, _≤_, _<_};
 ghost use lib.ListN.{length, getD};
 ghost use Rattle.model.specs.Limits.{mostTables, mostColumns, mostRows};
-ghost use Rattle.model.specs.Base.{any};
-ghost use Rattle.inner.specs.Positions.{Says, treeAt, itemsFrom, itemsFine};
-ghost use Rattle.model.specs.Text.{isWord};
+ghost use Rattle.inner.specs.Positions.{Says, treeAt, itemsFrom};
 ghost use Rattle.model.specs.Operations.{namesIn, shownFault, columnsFault, shows};
 ghost use Rattle.model.specs.Catalog.{columnFrom, tableCount, columnCount};
-ghost use Rattle.model.specs.Schema.{columnsOf};
 ghost use Rattle.model.specs.Value.{sameValue};
-ghost use Rattle.model.specs.Faults.{isFine};
-ghost use Rattle.model.specs.Catalog.{packedTables};
-ghost use Rattle.inner.specs.Working.{working, valueIn};
-ghost use Rattle.uuids.specs.Named.{Running};
+ghost use Rattle.inner.specs.Working.{valueIn};
 ghost use Rattle.answer.specs.Put.{Put};
 ghost use Rattle.answer.specs.Texts.{joined};
 ghost use Rattle.catalog.specs.Accepted.{Accepted};
 ghost use Rattle.catalog.specs.Entries.{columnsAt};
 ghost use Rattle.projection.specs.Shown.{shownText, rowShown};
-ghost use Rattle.assign.specs.Assigned.{slotted};
-ghost use Rattle.conditions.specs.Tests.{testsAt};
+ghost use Rattle.request_rows.specs.Assigned.{slotted};
 ghost use Rattle.selection.specs.Most.{pickedMost, rowsMost, resultMost};
-ghost use Rattle.selection.specs.Picks.{sameFrom, sameBy, repeated, pickedFrom, Marked, selected};
-ghost use Rattle.selection.specs.Shown.{slotWell, fairName, allNames, Flagged};
+ghost use Rattle.selection.specs.Picks.{sameFrom, sameBy, repeated, pickedFrom, Selected};
+ghost use Rattle.selection.specs.Shown.{slotWell, among, fairName, withName, Flagged, ColumnsRead};
 
-// Whether a name is among the strings from f on.
-fn includes(text: &[u8], ends: &[u16], f: Found, name: &[u8]) -> bool
-    requires { ⌜ Says (now text) (now ends) ⌝ }
-    ensures { λ r. ⌜ r ≡ any (isWord (now (name .entry))) (itemsFrom (now (text .entry)) f) ⌝ }
-{
-    let mut g = f;
-    loop {
-        match g {
-            Found::At(p) => {
-                let same = text::is_word(text, p, name);
-                if same {
-                    return true;
-                }
-                g = nav::next_item(text, ends, p);
-            }
-            Found::Nothing => return false,
-        }
-    }
+// What the columns of a select come to: how they are judged, and flags of what is shown, "_uuid" and each column. After a fault
+// the flags are free.
+pub struct Columns {
+    pub fault: Fault,
+    pub flags: [bool; SHOWN],
 }
 
-// Whether the value at p names what can be shown, and no string from `next` on is the same.
-fn fair(text: &[u8], ends: &[u16], columns: &[Entry], p: usize, next: Found) -> bool
-    requires { ⌜ Says (now text) (now ends) ⌝ }
-    ensures { λ r. ⌜ r ≡ fairName (map columnFrom (now (columns .entry))) (treeAt (now (text .entry)) p) (itemsFrom (now (text .entry)) next) ⌝ }
+// Whether the value at `at` names what can be shown, and it is not shown yet.
+fn is_fair(text: &[u8], at: usize, columns: &[Entry], flags: &[bool; SHOWN]) -> bool
+    requires { ⌜ length (now columns) ≤ mostColumns ⌝ }
+    ensures { λ r. ⌜ ((show : List ℕ → Bool) → Flagged show (now (columns .entry)) (now (flags .entry)) → r ≡ fairName (map columnFrom (now (columns .entry))) show (treeAt (now (text .entry)) at)) ⌝ }
 {
-    let id = text::is_word(text, p, b"_uuid");
+    let id = text::is_word(text, at, b"_uuid");
     if id {
-        let more = includes(text, ends, next, b"_uuid");
-        return !more;
+        return !flags[0];
     }
-    let f = lookup::column_at(text, p, columns);
+    let f = lookup::column_at(text, at, columns);
     match f {
-        Found::At(c) => {
-            let more = includes(text, ends, next, catalog::name_of(&columns[c]));
-            !more
-        }
+        Found::At(c) => !flags[c + 1],
         Found::Nothing => false,
     }
 }
 
-// How the names from f on are judged.
-fn names_fault(text: &[u8], ends: &[u16], columns: &[Entry], f: Found) -> Fault
-    requires { ⌜ Says (now text) (now ends) ⌝ }
-    ensures { λ r. ⌜ r ≡ shownFault (map columnFrom (now (columns .entry))) (namesIn (itemsFrom (now (text .entry)) f)) ⌝ }
+// Flags with the name at `at` shown too.
+fn with_name(text: &[u8], at: usize, columns: &[Entry], flags: [bool; SHOWN]) -> [bool; SHOWN]
+    requires { ⌜ length (now columns) ≤ mostColumns ⌝ }
+    ensures { λ r. ⌜ ((show : List ℕ → Bool) → Flagged show (now (columns .entry)) flags → Flagged (withName show (treeAt (now (text .entry)) at)) (now (columns .entry)) r) ⌝ }
 {
+    let mut more = flags;
+    let id = text::is_word(text, at, b"_uuid");
+    more[0] = id | flags[0];
+    let mut c = 0;
+    while c < columns.len() {
+        let same = text::is_word(text, at, catalog::name_of(&columns[c]));
+        more[c + 1] = same | flags[c + 1];
+        c += 1;
+    }
+    more
+}
+
+// What the names from f on come to.
+fn names_at(text: &[u8], ends: &[u16], columns: &[Entry], f: Found) -> Columns
+    requires { ⌜ Says (now text) (now ends) ⌝ }
+    requires { ⌜ length (now columns) ≤ mostColumns ⌝ }
+    ensures { λ r. ⌜ ColumnsRead (shownFault (map columnFrom (now (columns .entry))) (namesIn (itemsFrom (now (text .entry)) f))) (among (itemsFrom (now (text .entry)) f)) (now (columns .entry)) r ⌝ }
+{
+    let mut flags = [false; SHOWN];
     let mut g = f;
     loop {
         match g {
             Found::At(p) => {
-                let next = nav::next_item(text, ends, p);
-                let ok = fair(text, ends, columns, p, next);
-                if ok {
-                    g = next;
-                } else {
-                    return Fault::Syntax;
+                let ok = is_fair(text, p, columns, &flags);
+                if !ok {
+                    return Columns {
+                        fault: Fault::Syntax,
+                        flags: flags,
+                    };
                 }
+                let more = with_name(text, p, columns, flags);
+                flags = more;
+                g = nav::next_item(text, ends, p);
             }
-            Found::Nothing => return Fault::Fine,
+            Found::Nothing => {
+                return Columns {
+                    fault: Fault::Fine,
+                    flags: flags,
+                };
+            }
         }
     }
 }
 
-// How the columns of a select are judged, at p; 0 where they are not given.
-pub fn columns_fault(text: &[u8], ends: &[u16], columns: &[Entry], p: usize) -> Fault
+// What the columns at p come to; 0 where they are not given, and all are shown.
+pub fn columns_at(text: &[u8], ends: &[u16], columns: &[Entry], p: usize) -> Columns
     requires { ⌜ Says (now text) (now ends) ⌝ }
     requires { ⌜ slotWell (now text) p ≡ true ⌝ }
-    ensures { λ r. ⌜ r ≡ columnsFault (map columnFrom (now (columns .entry))) (slotted (now (text .entry)) p) ⌝ }
+    requires { ⌜ length (now columns) ≤ mostColumns ⌝ }
+    ensures { λ r. ⌜ ColumnsRead (columnsFault (map columnFrom (now (columns .entry))) (slotted (now (text .entry)) p)) (shows (slotted (now (text .entry)) p)) (now (columns .entry)) r ⌝ }
 {
     if p == 0 {
-        return Fault::Fine;
+        return Columns {
+            fault: Fault::Fine,
+            flags: [true; SHOWN],
+        };
     }
     let k = nav::kind_at(text, p);
     let a = leaf::is_kind(k, Kind::Array);
     if a {
         let f = nav::first(text, p, b'[', b']');
-        return names_fault(text, ends, columns, f);
+        return names_at(text, ends, columns, f);
     }
-    Fault::Syntax
-}
-
-// Whether the columns at p include a name; all where they are not given.
-fn is_shown(text: &[u8], ends: &[u16], p: usize, name: &[u8]) -> bool
-    requires { ⌜ Says (now text) (now ends) ⌝ }
-    requires { ⌜ slotWell (now text) p ≡ true ⌝ }
-    requires { ⌜ allNames (slotted (now text) p) ≡ true ⌝ }
-    ensures { λ r. ⌜ r ≡ shows (slotted (now (text .entry)) p) (now (name .entry)) ⌝ }
-{
-    if p == 0 {
-        return true;
+    Columns {
+        fault: Fault::Syntax,
+        flags: [false; SHOWN],
     }
-    let f = nav::first(text, p, b'[', b']');
-    includes(text, ends, f, name)
-}
-
-// What the columns at p show, by flags: "_uuid", and each column.
-fn flags_of(text: &[u8], ends: &[u16], p: usize, columns: &[Entry]) -> [bool; SHOWN]
-    requires { ⌜ Says (now text) (now ends) ⌝ }
-    requires { ⌜ slotWell (now text) p ≡ true ⌝ }
-    requires { ⌜ allNames (slotted (now text) p) ≡ true ⌝ }
-    requires { ⌜ length (now columns) ≤ mostColumns ⌝ }
-    ensures { λ r. ⌜ Flagged (shows (slotted (now (text .entry)) p)) (now (columns .entry)) r ⌝ }
-{
-    let mut flags = [false; SHOWN];
-    let id = is_shown(text, ends, p, b"_uuid");
-    flags[0] = id;
-    let mut c = 0;
-    while c < columns.len() {
-        let show = is_shown(text, ends, p, catalog::name_of(&columns[c]));
-        flags[c + 1] = show;
-        c += 1;
-    }
-    flags
 }
 
 // Whether two rows differ in column c, where it is shown.
@@ -219,35 +195,6 @@ fn repeats(rows: &[Row], marks: &[bool; ROWS], i: usize, flags: &[bool; SHOWN], 
     false
 }
 
-// Marks of the rows that meet the conditions.
-fn marks_of(
-    text: &[u8],
-    ends: &[u16],
-    ops: Found,
-    fresh: &[u8],
-    columns: &[Entry],
-    table: u8,
-    tests: Found,
-    rows: &[Row],
-    n: usize,
-) -> [bool; ROWS]
-    requires { ⌜ Running (now text) (now ends) ops (now fresh) ⌝ }
-    requires { ⌜ itemsFine (now text) tests ≡ true ⌝ }
-    requires { ⌜ length (now columns) ≤ mostColumns ⌝ }
-    requires { ⌜ isFine (testsAt (now text) ops (now fresh) (now columns) tests .fault) ≡ true ⌝ }
-    requires { ⌜ (n ≤ mostRows) × (n ≤ length (now rows)) ⌝ }
-    ensures { λ r. ⌜ Marked (map columnFrom (now (columns .entry))) (testsAt (now (text .entry)) ops (now (fresh .entry)) (now (columns .entry)) tests .got) table n (now (rows .entry)) r ⌝ }
-{
-    let mut marks = [false; ROWS];
-    let mut i = 0;
-    while i < n {
-        let m = conditions::matches(text, ends, ops, fresh, columns, table, tests, &rows[i]);
-        marks[i] = m;
-        i += 1;
-    }
-    marks
-}
-
 // A row's object where it is picked, after a comma if others came before.
 fn put_picked(
     out: &mut [u8],
@@ -269,26 +216,26 @@ fn put_picked(
     at
 }
 
-// The objects of the rows that are answered, of k columns.
+// The objects of the rows that are answered.
 fn put_rows(
     out: &mut [u8],
     at: usize,
     schema: &Catalog,
     table: usize,
-    k: usize,
     rows: &[Row],
-    n: usize,
-    marks: &[bool; ROWS],
     flags: &[bool; SHOWN],
+    marks: &[bool; ROWS],
 ) -> usize
     requires { ⌜ (at + rowsMost < 2 ^ 64) × (table < mostTables) × (columnCount (now schema) table ≤ mostColumns) ⌝ }
-    requires { ⌜ (k ≤ mostColumns) × (n ≤ mostRows) × (n ≤ length (now rows)) ⌝ }
-    ensures { λ r. ⌜ Put rowsMost (now (out .entry)) at (joined true (pickedFrom (now (schema .entry)) table (now (flags .entry)) k (now (marks .entry)) (now (rows .entry)) 0 n)) r (now (out .exit)) ⌝ }
+    requires { ⌜ length (now rows) ≤ mostRows ⌝ }
+    ensures { λ r. ⌜ Put rowsMost (now (out .entry)) at (joined true (pickedFrom (now (schema .entry)) table (now (flags .entry)) (length (columnsAt (now (schema .entry)) table)) (now (marks .entry)) (now (rows .entry)) 0 (length (now (rows .entry))))) r (now (out .exit)) ⌝ }
 {
+    let columns = catalog::columns_of(schema, table);
+    let k = columns.len();
     let mut first = true;
     let mut r = at;
     let mut i = 0;
-    while i < n {
+    while i < rows.len() {
         let again = repeats(rows, marks, i, flags, k);
         let pick = marks[i] & !again;
         r = put_picked(out, r, pick, first, schema, table, &rows[i], flags);
@@ -298,36 +245,23 @@ fn put_rows(
     r
 }
 
-// What a select answers: the rows of a table that meet the conditions from `tests` on, by the columns at p.
+// What a select answers: the rows of a table that are marked, by flags of what is shown.
 pub fn select_rows(
-    text: &[u8],
-    ends: &[u16],
-    ops: Found,
-    fresh: &[u8],
     schema: &Catalog,
     table: u8,
-    tests: Found,
-    p: usize,
     rows: &[Row],
-    n: usize,
+    flags: &[bool; SHOWN],
+    marks: &[bool; ROWS],
     out: &mut [u8],
     at: usize,
 ) -> usize
-    requires { ⌜ Running (now text) (now ends) ops (now fresh) ⌝ }
-    requires { ⌜ itemsFine (now text) tests ≡ true ⌝ }
-    requires { ⌜ slotWell (now text) p ≡ true ⌝ }
     requires { ⌜ Accepted (now schema) ⌝ }
     requires { ⌜ table < tableCount (now schema) ⌝ }
-    requires { ⌜ isFine (testsAt (now text) ops (now fresh) (columnsAt (now schema) table) tests .fault) ≡ true ⌝ }
-    requires { ⌜ isFine (columnsFault (columnsOf (packedTables (now schema)) table) (slotted (now text) p)) ≡ true ⌝ }
-    requires { ⌜ (n ≤ mostRows) × (n ≤ length (now rows)) × (at + resultMost < 2 ^ 64) ⌝ }
-    ensures { λ r. ⌜ Put resultMost (now (out .entry)) at (selected (shows (slotted (now (text .entry)) p)) (columnsOf (packedTables (now (schema .entry))) table) table (testsAt (now (text .entry)) ops (now (fresh .entry)) (columnsAt (now (schema .entry)) table) tests .got) (working (packedTables (now (schema .entry))) n (now (rows .entry)))) r (now (out .exit)) ⌝ }
+    requires { ⌜ (length (now rows) ≤ mostRows) × (at + resultMost < 2 ^ 64) ⌝ }
+    ensures { λ r. ⌜ Selected (now (schema .entry)) table (now (rows .entry)) (now (flags .entry)) (now (marks .entry)) (now (out .entry)) at r (now (out .exit)) ⌝ }
 {
     let t = leaf::wide(table);
-    let columns = catalog::columns_of(schema, t);
-    let flags = flags_of(text, ends, p, columns);
-    let marks = marks_of(text, ends, ops, fresh, columns, table, tests, rows, n);
     let a = answer::put_bytes(out, at, b"{\"rows\":[");
-    let b = put_rows(out, a, schema, t, columns.len(), rows, n, &marks, &flags);
+    let b = put_rows(out, a, schema, t, rows, flags, marks);
     answer::put_bytes(out, b, b"]}")
 }

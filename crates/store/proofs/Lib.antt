@@ -1,1 +1,10 @@
-pub mod Laws
+pub mod Opening
+pub mod After
+pub mod Texts
+pub mod Commits
+pub mod Asking
+pub mod Telling
+pub mod GivingOut
+pub mod Replies
+pub mod Transacting
+pub mod Calls

@@ -1,17 +1,24 @@
 // The calls of a store. Each promises its answer's number, as the first refusal of document 01 that applies (specs FirstRefusal of model), and the equation of the model's definition for that call.
+mod good_order;
+mod reply;
+
 use model::ATOM;
 use model::Answer;
 use model::CELLS;
 use model::ENTRIES;
 use model::ENTRY;
+use model::FRESH_BYTES;
+use model::LEAST_ANSWER;
 use model::LEAST_MARK;
+use model::LEAST_RECORDS;
 use model::ROWS;
 use model::STORE_BYTES;
 use record::Mark;
 ghost use mathlib.Core.Path.{_≡_};
 ghost use Rattle.model.specs.Refusals.{numberOf};
-ghost use Rattle.model.specs.Calls.{storeStart, storeTransact, storeMark};
+ghost use Rattle.model.specs.Calls.{lengthsGood, storeStart, storeTransact, storeMark};
 ghost use Rattle.model.specs.FirstRefusal.{storeStartNumber, transactNumber, markNumber};
+ghost use Rattle.store.specs.Replying.{Refused};
 
 // Makes a store of a schema's text and a run, with no rows and number 0.
 pub fn start(area: &mut [u8], schema: &[u8], run: u32) -> Answer
@@ -31,6 +38,31 @@ pub fn start(area: &mut [u8], schema: &[u8], run: u32) -> Answer
     Answer::Accepted
 }
 
+// Whether the lengths are right: of the area and of the fresh ids exactly, and of both buffers at least.
+fn lengths_good(area: &[u8], fresh: &[u8], records: &[u8], answer: &[u8]) -> bool
+    ensures { λ r. ⌜ r ≡ lengthsGood (now (area .entry)) (now (fresh .entry)) (now (records .entry)) (now (answer .entry)) ⌝ }
+{
+    if area.len() != STORE_BYTES {
+        return false;
+    }
+    if fresh.len() != FRESH_BYTES {
+        return false;
+    }
+    if records.len() < LEAST_RECORDS {
+        return false;
+    }
+    LEAST_ANSWER <= answer.len()
+}
+
+// Refuses: both buffers are all zero.
+fn refuse(why: Answer, records: &mut [u8], answer: &mut [u8]) -> Answer
+    ensures { λ r. ⌜ Refused why (now (records .entry)) (now (records .exit)) (now (answer .entry)) (now (answer .exit)) r ⌝ }
+{
+    octets::clear(records);
+    octets::clear(answer);
+    why
+}
+
 // Runs a request's operations and commits them: the answer's text, and the records of what changed. A refused call leaves the area, and both buffers all zero.
 pub fn transact(
     area: &mut [u8],
@@ -40,12 +72,25 @@ pub fn transact(
     answer: &mut [u8],
 ) -> Answer
     ensures { λ r. ⌜ numberOf r ≡ transactNumber (now (area .entry)) (now (request .entry)) (now (fresh .entry)) (now (records .entry)) (now (answer .entry)) ⌝ }
-    ensures { λ r. ⌜ r ≡ storeTransact (now (area .entry)) (now (request .entry)) (now (fresh .entry)) (now (records .entry)) (now (answer .entry)) .answer ⌝ }
-    ensures { λ r. ⌜ now (area .exit) ≡ storeTransact (now (area .entry)) (now (request .entry)) (now (fresh .entry)) (now (records .entry)) (now (answer .entry)) .area ⌝ }
-    ensures { λ r. ⌜ now (records .exit) ≡ storeTransact (now (area .entry)) (now (request .entry)) (now (fresh .entry)) (now (records .entry)) (now (answer .entry)) .records ⌝ }
-    ensures { λ r. ⌜ now (answer .exit) ≡ storeTransact (now (area .entry)) (now (request .entry)) (now (fresh .entry)) (now (records .entry)) (now (answer .entry)) .text ⌝ }
+    ensures { λ r. ⌜ storeTransact (now (area .entry)) (now (request .entry)) (now (fresh .entry)) (now (records .entry)) (now (answer .entry)) ≡ record { answer = r; area = now (area .exit); records = now (records .exit); text = now (answer .exit) } ⌝ }
 {
-    transact::transact(area, request, fresh, records, answer)
+    if !lengths_good(area, fresh, records, answer) {
+        return refuse(Answer::WrongLength, records, answer);
+    }
+    let mut catalog = [[0u8; ENTRY]; ENTRIES];
+    let mut rows = [[[0u8; ATOM]; CELLS]; ROWS];
+    if !good_order::opened(area, &mut catalog, &mut rows) {
+        return refuse(Answer::Disordered, records, answer);
+    }
+    let e = reply::reply(&catalog, area, &mut rows, request, fresh, records, answer);
+    let given = e.answer;
+    let commits = e.commits;
+    if commits {
+        let next = area::number_of(area) + e.changes as u32;
+        area::write_number(area, next);
+        area::write_rows(area, &rows, e.count);
+    }
+    given
 }
 
 // Writes the mark of a store: its run and the last number that it gave out.
@@ -63,7 +108,7 @@ pub fn mark(area: &[u8], mark: &mut [u8]) -> Answer
     }
     let mut catalog = [[0u8; ENTRY]; ENTRIES];
     let mut rows = [[[0u8; ATOM]; CELLS]; ROWS];
-    if !holding::held(area, &mut catalog, &mut rows) {
+    if !good_order::opened(area, &mut catalog, &mut rows) {
         return Answer::Disordered;
     }
     let m = Mark::new(area::run_of(area), area::number_of(area));

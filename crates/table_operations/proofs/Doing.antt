@@ -1,5 +1,5 @@
 -- How an operation's fault comes of its members, and what it does where there is none. Assumes nothing.
-use mathlib.Core.Path.{_≡_, refl, sym, ap, _∙_}
+use mathlib.Core.Path.{_≡_, refl, sym, ap, subst, _∙_}
 use mathlib.Core.Bool.{Bool, true, false, not}
 use mathlib.Core.List.{List, [], _∷_, _++_, map, append-nil}
 use mathlib.Core.Option.{Option}
@@ -8,6 +8,7 @@ use native.Mathlib.Omega.{arith}
 use borrow.Author.Tests.{ltb-true}
 use lib.Dec.{eqb, ltb}
 use lib.ListN.{length, getD, take, drop, replicate, length-map, length-take}
+use lib.Seq.{length-take-le}
 use Rattle.model.specs.declared.Fault.{Fault}
 use Rattle.model.specs.declared.Fault.the-variants.{Fine, Syntax, Resources, Duplicate, Constraint, Domain, Range, Aborted, Integrity}
 use Rattle.model.specs.declared.Found.{Found}
@@ -23,27 +24,31 @@ use Rattle.model.specs.Faults.{isFine, earlier, worst, check, Judged}
 use Rattle.model.specs.Written.{Names, memberNamed}
 use Rattle.model.specs.Conditions.{Test, matches}
 use Rattle.model.specs.Mutations.{Mutation}
-use Rattle.model.specs.Answers.{countText, insertText}
+use Rattle.model.specs.Answers.{countText}
 use Rattle.model.specs.SchemaText.{only}
 use Rattle.model.specs.Operations as Model
-use Rattle.model.specs.Catalog.{columnFrom}
+use Rattle.model.specs.Catalog.{columnFrom, packedTables, tableCount}
 use Rattle.model.specs.Areas.{rowFrom}
 use Rattle.inner.specs.Working.{working, Tidy}
 use Rattle.model.proofs.Tests.{clash}
 use Rattle.model.proofs.FaultLaws.{fine-is, earlier-fine, check-true}
-use Rattle.fields.specs.Fields.{Slots}
-use Rattle.answer.specs.Put.{Put}
-use Rattle.answer.specs.Texts.{countResult, insertResult}
-use Rattle.answer.proofs.Putting.{put-is}
+use Rattle.members.specs.Fields.{Slots}
+use Rattle.catalog.specs.Entries.{columnsAt}
+use Rattle.area.proofs.Schemas.{columns-in}
 use Rattle.uuids.specs.Named.{namesAt}
-use Rattle.conditions.specs.Tests.{testsAt, Deleted}
+use Rattle.marks.specs.Marks.{OfTable, MarkedRows, marked, Deleted}
+use Rattle.marks.proofs.Marking.{marked-front, marked-count}
+use Rattle.conditions.specs.Tests.{TestsTold}
 use Rattle.mutations.specs.Mutating.{mutationsAt}
-use Rattle.mutate.specs.Rows.{Mutated}
+use Rattle.mutations.specs.Rows.{Mutated}
 use Rattle.fresh.specs.Fresh.{freshAt, FreshId}
-use Rattle.assign.specs.Assigned.{slotted, writtenRow, Updated, Inserted}
+use Rattle.request_rows.specs.Assigned.{slotted, writtenRow, Updated, Inserted}
 use Rattle.clauses.specs.Clauses.{SlotFine, whereAt, mutationsIn, rowAt}
-use Rattle.clauses.proofs.Slots.{slot-find, slot-fine, where-by, mutations-by, row-by, where-fine, mutations-fine, row-fine}
-use Rattle.table_operations.specs.Ran.{Ran, listedFault, roomFault, inserting, updating, mutating, deleting}
+use Rattle.clauses.proofs.Slots.{slot-find, slot-fine, where-by, mutations-by, row-by, mutations-fine, row-fine}
+use Rattle.table_operations.specs.declared.Done.{Done}
+use Rattle.table_operations.specs.declared.Reply.{Reply}
+use Rattle.table_operations.specs.declared.Reply.the-variants.{Count, Id}
+use Rattle.table_operations.specs.Ran.{Ran, Replies, listedFault, roomFault, inserting, updating, mutating, deleting}
 
 -- ── the fault of several checks ──
 last : (f : Fault) → earlier f Fine ≡ f
@@ -75,66 +80,70 @@ unfolding listedFault
 listed-some p e = sym (ap (λ (b : Bool). check b Syntax Fine) e)
 
 -- ── an operation that fails, and one that is done ──
-pub ran-failed : {s : Schema} {d : Model.Done} {n at : ℕ} {entry exit : List (List (List ℕ))} {before : List ℕ} {f : Fault}
-    → n ≤ 32 → f ≡ d .fault → isFine f ≡ false → Ran s d n entry exit at before before (record { fault = f; count = n; at = at })
+pub ran-failed : {s : Schema} {d : Model.Done} {replies : Reply → List ℕ → Type 0} {n : ℕ} {rows : List (List (List ℕ))} {f : Fault} {q : Reply}
+    → n ≤ 32 → f ≡ d .fault → isFine f ≡ false → Ran s d replies n rows rows (record { fault = f; count = n; reply = q })
 ran-failed {f = f} few e bad =
     record {
       fault = e;
       few = few;
       rows = λ y. absurd (clash (isFine f) y bad);
-      tidy = λ y. absurd (clash (isFine f) y bad);
-      answer = λ y. absurd (clash (isFine f) y bad);
-      still = λ _. (refl, refl);
+      reply = λ y. absurd (clash (isFine f) y bad);
+      still = λ _. refl;
+      tidy = λ t. t;
     }
 
-pub ran-done : {s : Schema} {d : Model.Done} {n m at e : ℕ} {entry exit : List (List (List ℕ))} {before after : List ℕ} {f : Fault}
-    → m ≤ 32 → f ≡ d .fault → isFine f ≡ true → working s m exit ≡ d .rows → (Tidy s (take n entry) → Tidy s (take m exit)) → Put 200000 before at (d .answer) e after
-    → Ran s d n entry exit at before after (record { fault = Fine; count = m; at = e })
-ran-done {f = f} few q y rows tidy answer =
+pub ran-done : {s : Schema} {d : Model.Done} {replies : Reply → List ℕ → Type 0} {n m : ℕ} {entry exit : List (List (List ℕ))} {f : Fault} {q : Reply}
+    → m ≤ 32 → f ≡ d .fault → isFine f ≡ true → working s m exit ≡ d .rows → (Tidy s (take n entry) → Tidy s (take m exit)) → replies q (d .answer)
+    → Ran s d replies n entry exit (record { fault = Fine; count = m; reply = q })
+ran-done {f = f} few e y rows tidy reply =
     record {
-      fault = sym (fine-is f y) ∙ q;
+      fault = sym (fine-is f y) ∙ e;
       few = few;
       rows = λ _. rows;
-      tidy = λ _. tidy;
-      answer = λ _. answer;
+      reply = λ _. reply;
       still = λ x. absurd (clash true refl x);
+      tidy = tidy;
     }
 
+-- what was done is what the operation is
+pub ran-as : {s : Schema} {d x : Model.Done} {replies : Reply → List ℕ → Type 0} {n : ℕ} {entry exit : List (List (List ℕ))} {r : Done}
+    → x ≡ d → Ran s d replies n entry exit r → Ran s x replies n entry exit r
+ran-as {s} {replies = replies} {n} {entry} {exit} {r} e o = subst (λ (y : Model.Done). Ran s y replies n entry exit r) (sym e) o
+
+-- the cells of a table's columns
+pub columns-same : (cells columns : List (List ℕ)) (t : ℕ) {w : ℕ} → t < tableCount cells → w ≡ t → columns ≡ columnsAt cells w → columnsOf (packedTables cells) t ≡ map columnFrom columns
+columns-same cells columns t h e q = columns-in cells t h ∙ ap (map columnFrom) (sym (q ∙ ap (columnsAt cells) e))
+
+-- the first n rows
+pub front : (n : ℕ) (rows : List (List (List ℕ))) → n ≤ 32 → 32 ≤ length rows → (n ≡ length (take n rows)) × (length (take n rows) ≤ 32)
+front n rows few room = let e = length-take-le n rows (omega (arith, few, room)) in (sym e, omega (arith, e, few))
+
 -- ── the conditions of an operation ──
-module _ (text : List ℕ) (ops : Found) (fresh : List ℕ) (columns : List (List ℕ)) (ms : List Named) (p : ℕ) where
-  abbrev names : Names
-  names = namesAt text ops fresh
+module _ (text : List ℕ) (names : List ℕ) (columns : List (List ℕ)) (ms : List Named) (p : ℕ) where
+  abbrev known : Names
+  known = namesAt text names
 
   abbrev cs : List Column
   cs = map columnFrom columns
 
-  -- the conditions from a place on are those that the operation has
-  pub record Where (g : Found) : Type 0 where
-    pub items : itemsFine text g ≡ true
-    pub fine : isFine (testsAt text ops fresh columns g .fault) ≡ true
-    pub tests : Model.readWhere names cs ms ≡ testsAt text ops fresh columns g
+  -- marks of the first n rows: which of them are of its table and meet the operation's conditions
+  abbrev pub Chosen : ℕ → ℕ → List (List (List ℕ)) → List Bool → Type 0
+  Chosen table n rows marks = MarkedRows cs (whereAt text names columns p .got) table n rows marks
 
-  pub where-got : memberNamed (ascii "where") ms ≡ slotted text p → SlotFine text p → {w : Fault} → w ≡ whereAt text ops fresh columns p .fault → isFine w ≡ true → {g : Found} → g ≡ firstOf text 91 93 p → Where g
-  where-got there fine {w} ew y {g} eg =
-      let z : isFine (whereAt text ops fresh columns p .fault) ≡ true = ap isFine (sym ew) ∙ y in
-      let l = where-fine text ops fresh columns p fine z in
-      let t = l .tests ∙ ap (testsAt text ops fresh columns) (sym eg) in
-      record {
-        items = ap (itemsFine text) eg ∙ l .items;
-        fine = ap (λ (j : Judged (List Test)). isFine (j .fault)) (sym t) ∙ z;
-        tests = where-by text ops fresh columns ms p there ∙ t;
-      }
+  pub chosen : (table n : ℕ) (rows : List (List (List ℕ))) {w : Fault} {before after : List Bool} → OfTable table (take n rows) before → TestsTold cs (whereAt text names columns p) w (take n rows) before after
+      → isFine w ≡ true → n ≤ length rows → Chosen table n rows after
+  chosen table n rows {after = after} o t y h = marked-front cs (whereAt text names columns p .got) table n rows after (t .marks (ap isFine (sym (t .fault)) ∙ y) table o) h
 
-  -- the answer's count is that of the rows that match
-  pub counted : {g : Found} → Where g → (table : ℕ) (rows : List Row) {k at e : ℕ} {before after : List ℕ}
-      → k ≡ count (matches table (testsAt text ops fresh columns g .got)) rows → Put 30 before at (countResult k) e after
-      → Put 200000 before at (countText (count (matches table (Model.readWhere names cs ms .got)) rows)) e after
-  unfolding countResult
-  counted l table rows ek put =
-      put-is put (ap countText (ek ∙ ap (λ (j : Judged (List Test)). count (matches table (j .got)) rows) (sym (l .tests)))) (omega arith)
+  -- the reply's count is that of the rows that match
+  pub counted : memberNamed (ascii "where") ms ≡ slotted text p → (s : Schema) (table n : ℕ) → columnsOf s table ≡ cs → (rows : List (List (List ℕ))) (marks : List Bool) → n ≤ length rows → Chosen table n rows marks
+      → (id : ℕ) {k : ℕ} → k ≡ marked marks n → Replies id (Count k) (countText (count (matches table (Model.readWhere known cs ms .got)) (working s n rows)))
+  unfolding Replies
+  counted there s table n same rows marks h m id ek =
+      sym (ap countText (ek ∙ marked-count cs (whereAt text names columns p .got) table rows marks s same n h m
+      ∙ ap (λ (j : Judged (List Test)). count (matches table (j .got)) (working s n rows)) (sym (where-by text names columns ms p there))))
 
 -- ── delete ──
-module _ (text : List ℕ) (ops : Found) (fresh : List ℕ) (columns : List (List ℕ)) (op table : ℕ) {slots : List ℕ}
+module _ (text : List ℕ) (names : List ℕ) (columns : List (List ℕ)) (op table : ℕ) {slots : List ℕ}
     (k : Slots text (ascii "op" ∷ ascii "table" ∷ ascii "where" ∷ []) (membersIn (treeAt text op)) slots) where
   abbrev del-ms : List Named
   del-ms = membersIn (treeAt text op)
@@ -148,37 +157,36 @@ module _ (text : List ℕ) (ops : Found) (fresh : List ℕ) (columns : List (Lis
   pub delete-slot : SlotFine text del-p
   delete-slot = slot-fine k 2 (omega arith)
 
-  module _ {l w f : Fault} (el : l ≡ listedFault (getD slots 9 0)) (ew : w ≡ whereAt text ops fresh columns del-p .fault) (ef : f ≡ earlier l w) where
-    pub delete-fault : (rows : List Row) → f ≡ deleting text ops fresh op rows table (map columnFrom columns) .fault
+  module _ {l w f : Fault} (el : l ≡ listedFault (getD slots 9 0)) (ew : w ≡ whereAt text names columns del-p .fault) (ef : f ≡ earlier l w) where
+    pub delete-fault : (rows : List Row) → f ≡ deleting text names op rows table (map columnFrom columns) .fault
     unfolding deleting listedFault
     delete-fault rows =
         ef
         ∙ (λ i. earlier (el i) (ew i))
         ∙ sym
-        ((λ i. worst (check (k .listed i) Syntax Fine ∷ where-by text ops fresh columns del-ms del-p del-there i .fault ∷ []))
-        ∙ worst-two (check (eqb (getD slots 9 0) 0) Syntax Fine) (whereAt text ops fresh columns del-p .fault))
+        ((λ i. worst (check (k .listed i) Syntax Fine ∷ where-by text names columns del-ms del-p del-there i .fault ∷ []))
+        ∙ worst-two (check (eqb (getD slots 9 0) 0) Syntax Fine) (whereAt text names columns del-p .fault))
 
-    module _ (y : isFine f ≡ true) {g : Found} (eg : g ≡ firstOf text 91 93 del-p) where
-      pub delete-where : Where text ops fresh columns del-ms del-p g
-      delete-where = where-got text ops fresh columns del-ms del-p del-there delete-slot ew (earlier-fine l w (ap isFine (sym ef) ∙ y) .1) eg
+    module _ (y : isFine f ≡ true) where
+      pub delete-where : isFine w ≡ true
+      delete-where = earlier-fine l w (ap isFine (sym ef) ∙ y) .1
 
-      pub delete-done : (s : Schema) → columnsOf s table ≡ map columnFrom columns → {n c m at e : ℕ} {entry exit : List (List (List ℕ))} {before after : List ℕ}
-          → n ≤ 32 → c ≡ count (matches table (testsAt text ops fresh columns g .got)) (working s n entry)
-          → Deleted (map columnFrom columns) table (testsAt text ops fresh columns g .got) n m entry exit → Put 30 before at (countResult c) e after
-          → Ran s (deleting text ops fresh op (working s n entry) table (map columnFrom columns)) n entry exit at before after (record { fault = Fine; count = m; at = e })
+      pub delete-done : (s : Schema) → columnsOf s table ≡ map columnFrom columns → (id : ℕ) {n c m : ℕ} {entry exit : List (List (List ℕ))} (marks : List Bool)
+          → n ≤ 32 → n ≤ length entry → Chosen text names columns del-ms del-p table n entry marks → c ≡ marked marks n
+          → Deleted (map columnFrom columns) table (whereAt text names columns del-p .got) n m entry exit
+          → Ran s (deleting text names op (working s n entry) table (map columnFrom columns)) (Replies id) n entry exit (record { fault = Fine; count = m; reply = Count c })
       unfolding deleting
-      delete-done s same {n} {c} {m} {entry = entry} few ec gone put =
-          let here = delete-where in
+      delete-done s same id {n} {entry = entry} marks few long ms ec gone =
           ran-done
           (let x = gone .few in omega arith)
           (delete-fault (working s n entry))
           y
-          (gone .rows s same ∙ ap (λ (j : Judged (List Test)). keep (λ (r : Row). not (matches table (j .got) r)) (working s n entry)) (sym (here .tests)))
+          (gone .rows s same ∙ ap (λ (j : Judged (List Test)). keep (λ (r : Row). not (matches table (j .got) r)) (working s n entry)) (sym (where-by text names columns del-ms del-p del-there)))
           (gone .tidy s)
-          (counted text ops fresh columns del-ms del-p here table (working s n entry) ec put)
+          (counted text names columns del-ms del-p del-there s table n same entry marks long ms id ec)
 
 -- ── update ──
-module _ (text : List ℕ) (ops : Found) (fresh : List ℕ) (columns : List (List ℕ)) (op table : ℕ) {slots : List ℕ}
+module _ (text : List ℕ) (names : List ℕ) (columns : List (List ℕ)) (op table : ℕ) {slots : List ℕ}
     (k : Slots text (ascii "op" ∷ ascii "table" ∷ ascii "where" ∷ ascii "row" ∷ []) (membersIn (treeAt text op)) slots) where
   abbrev up-ms : List Named
   up-ms = membersIn (treeAt text op)
@@ -198,53 +206,49 @@ module _ (text : List ℕ) (ops : Found) (fresh : List ℕ) (columns : List (Lis
   pub update-row-slot : SlotFine text up-q
   update-row-slot = slot-fine k 3 (omega arith)
 
-  up-row : Model.readRow (namesAt text ops fresh) Model.noFault Model.immutableFault (map columnFrom columns) up-ms ≡ rowAt false text ops fresh columns up-q
-  up-row = row-by text ops fresh columns up-ms up-q false (slot-find k 3 (omega arith))
+  up-row : Model.readRow (namesAt text names) Model.noFault Model.immutableFault (map columnFrom columns) up-ms ≡ rowAt false text names columns up-q
+  up-row = row-by text names columns up-ms up-q false (slot-find k 3 (omega arith))
 
-  module _ {l w v u f : Fault} (el : l ≡ listedFault (getD slots 9 0)) (ew : w ≡ whereAt text ops fresh columns up-p .fault) (ev : v ≡ rowAt false text ops fresh columns up-q .fault) (eu : u ≡ earlier w v) (ef : f ≡ earlier l u) where
-    pub update-fault : (rows : List Row) → f ≡ updating text ops fresh op rows table (map columnFrom columns) .fault
+  module _ {l w v u f : Fault} (el : l ≡ listedFault (getD slots 9 0)) (ew : w ≡ whereAt text names columns up-p .fault) (ev : v ≡ rowAt false text names columns up-q .fault) (eu : u ≡ earlier w v) (ef : f ≡ earlier l u) where
+    pub update-fault : (rows : List Row) → f ≡ updating text names op rows table (map columnFrom columns) .fault
     unfolding updating listedFault
     update-fault rows =
         ef
         ∙ (λ i. earlier (el i) ((eu ∙ (λ j. earlier (ew j) (ev j))) i))
         ∙ sym
-        ((λ i. worst (check (k .listed i) Syntax Fine ∷ where-by text ops fresh columns up-ms up-p up-there i .fault ∷ up-row i .fault ∷ []))
-        ∙ worst-three (check (eqb (getD slots 9 0) 0) Syntax Fine) (whereAt text ops fresh columns up-p .fault) (rowAt false text ops fresh columns up-q .fault))
+        ((λ i. worst (check (k .listed i) Syntax Fine ∷ where-by text names columns up-ms up-p up-there i .fault ∷ up-row i .fault ∷ []))
+        ∙ worst-three (check (eqb (getD slots 9 0) 0) Syntax Fine) (whereAt text names columns up-p .fault) (rowAt false text names columns up-q .fault))
 
-    module _ (y : isFine f ≡ true) {g : Found} (eg : g ≡ firstOf text 91 93 up-p) where
-      up-parts : (isFine w ≡ true) × (isFine v ≡ true)
+    module _ (y : isFine f ≡ true) where
+      pub up-parts : (isFine w ≡ true) × (isFine v ≡ true)
       up-parts = earlier-fine w v (ap isFine (sym eu) ∙ earlier-fine l u (ap isFine (sym ef) ∙ y) .1)
 
-      pub update-where : Where text ops fresh columns up-ms up-p g
-      update-where = where-got text ops fresh columns up-ms up-p up-there update-slot ew (up-parts .0) eg
-
-      up-fine : isFine (rowAt false text ops fresh columns up-q .fault) ≡ true
+      up-fine : isFine (rowAt false text names columns up-q .fault) ≡ true
       up-fine = ap isFine (sym ev) ∙ up-parts .1
 
-      pub update-row : (wellAt text up-q ≡ true) × (isFine (writtenRow false text ops fresh columns up-q .fault) ≡ true) × (rowAt false text ops fresh columns up-q ≡ writtenRow false text ops fresh columns up-q)
+      pub update-row : (wellAt text up-q ≡ true) × (isFine (writtenRow false text names columns up-q .fault) ≡ true) × (rowAt false text names columns up-q ≡ writtenRow false text names columns up-q)
       update-row =
-          let r = row-fine text ops fresh columns up-q update-row-slot false up-fine in
+          let r = row-fine text names columns up-q update-row-slot false up-fine in
           (r .0, ap (λ (j : Judged (List (Option Value))). isFine (j .fault)) (sym (r .1)) ∙ up-fine, r .1)
 
-      pub update-done : (s : Schema) → columnsOf s table ≡ map columnFrom columns → {n c at e : ℕ} {entry exit : List (List (List ℕ))} {before after : List ℕ}
-          → n ≤ 32 → c ≡ count (matches table (testsAt text ops fresh columns g .got)) (working s n entry)
-          → Updated (map columnFrom columns) (testsAt text ops fresh columns g .got) (writtenRow false text ops fresh columns up-q .got) table n entry exit → Put 30 before at (countResult c) e after
-          → Ran s (updating text ops fresh op (working s n entry) table (map columnFrom columns)) n entry exit at before after (record { fault = Fine; count = n; at = e })
+      pub update-done : (s : Schema) → columnsOf s table ≡ map columnFrom columns → (id : ℕ) {n c : ℕ} {entry exit : List (List (List ℕ))} (marks : List Bool)
+          → n ≤ 32 → n ≤ length entry → Chosen text names columns up-ms up-p table n entry marks → c ≡ marked marks n
+          → Updated (map columnFrom columns) (whereAt text names columns up-p .got) (writtenRow false text names columns up-q .got) table n entry exit
+          → Ran s (updating text names op (working s n entry) table (map columnFrom columns)) (Replies id) n entry exit (record { fault = Fine; count = n; reply = Count c })
       unfolding updating
-      update-done s same {n} {c} {entry = entry} few ec done put =
-          let here = update-where in
+      update-done s same id {n} {entry = entry} marks few long ms ec done =
           ran-done
           few
           (update-fault (working s n entry))
           y
           (done .rows s same
           ∙ sym
-          (λ i. map (Model.updateRow (matches table (here .tests i .got)) ((up-row ∙ update-row .2) i .got)) (working s n entry)))
+          (λ i. map (Model.updateRow (matches table (where-by text names columns up-ms up-p up-there i .got)) ((up-row ∙ update-row .2) i .got)) (working s n entry)))
           (done .tidy s same)
-          (counted text ops fresh columns up-ms up-p here table (working s n entry) ec put)
+          (counted text names columns up-ms up-p up-there s table n same entry marks long ms id ec)
 
 -- ── mutate ──
-module _ (text : List ℕ) (ops : Found) (fresh : List ℕ) (columns : List (List ℕ)) (op table : ℕ) {slots : List ℕ}
+module _ (text : List ℕ) (names : List ℕ) (columns : List (List ℕ)) (op table : ℕ) {slots : List ℕ}
     (k : Slots text (ascii "op" ∷ ascii "table" ∷ ascii "where" ∷ ascii "mutations" ∷ []) (membersIn (treeAt text op)) slots) where
   abbrev mu-ms : List Named
   mu-ms = membersIn (treeAt text op)
@@ -264,78 +268,75 @@ module _ (text : List ℕ) (ops : Found) (fresh : List ℕ) (columns : List (Lis
   pub mutate-list-slot : SlotFine text mu-q
   mutate-list-slot = slot-fine k 3 (omega arith)
 
-  mu-list : Model.readMutationList (namesAt text ops fresh) (map columnFrom columns) mu-ms ≡ mutationsIn text ops fresh columns mu-q
-  mu-list = mutations-by text ops fresh columns mu-ms mu-q (slot-find k 3 (omega arith))
+  mu-list : Model.readMutationList (namesAt text names) (map columnFrom columns) mu-ms ≡ mutationsIn text names columns mu-q
+  mu-list = mutations-by text names columns mu-ms mu-q (slot-find k 3 (omega arith))
 
   -- the fault of the members, and behind it that of the rows
   abbrev mu-members : Fault
   mu-members =
       worst
       (check (only (ascii "op" ∷ ascii "table" ∷ ascii "where" ∷ ascii "mutations" ∷ []) mu-ms) Syntax Fine
-      ∷ Model.readWhere (namesAt text ops fresh) (map columnFrom columns) mu-ms .fault
-      ∷ Model.readMutationList (namesAt text ops fresh) (map columnFrom columns) mu-ms .fault
+      ∷ Model.readWhere (namesAt text names) (map columnFrom columns) mu-ms .fault
+      ∷ Model.readMutationList (namesAt text names) (map columnFrom columns) mu-ms .fault
       ∷ [])
 
   abbrev mu-rows : List Row → Fault
   mu-rows rows =
-      Model.mutateRows (matches table (Model.readWhere (namesAt text ops fresh) (map columnFrom columns) mu-ms .got)) (Model.readMutationList (namesAt text ops fresh) (map columnFrom columns) mu-ms .got) rows .fault
+      Model.mutateRows (matches table (Model.readWhere (namesAt text names) (map columnFrom columns) mu-ms .got)) (Model.readMutationList (namesAt text names) (map columnFrom columns) mu-ms .got) rows .fault
 
-  module _ {l w v u f : Fault} (el : l ≡ listedFault (getD slots 9 0)) (ew : w ≡ whereAt text ops fresh columns mu-p .fault) (ev : v ≡ mutationsIn text ops fresh columns mu-q .fault) (eu : u ≡ earlier w v) (ef : f ≡ earlier l u) where
+  module _ {l w v u f : Fault} (el : l ≡ listedFault (getD slots 9 0)) (ew : w ≡ whereAt text names columns mu-p .fault) (ev : v ≡ mutationsIn text names columns mu-q .fault) (eu : u ≡ earlier w v) (ef : f ≡ earlier l u) where
     mu-fault : f ≡ mu-members
     unfolding listedFault
     mu-fault =
         ef
         ∙ (λ i. earlier (el i) ((eu ∙ (λ j. earlier (ew j) (ev j))) i))
         ∙ sym
-        ((λ i. worst (check (k .listed i) Syntax Fine ∷ where-by text ops fresh columns mu-ms mu-p mu-there i .fault ∷ mu-list i .fault ∷ []))
-        ∙ worst-three (check (eqb (getD slots 9 0) 0) Syntax Fine) (whereAt text ops fresh columns mu-p .fault) (mutationsIn text ops fresh columns mu-q .fault))
+        ((λ i. worst (check (k .listed i) Syntax Fine ∷ where-by text names columns mu-ms mu-p mu-there i .fault ∷ mu-list i .fault ∷ []))
+        ∙ worst-three (check (eqb (getD slots 9 0) 0) Syntax Fine) (whereAt text names columns mu-p .fault) (mutationsIn text names columns mu-q .fault))
 
-    pub mutate-fault : isFine f ≡ false → (rows : List Row) → f ≡ mutating text ops fresh op rows table (map columnFrom columns) .fault
+    pub mutate-fault : isFine f ≡ false → (rows : List Row) → f ≡ mutating text names op rows table (map columnFrom columns) .fault
     unfolding mutating
     mutate-fault bad rows = mu-fault ∙ sym (ap (λ (b : Bool). elim b [ true ↦ mu-rows rows | false ↦ mu-members ]) (ap isFine (sym mu-fault) ∙ bad))
 
-    module _ (y : isFine f ≡ true) {g h : Found} (eg : g ≡ firstOf text 91 93 mu-p) (eh : h ≡ firstOf text 91 93 mu-q) where
-      mu-parts : (isFine w ≡ true) × (isFine v ≡ true)
+    module _ (y : isFine f ≡ true) {h : Found} (eh : h ≡ firstOf text 91 93 mu-q) where
+      pub mu-parts : (isFine w ≡ true) × (isFine v ≡ true)
       mu-parts = earlier-fine w v (ap isFine (sym eu) ∙ earlier-fine l u (ap isFine (sym ef) ∙ y) .1)
 
-      pub mutate-where : Where text ops fresh columns mu-ms mu-p g
-      mutate-where = where-got text ops fresh columns mu-ms mu-p mu-there mutate-slot ew (mu-parts .0) eg
-
-      mu-fine : isFine (mutationsIn text ops fresh columns mu-q .fault) ≡ true
+      mu-fine : isFine (mutationsIn text names columns mu-q .fault) ≡ true
       mu-fine = ap isFine (sym ev) ∙ mu-parts .1
 
-      pub mutate-list : (itemsFine text h ≡ true) × (isFine (mutationsAt text ops fresh columns h .fault) ≡ true) × (mutationsIn text ops fresh columns mu-q ≡ mutationsAt text ops fresh columns h)
+      pub mutate-list : (itemsFine text h ≡ true) × (isFine (mutationsAt text names columns h .fault) ≡ true) × (mutationsIn text names columns mu-q ≡ mutationsAt text names columns h)
       mutate-list =
-          let r = mutations-fine text ops fresh columns mu-q mutate-list-slot mu-fine in
-          let t = r .1 ∙ ap (mutationsAt text ops fresh columns) (sym eh) in
+          let r = mutations-fine text names columns mu-q mutate-list-slot mu-fine in
+          let t = r .1 ∙ ap (mutationsAt text names columns) (sym eh) in
           (ap (itemsFine text) eh ∙ r .0, ap (λ (j : Judged (List Mutation)). isFine (j .fault)) (sym t) ∙ mu-fine, t)
 
       module _ (s : Schema) (same : columnsOf s table ≡ map columnFrom columns) {n : ℕ} {m : Fault} {entry exit : List (List (List ℕ))}
-          (done : Mutated (map columnFrom columns) table (testsAt text ops fresh columns g .got) (mutationsAt text ops fresh columns h .got) n m entry exit) where
+          (done : Mutated (map columnFrom columns) table (whereAt text names columns mu-p .got) (mutationsAt text names columns h .got) n m entry exit) where
         -- the rows are mutated as the members say
-        mu-same : Model.mutateRows (matches table (testsAt text ops fresh columns g .got)) (mutationsAt text ops fresh columns h .got) (working s n entry)
-            ≡ Model.mutateRows (matches table (Model.readWhere (namesAt text ops fresh) (map columnFrom columns) mu-ms .got)) (Model.readMutationList (namesAt text ops fresh) (map columnFrom columns) mu-ms .got) (working s n entry)
-        mu-same = sym (λ i. Model.mutateRows (matches table (mutate-where .tests i .got)) ((mu-list ∙ mutate-list .2) i .got) (working s n entry))
+        mu-same : Model.mutateRows (matches table (whereAt text names columns mu-p .got)) (mutationsAt text names columns h .got) (working s n entry)
+            ≡ Model.mutateRows (matches table (Model.readWhere (namesAt text names) (map columnFrom columns) mu-ms .got)) (Model.readMutationList (namesAt text names) (map columnFrom columns) mu-ms .got) (working s n entry)
+        mu-same = sym (λ i. Model.mutateRows (matches table (where-by text names columns mu-ms mu-p mu-there i .got)) ((mu-list ∙ mutate-list .2) i .got) (working s n entry))
 
-        pub mutate-rows-fault : m ≡ mutating text ops fresh op (working s n entry) table (map columnFrom columns) .fault
+        mutate-rows-fault : m ≡ mutating text names op (working s n entry) table (map columnFrom columns) .fault
         unfolding mutating
         mutate-rows-fault =
             done .fault s same
             ∙ ap (λ (j : Judged (List Row)). j .fault) mu-same
             ∙ sym (ap (λ (b : Bool). elim b [ true ↦ mu-rows (working s n entry) | false ↦ mu-members ]) (ap isFine (sym mu-fault) ∙ y))
 
-        pub mutate-done : {c at e : ℕ} {before after : List ℕ}
-            → n ≤ 32 → c ≡ count (matches table (testsAt text ops fresh columns g .got)) (working s n entry) → isFine m ≡ true → Put 30 before at (countResult c) e after
-            → Ran s (mutating text ops fresh op (working s n entry) table (map columnFrom columns)) n entry exit at before after (record { fault = Fine; count = n; at = e })
+        pub mutate-done : (id : ℕ) {c : ℕ} (marks : List Bool) → n ≤ 32 → n ≤ length entry → Chosen text names columns mu-ms mu-p table n entry marks → c ≡ marked marks n
+            → Ran s (mutating text names op (working s n entry) table (map columnFrom columns)) (Replies id) n entry exit (record { fault = m; count = n; reply = Count c })
         unfolding mutating
-        mutate-done few ec z put =
-            ran-done
-            few
-            mutate-rows-fault
-            z
-            (done .rows s same z ∙ ap (λ (j : Judged (List Row)). j .got) mu-same)
-            (done .tidy s same)
-            (counted text ops fresh columns mu-ms mu-p mutate-where table (working s n entry) ec put)
+        mutate-done id marks few long ms ec =
+            record {
+              fault = mutate-rows-fault;
+              few = few;
+              rows = λ z. done .rows s same z ∙ ap (λ (j : Judged (List Row)). j .got) mu-same;
+              reply = λ _. counted text names columns mu-ms mu-p mu-there s table n same entry marks long ms id ec;
+              still = λ _. refl;
+              tidy = done .tidy s same;
+            }
 
 -- ── insert ──
 pub room-is : (n : ℕ) {b : Bool} → ltb n 32 ≡ b → roomFault n ≡ check b Resources Fine
@@ -346,7 +347,7 @@ pub working-length : (s : Schema) (n : ℕ) (entry : List (List (List ℕ))) →
 unfolding working
 working-length s n entry h = length-map (take n entry) (rowFrom s) ∙ simp length-take (omega arith)
 
-module _ (text : List ℕ) (ops : Found) (fresh : List ℕ) (columns : List (List ℕ)) (i op table : ℕ) {slots : List ℕ}
+module _ (text : List ℕ) (names : List ℕ) (columns : List (List ℕ)) (i op table : ℕ) {slots : List ℕ}
     (k : Slots text (ascii "op" ∷ ascii "table" ∷ ascii "row" ∷ ascii "uuid-name" ∷ []) (membersIn (treeAt text op)) slots) where
   abbrev in-ms : List Named
   in-ms = membersIn (treeAt text op)
@@ -357,20 +358,20 @@ module _ (text : List ℕ) (ops : Found) (fresh : List ℕ) (columns : List (Lis
   pub insert-slot : SlotFine text in-q
   insert-slot = slot-fine k 2 (omega arith)
 
-  in-row : Model.readRow (namesAt text ops fresh) Model.defaultFault Model.noFault (map columnFrom columns) in-ms ≡ rowAt true text ops fresh columns in-q
-  in-row = row-by text ops fresh columns in-ms in-q true (slot-find k 2 (omega arith))
+  in-row : Model.readRow (namesAt text names) Model.defaultFault Model.noFault (map columnFrom columns) in-ms ≡ rowAt true text names columns in-q
+  in-row = row-by text names columns in-ms in-q true (slot-find k 2 (omega arith))
 
-  module _ (m : Fault) (n : ℕ) {l v r a b f : Fault} (el : l ≡ listedFault (getD slots 9 0)) (ev : v ≡ rowAt true text ops fresh columns in-q .fault) (er : r ≡ roomFault n)
+  module _ (m : Fault) (n : ℕ) {l v r a b f : Fault} (el : l ≡ listedFault (getD slots 9 0)) (ev : v ≡ rowAt true text names columns in-q .fault) (er : r ≡ roomFault n)
       (ea : a ≡ earlier r m) (eb : b ≡ earlier v a) (ef : f ≡ earlier l b) where
     pub insert-fault : (given : List (List ℕ)) → m ≡ Model.nameFault given (slotted text (getD slots 3 0)) → (id : ℕ) (rows : List Row) → length rows ≡ n
-        → f ≡ inserting given id text ops fresh op rows table (map columnFrom columns) .fault
+        → f ≡ inserting given id text names op rows table (map columnFrom columns) .fault
     unfolding inserting listedFault roomFault
     insert-fault given em id rows size =
         ef
         ∙ (λ j. earlier (el j) ((eb ∙ (λ h. earlier (ev h) ((ea ∙ (λ x. earlier (er x) (em x))) h))) j))
         ∙ sym
         ((λ j. worst (check (k .listed j) Syntax Fine ∷ in-row j .fault ∷ check (ltb (size j) 32) Resources Fine ∷ Model.nameFault given (slot-find k 3 (omega arith) j) ∷ []))
-        ∙ worst-four (check (eqb (getD slots 9 0) 0) Syntax Fine) (rowAt true text ops fresh columns in-q .fault) (check (ltb n 32) Resources Fine) (Model.nameFault given (slotted text (getD slots 3 0))))
+        ∙ worst-four (check (eqb (getD slots 9 0) 0) Syntax Fine) (rowAt true text names columns in-q .fault) (check (ltb n 32) Resources Fine) (Model.nameFault given (slotted text (getD slots 3 0))))
 
     module _ (y : isFine f ≡ true) where
       in-rest : isFine b ≡ true
@@ -384,29 +385,29 @@ module _ (text : List ℕ) (ops : Found) (fresh : List ℕ) (columns : List (Lis
       unfolding roomFault
       insert-room = ltb-true n 32 (check-true (ltb n 32) Resources refl (ap isFine (sym er) ∙ earlier-fine r m (ap isFine (sym ea) ∙ in-parts .1) .0))
 
-      in-fine : isFine (rowAt true text ops fresh columns in-q .fault) ≡ true
+      in-fine : isFine (rowAt true text names columns in-q .fault) ≡ true
       in-fine = ap isFine (sym ev) ∙ in-parts .0
 
-      pub insert-row : (wellAt text in-q ≡ true) × (isFine (writtenRow true text ops fresh columns in-q .fault) ≡ true) × (rowAt true text ops fresh columns in-q ≡ writtenRow true text ops fresh columns in-q)
+      pub insert-row : (wellAt text in-q ≡ true) × (isFine (writtenRow true text names columns in-q .fault) ≡ true) × (rowAt true text names columns in-q ≡ writtenRow true text names columns in-q)
       insert-row =
-          let w = row-fine text ops fresh columns in-q insert-slot true in-fine in
+          let w = row-fine text names columns in-q insert-slot true in-fine in
           (w .0, ap (λ (j : Judged (List (Option Value))). isFine (j .fault)) (sym (w .1)) ∙ in-fine, w .1)
 
       pub insert-done : (given : List (List ℕ)) → m ≡ Model.nameFault given (slotted text (getD slots 3 0)) → (s : Schema) → columnsOf s table ≡ map columnFrom columns
-          → {at e : ℕ} {entry exit : List (List (List ℕ))} {before after : List ℕ} (id : List ℕ) → n ≤ length entry → value id ≡ freshAt fresh i
-          → Inserted (map columnFrom columns) (writtenRow true text ops fresh columns in-q .got) table (value id) n entry exit → Put 68 before at (insertResult id) e after
-          → Ran s (inserting given (freshAt fresh i) text ops fresh op (working s n entry) table (map columnFrom columns)) n entry exit at before after (record { fault = Fine; count = n + 1; at = e })
-      unfolding inserting insertResult
-      insert-done given em s same {entry = entry} id long eid done put =
+          → {entry exit : List (List (List ℕ))} (id : List ℕ) → n ≤ length entry → value id ≡ freshAt names i
+          → Inserted (map columnFrom columns) (writtenRow true text names columns in-q .got) table (value id) n entry exit
+          → Ran s (inserting given (freshAt names i) text names op (working s n entry) table (map columnFrom columns)) (Replies (freshAt names i)) n entry exit (record { fault = Fine; count = n + 1; reply = Id })
+      unfolding inserting Replies
+      insert-done given em s same {entry} id long eid done =
           ran-done
           (let x = insert-room in omega arith)
-          (insert-fault given em (freshAt fresh i) (working s n entry) (working-length s n entry long))
+          (insert-fault given em (freshAt names i) (working s n entry) (working-length s n entry long))
           y
           (done .rows s same
           ∙ sym
           (λ j. add (record { table = table; id = sym eid j; columns = Model.assigned ((in-row ∙ insert-row .2) j .got) (map initial (map columnFrom columns)) }) (working s n entry)))
           (done .tidy s same)
-          (put-is put (ap insertText eid) (omega arith))
+          refl
 
 -- an id copied
 pub id-copied : (fresh : List ℕ) (k : ℕ) (src : List ℕ) {r : List ℕ} → FreshId fresh k src → r ≡ src ++ drop (length src) (replicate 16 0) → FreshId fresh k r

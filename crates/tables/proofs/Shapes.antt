@@ -21,10 +21,10 @@ use Rattle.model.specs.Catalog.{entryName, columnFrom, indexFrom, indexesFrom, 
 use Rattle.model.specs.SchemaText.{only, must, may, isBool, isWithin, sizeOr, truthOr, names, isId, columnsFit, columnOf, indexOf, indexesFit, tableFits, tableOf, tableColumns, maxRowsOf}
 use Rattle.model.proofs.Tests.{split, clash, and-l, and-r, or-l}
 use Rattle.model.proofs.SchemaLaws.{within-size}
-use Rattle.fields.specs.Fields.{slotTree, Slots}
-use Rattle.fields.proofs.Kept.{slot-none}
-use Rattle.fields.proofs.Slotted.{at-some, must-null, may-slot}
-use Rattle.types.proofs.Keys.{both}
+use Rattle.members.specs.Fields.{slotTree, Slots}
+use Rattle.members.proofs.Kept.{slot-none}
+use Rattle.members.proofs.Slotted.{at-some, must-null, may-slot}
+use Rattle.column_types.proofs.Keys.{both}
 use Rattle.columns.specs.Columns.{ColumnsRead}
 use Rattle.indexes.specs.Indexes.{Stored}
 use Rattle.indexes.proofs.Shorts.{columns-ids}

@@ -16,7 +16,7 @@ use Rattle.model.specs.Schema.{Table}
 use Rattle.model.specs.Catalog.{columnsOffset, rootOffset, indexesOffset, entryName, columnFrom, isSet, maxRowsFrom, indexesFrom, columnCount, tablesFrom}
 use Rattle.model.specs.SchemaText.{names, isId, isWithin, indexOf, indexesFit, tableFits, tableOf, tablesFit}
 use Rattle.names.specs.Names.{nameCell}
-use Rattle.fields.specs.Fields.{mostWords, slotTree}
+use Rattle.members.specs.Fields.{mostWords, slotTree}
 use Rattle.columns.specs.Parts.{memberOf}
 use Rattle.tables.specs.declared.Read.{Read}
 

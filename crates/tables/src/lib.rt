@@ -1,7 +1,7 @@
 // Tables as a schema writes them, read into cells.
 use catalog::FIRST_COLUMN;
-use fields::Places;
-use fields::WORDS;
+use members::Places;
+use members::WORDS;
 use model::COLUMNS;
 use model::ENTRY;
 use model::Entry;
@@ -20,7 +20,7 @@ ghost use Rattle.inner.specs.Positions.{Says, wellAt, treeAt};
 ghost use Rattle.model.specs.Members.{membersIn};
 ghost use Rattle.model.specs.Catalog.{entryName};
 ghost use Rattle.model.specs.SchemaText.{names, isId};
-ghost use Rattle.fields.specs.Fields.{slotTree};
+ghost use Rattle.members.specs.Fields.{slotTree};
 ghost use Rattle.columns.specs.Columns.{ColumnsRead};
 ghost use Rattle.tables.specs.Tables.{restTold, IndexesIn, NameOnly, TableRead, headAt, Heads, EachRead, TablesRead};
 
@@ -76,8 +76,8 @@ fn indexes_in(
 fn rest_fits(text: &[u8], f: Places, w: Whole) -> bool
     ensures { λ r. ⌜ r ≡ restTold (now (text .entry)) f w ⌝ }
 {
-    let a = types::is_within(1, 9223372036854775807, w);
-    let k = fields::kind_in(text, f[2]);
+    let a = column_types::is_within(1, 9223372036854775807, w);
+    let k = members::kind_in(text, f[2]);
     let b = leaf::is_kind(k, Kind::Truth);
     (f[WORDS] == 0) & (((f[1] == 0) | a) & ((f[2] == 0) | b))
 }
@@ -99,7 +99,7 @@ fn read_table(
     requires { ⌜ mostColumns ≤ length (now columns) ⌝ }
     ensures { λ r. ⌜ TableRead (map entryName (now (tables .entry))) (entryName name) (treeAt (now (text .entry)) at) r (now (columns .entry)) (now (columns .exit)) ⌝ }
 {
-    let f = fields::fields(
+    let f = members::fields(
         text,
         ends,
         at,
@@ -112,9 +112,9 @@ fn read_table(
             cell: name,
         };
     }
-    let w = fields::whole_in(text, ends, f[1]);
-    let root = fields::truth_in(text, f[2], false);
-    let most = types::size_or(0, w);
+    let w = members::whole_in(text, ends, f[1]);
+    let root = members::truth_in(text, f[2], false);
+    let most = column_types::size_or(0, w);
     let mut cell = name;
     catalog::put_head(&mut cell, n as u8, root, f[1] != 0, most);
     let a = rest_fits(text, f, w);

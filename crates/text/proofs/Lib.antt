@@ -4,4 +4,5 @@ pub mod Units
 pub mod Matching
 pub mod Sizes
 pub mod Words
+pub mod Stepping
 pub mod Last

@@ -1,14 +1,13 @@
--- Bytes compared one after another, characters counted, quotes looked for. Assumes nothing.
-use mathlib.Core.Path.{_≡_, refl, sym, ap, _∙_}
+-- Bytes compared one after another, quotes looked for. Assumes nothing.
+use mathlib.Core.Path.{_≡_, refl}
 use mathlib.Core.List.{List, [], _∷_, _++_}
-use mathlib.Core.Bool.{Bool, true, false, cond, _&&_}
-use Prim.Native.Nat.{ℕ, zero, suc, _+_, _-_, _<_, _≤_}
+use mathlib.Core.Bool.{Bool, true, false, cond}
+use Prim.Native.Nat.{ℕ, suc, _+_, _-_, _<_, _≤_}
 use native.Mathlib.Numerals.{add-one}
 use native.Mathlib.Omega.{arith}
-use native.Mathlib.Decide.{decLt}
 use lib.Dec.{eqb, ltb}
 use borrow.Author.Tests.{ne-eqb, eq-eqb, lt-ltb, le-ltb, ltb-true, ltb-false}
-use lib.ListN.{length, getD, take, drop, drop-of-length-le}
+use lib.ListN.{length, getD, drop, drop-of-length-le}
 use lib.Seq.{drop-cons}
 use Rattle.model.specs.declared.Read.{Read}
 use Rattle.model.specs.declared.Next.the-variants.{More, Done}
@@ -17,7 +16,6 @@ use Rattle.model.specs.declared.Found.the-variants.{At, Nothing}
 use Rattle.model.specs.Octets.{eqBytes}
 use Rattle.model.specs.Scan.{byte, between}
 use Rattle.model.specs.Strings.{charBy}
-use Rattle.model.specs.Text.{begins, chars}
 use Rattle.inner.specs.Positions.{quoteEnd, quoteFrom}
 use Rattle.nav.proofs.FirstByte.{split}
 use Rattle.text.specs.Match.{matched}
@@ -60,15 +58,6 @@ eq-matched (x ∷ xs) ys w o = go (ltb o (length w)) refl (eqb x (getD w o 0)) r
     go false h d e ih = rw (drop-of-length-le w {i = o} (ltb-false o (length w) h), matched, h)
     go true h true e ih = rw (drop-cons w o 0 (ltb-true o (length w) h), matched, h, e, ← add-one o) ih
     go true h false e ih = rw (drop-cons w o 0 (ltb-true o (length w) h), matched, h, e)
-
--- one byte more counted, from the end
-pub chars-more : (s : List ℕ) (i : ℕ) → i < length s → chars (drop i s) ≡ cond (begins (getD s i 0)) (1 + chars (drop (i + 1) s)) (chars (drop (i + 1) s))
-unfolding chars
-chars-more s i h = rw (drop-cons s i 0 h, add-one i) (go (begins (getD s i 0)) refl)
-  where
-    go : (b : Bool) → begins (getD s i 0) ≡ b → chars (getD s i 0 ∷ drop (suc i) s) ≡ cond (begins (getD s i 0)) (1 + chars (drop (suc i) s)) (chars (drop (suc i) s))
-    go true e = rw (chars, e)
-    go false e = rw (chars, e)
 
 -- a turn of the loop that looks for the quote
 module _ (s : List ℕ) (n k i : ℕ) where

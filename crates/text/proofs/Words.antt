@@ -57,7 +57,7 @@ text-tree s at h =
     let z : withinAt s 34 34 (End i) ≡ End (i + 1) = rw (withinAt, q .0, q .0) in
     (inside-byte s i 34 (q .0) (lit< tt), q .1 ∙ rw (stringAt, z))
 
-no-string : (j : Json) → isText (kindOf j) ≡ false → wordIn j ≡ []
+pub no-string : (j : Json) → isText (kindOf j) ≡ false → wordIn j ≡ []
 unfolding kindOf wordIn
 no-string null h = refl
 no-string (bool b) h = refl

@@ -1,3 +1,4 @@
 pub mod Push
 pub mod Match
 pub mod Units
+pub mod Steps

@@ -23,12 +23,19 @@ ghost use Rattle.inner.specs.Positions.{Means};
 ghost use Rattle.text.specs.Push.{Pushed, countOf};
 ghost use Rattle.text.specs.Units.{unitOr, unitEnd, characterOf, escapeBytes};
 ghost use Rattle.text.specs.Match.{matched, Held, orLast};
+ghost use Rattle.text.specs.Steps.{bodyFrom, Inside, picked, Steps, Begins};
 ghost use Rattle.text.specs.declared.Written.the-variants.{To};
 
 // Where the next byte goes, or that there is no room.
 pub enum Written {
     To(usize),
     Full,
+}
+
+// A byte of a string, with the character and the offset in it where the next one is; or that there are no more.
+enum Step {
+    Byte(u8, usize, usize),
+    End,
 }
 
 // One byte more.
@@ -335,19 +342,6 @@ fn begins_here(b: u8) -> bool
     true
 }
 
-// The length of a string in characters.
-pub fn characters(s: &[u8]) -> usize
-    ensures { λ r. ⌜ r ≡ chars (now (s .entry)) ⌝ }
-{
-    let mut n: usize = 0;
-    let mut i = s.len();
-    while 0 < i {
-        i -= 1;
-        n = counted(n, begins_here(s[i]));
-    }
-    n
-}
-
 // One more, if so.
 fn counted(n: usize, more: bool) -> usize
     requires { ⌜ n < 18446744073709551615 ⌝ }
@@ -357,6 +351,129 @@ fn counted(n: usize, more: bool) -> usize
         return n + 1;
     }
     n
+}
+
+// Byte `off` of those from `from` to `to`, for which the character from `at` to e stands.
+fn pick(bytes: &[u8], from: usize, to: usize, at: usize, e: usize, off: usize) -> Step
+    requires { ⌜ to ≤ length (now bytes) ⌝ }
+    requires { ⌜ from + off < to ⌝ }
+    ensures { λ r. ⌜ r ≡ picked (between (now (bytes .entry)) from to) at e off ⌝ }
+{
+    let b = bytes[from + off];
+    if from + off + 1 < to {
+        return Step::Byte(b, at, off + 1);
+    }
+    Step::Byte(b, e, 0)
+}
+
+// Byte `off` of the character that begins at `at` and ends at e.
+fn char_step(text: &[u8], at: usize, e: usize, off: usize) -> Step
+    requires { ⌜ e ≤ length (now text) ⌝ }
+    requires { ⌜ off < length (charBytes (now text) at e (byte (now text) at)) ⌝ }
+    ensures { λ r. ⌜ r ≡ picked (charBytes (now (text .entry)) at e (byte (now (text .entry)) at)) at e off ⌝ }
+{
+    let b = scan::peek(text, at);
+    if b == BACKSLASH {
+        let mut buf = [0u8; 4];
+        let w = emit(text, at, e, &mut buf, Written::To(0));
+        let n = count(w);
+        return pick(&buf, 0, n, at, e, off);
+    }
+    pick(text, at, e, at, e, off)
+}
+
+// The byte of a string at an offset in the character at `at`, if the string goes on there.
+fn next_byte(text: &[u8], at: usize, off: usize) -> Step
+    requires { ⌜ Inside (now text) at off ⌝ }
+    ensures { λ r. ⌜ Steps (now (text .entry)) (drop off (bodyFrom (now (text .entry)) at)) r ⌝ }
+{
+    let n = scan::character(text, at);
+    match n {
+        Next::More(e) => char_step(text, at, e, off),
+        Next::Done(_) => Step::End,
+    }
+}
+
+// Where the characters of the string at `at` begin, if it is one.
+fn body_at(text: &[u8], at: usize) -> Found
+    ensures { λ r. ⌜ Begins (now (text .entry)) (treeAt (now (text .entry)) at) r ⌝ }
+{
+    let k = nav::kind_at(text, at);
+    let t = leaf::is_kind(k, Kind::Text);
+    if t {
+        let i = scan::spaces(text, at);
+        return Found::At(i + 1);
+    }
+    Found::Nothing
+}
+
+// How many characters those of a string from `at` on are.
+fn body_chars(text: &[u8], at: usize) -> usize
+    ensures { λ r. ⌜ r ≡ chars (bodyFrom (now (text .entry)) at) ⌝ }
+{
+    let mut n: usize = 0;
+    let mut x = next_byte(text, at, 0);
+    loop {
+        match x {
+            Step::Byte(b, i, a) => {
+                n = counted(n, begins_here(b));
+                x = next_byte(text, i, a);
+            }
+            Step::End => return n,
+        }
+    }
+}
+
+// The length in characters of the string at `at`, 0 where it is none.
+pub fn chars_at(text: &[u8], at: usize) -> usize
+    ensures { λ r. ⌜ r ≡ chars (wordIn (treeAt (now (text .entry)) at)) ⌝ }
+{
+    let f = body_at(text, at);
+    match f {
+        Found::At(i) => body_chars(text, i),
+        Found::Nothing => 0,
+    }
+}
+
+// Whether the characters of a string from p on are those of one from q on.
+fn same_bodies(text: &[u8], p: usize, q: usize) -> bool
+    ensures { λ r. ⌜ r ≡ eqBytes (bodyFrom (now (text .entry)) q) (bodyFrom (now (text .entry)) p) ⌝ }
+{
+    let mut x = next_byte(text, p, 0);
+    let mut y = next_byte(text, q, 0);
+    loop {
+        match x {
+            Step::Byte(b, i, a) => match y {
+                Step::Byte(c, j, o) => {
+                    if b != c {
+                        return false;
+                    }
+                    x = next_byte(text, i, a);
+                    y = next_byte(text, j, o);
+                }
+                Step::End => return false,
+            },
+            Step::End => match y {
+                Step::Byte(_, _, _) => return false,
+                Step::End => return true,
+            },
+        }
+    }
+}
+
+// Whether the value at q is the string at p. A value at p that is no string is an empty one.
+pub fn same_strings(text: &[u8], p: usize, q: usize) -> bool
+    ensures { λ r. ⌜ r ≡ isWord (wordIn (treeAt (now (text .entry)) p)) (treeAt (now (text .entry)) q) ⌝ }
+{
+    let f = body_at(text, p);
+    let g = body_at(text, q);
+    match f {
+        Found::At(i) => match g {
+            Found::At(j) => same_bodies(text, i, j),
+            Found::Nothing => false,
+        },
+        Found::Nothing => is_word(text, q, &text[..0]),
+    }
 }
 
 // Past the bytes from `from` to `to` in `word` from o on, if they stand there.

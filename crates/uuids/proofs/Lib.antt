@@ -2,3 +2,4 @@
 pub mod Spelling
 pub mod Decoded
 pub mod Names
+pub mod Table

@@ -1,21 +1,20 @@
 -- uuid-names, one operation after another. Assumes nothing.
 use mathlib.Core.Path.{_≡_, refl, sym, ap, subst, _∙_}
 use mathlib.Core.Bool.{Bool, true, false}
-use mathlib.Core.List.{List, [], _∷_, _++_, map}
+use mathlib.Core.List.{List, [], _∷_, _++_}
 use mathlib.Core.Option.{Option, none, some}
-use Prim.Native.Nat.{ℕ, zero, suc, _+_, _-_, _*_, _^_, _<_, _≤_}
-use native.Mathlib.Nat.{le-of-suc-le-suc, not-suc-le-zero}
+use Prim.Native.Nat.{ℕ, zero, suc, _+_, _-_, _*_, _<_, _≤_}
 use native.Mathlib.Omega.{arith}
-use lib.ListN.{length, take, drop, getD, replicate, length-take, length-drop}
-use lib.Seq.{getD-drop, drop-drop}
+use lib.ListN.{length, take, drop, getD, replicate, length-take, length-drop, take-append-drop}
+use lib.Seq.{getD-drop, drop-drop, take-append-le, drop-append-le, length-take-le}
 use Rattle.model.specs.declared.Found.{Found}
 use Rattle.model.specs.declared.Found.the-variants.{At, Nothing}
 use Rattle.model.specs.Octets.{value, eqBytes}
 use Rattle.model.specs.Base.{all, ascii}
 use Rattle.model.specs.Json.{Json, null, bool, num, str, arr, obj, Named}
-use Rattle.inner.specs.Positions.{treeAt, itemsFrom, nextItem}
+use Rattle.inner.specs.Positions.{treeAt}
 use Rattle.model.specs.Nav.{itemsIn, listOf, kindOf, isText}
-use Rattle.model.specs.Members.{membersIn, hasMember, memberValue}
+use Rattle.model.specs.Members.{hasMember, memberValue}
 use Rattle.inner.specs.Positions.{Means}
 use Rattle.model.specs.Text.{isWord}
 use Rattle.inner.specs.Positions.{wordIn as string}
@@ -26,12 +25,11 @@ use Rattle.model.specs.Operations.{memberAs}
 use Rattle.model.specs.Transact.{idsFrom, freshIds, insertName, isNamed, namesOf}
 use Rattle.model.proofs.Octets.{octet, octets, big-value}
 use Rattle.model.proofs.Lists.{all-take, all-drop}
-use Rattle.nav.proofs.Walk.{walk-rest, walk-end}
 use Rattle.elements.specs.Elements.{isPair}
 use Rattle.uuids.specs.declared.Id.{Id}
 use Rattle.uuids.specs.declared.Id.the-variants.{Of, Bad}
 use Rattle.uuids.specs.Ids.{Spells, idIn, idAtom}
-use Rattle.uuids.specs.Named.{operationsAt, placeNamed, namesAt, atomOf, freshAtom, namedIn}
+use Rattle.uuids.specs.Named.{placeNamed, placeIn, idBy, namesAt, atomOf, freshAtom, namedIn}
 use Rattle.uuids.proofs.Decoded.{no-string}
 
 -- ── whether an operation is an insert of a name ──
@@ -103,43 +101,22 @@ names-turn : (ids w : List ℕ) (o : List Named) (os : List (List Named)) {b : B
     → namesOf ids (o ∷ os) w ≡ elim b [ true ↦ some (getD ids 0 0) | false ↦ namesOf (drop 1 ids) os w ]
 names-turn ids w o os t = ap (λ (b : Bool). elim b [ true ↦ some (getD ids 0 0) | false ↦ namesOf (drop 1 ids) os w ]) t
 
-place-turn : (k : ℕ) (w : List ℕ) (o : List Named) (os : List (List Named)) {b : Bool} → isNamed (insertName o) w ≡ b
+pub place-turn : (k : ℕ) (w : List ℕ) (o : List Named) (os : List (List Named)) {b : Bool} → isNamed (insertName o) w ≡ b
     → placeNamed k w (o ∷ os) ≡ elim b [ true ↦ At k | false ↦ placeNamed (k + 1) w os ]
 unfolding placeNamed
 place-turn k w o os t = ap (λ (b : Bool). elim b [ true ↦ At k | false ↦ placeNamed (k + 1) w os ]) t
 
-module _ (s w : List ℕ) (k : ℕ) {g : Found} where
-  pub place-end : g ≡ Nothing → placeNamed k w (operationsAt s g) ≡ Nothing
-  unfolding placeNamed operationsAt
-  place-end h = ap (λ l. placeNamed k w (map membersIn l)) (walk-end s h)
-
-  module _ {p : ℕ} (h : g ≡ At p) where
-    place-by : {b : Bool} → isNamed (insertName (membersIn (treeAt s p))) w ≡ b
-        → placeNamed k w (operationsAt s g) ≡ elim b [ true ↦ At k | false ↦ placeNamed (k + 1) w (operationsAt s (nextItem s p)) ]
-    unfolding placeNamed operationsAt
-    place-by t = ap (λ l. placeNamed k w (map membersIn l)) (walk-rest s h) ∙ place-turn k w (membersIn (treeAt s p)) (operationsAt s (nextItem s p)) t
-
-    pub place-here : isNamed (insertName (membersIn (treeAt s p))) w ≡ true → placeNamed k w (operationsAt s g) ≡ At k
-    place-here t = place-by t
-
-    pub place-on : isNamed (insertName (membersIn (treeAt s p))) w ≡ false → placeNamed k w (operationsAt s g) ≡ placeNamed (k + 1) w (operationsAt s (nextItem s p))
-    place-on t = place-by t
-
 -- ── what a name stands for, by the place ──
-unfoldable pub nameOf : List ℕ → Found → Option ℕ
-nameOf ids (At k) = some (getD ids k 0)
-nameOf ids Nothing = none
-
-pub names-by : (ids w : List ℕ) (k : ℕ) (os : List (List Named)) → namesOf (drop k ids) os w ≡ nameOf ids (placeNamed k w os)
-unfolding nameOf placeNamed
+pub names-by : (ids w : List ℕ) (k : ℕ) (os : List (List Named)) → namesOf (drop k ids) os w ≡ idBy ids (placeNamed k w os)
+unfolding idBy placeNamed
 names-by ids w k [] = refl
 names-by ids w k (o ∷ os) = go (isNamed (insertName o) w) refl (names-by ids w (k + 1) os)
   where
-    go : (b : Bool) → isNamed (insertName o) w ≡ b → namesOf (drop (k + 1) ids) os w ≡ nameOf ids (placeNamed (k + 1) w os) → namesOf (drop k ids) (o ∷ os) w ≡ nameOf ids (placeNamed k w (o ∷ os))
+    go : (b : Bool) → isNamed (insertName o) w ≡ b → namesOf (drop (k + 1) ids) os w ≡ idBy ids (placeNamed (k + 1) w os) → namesOf (drop k ids) (o ∷ os) w ≡ idBy ids (placeNamed k w (o ∷ os))
     go true t ih =
         let z : k + 0 ≡ k = omega arith in
-        names-turn (drop k ids) w o os t ∙ ap some (getD-drop k ids 0 0 ∙ ap (λ n. getD ids n 0) z) ∙ ap (nameOf ids) (sym (place-turn k w o os t))
-    go false t ih = names-turn (drop k ids) w o os t ∙ ap (λ l. namesOf l os w) (drop-drop 1 k ids) ∙ ih ∙ ap (nameOf ids) (sym (place-turn k w o os t))
+        names-turn (drop k ids) w o os t ∙ ap some (getD-drop k ids 0 0 ∙ ap (λ n. getD ids n 0) z) ∙ ap (idBy ids) (sym (place-turn k w o os t))
+    go false t ih = names-turn (drop k ids) w o os t ∙ ap (λ l. namesOf l os w) (drop-drop 1 k ids) ∙ ih ∙ ap (idBy ids) (sym (place-turn k w o os t))
 
 -- ── fresh ids ──
 ids-get : (n k : ℕ) (b : List ℕ) → k < n → getD (idsFrom n b) k 0 ≡ value (take 16 (drop (16 * k) b))
@@ -154,8 +131,17 @@ ids-past zero k b h = refl
 ids-past (suc n) zero b h = absurd (omega arith)
 ids-past (suc n) (suc k) b h = ids-past n k (drop 16 b) (omega arith)
 
+-- those of the front
+ids-append : (n : ℕ) (a b : List ℕ) → length a ≡ 16 * n → idsFrom n (a ++ b) ≡ idsFrom n a
+ids-append zero a b h = refl
+ids-append (suc n) a b h =
+    rw (take-append-le 16 a b (omega arith), drop-append-le 16 a b (omega arith)) (ap (λ l. value (take 16 a) ∷ l) (ids-append n (drop 16 a) b (omega (arith, length-drop 16 a))))
+
+pub ids-front : (names : List ℕ) → 256 ≤ length names → freshIds names ≡ freshIds (take 256 names)
+ids-front names h = ap freshIds (sym (take-append-drop 256 names)) ∙ ids-append 16 (take 256 names) (drop 256 names) (length-take-le 256 names h)
+
 module _ (fresh : List ℕ) (k : ℕ) where
-  pub fresh-at : (src zeros : List ℕ) → k < 16 → length fresh ≡ 256 → ((i : ℕ) → getD fresh i 0 < 256) → src ≡ take 16 (drop (16 * k) fresh) → zeros ≡ replicate 25 0
+  pub fresh-at : (src zeros : List ℕ) → k < 16 → length fresh ≡ 288 → ((i : ℕ) → getD fresh i 0 < 256) → src ≡ take 16 (drop (16 * k) fresh) → zeros ≡ replicate 25 0
       → src ++ drop (length src) zeros ≡ freshAtom fresh k
   unfolding freshAtom
   fresh-at src zeros h n o e z =
@@ -184,30 +170,26 @@ some-string (str t) h = refl
 some-string (arr xs) h = cc
 some-string (obj ms) h = cc
 
-module _ (s : List ℕ) (ops : Found) (fresh : List ℕ) (j : Json) where
-  pub named-not : isText (kindOf j) ≡ false → atomOf (namedIn (namesAt s ops fresh) j) ≡ none
-  unfolding atomOf namedIn
+module _ (s names : List ℕ) (j : Json) where
+  byName : Option (List ℕ) → Option ℕ
+  byName o = elim o [ none ↦ none | some t ↦ namesAt s names t ]
+
+  pub named-not : isText (kindOf j) ≡ false → atomOf (namedIn (namesAt s names) j) ≡ none
+  unfolding atomOf namedIn byName
   named-not h = ap (λ o. atomOf (byName o)) (no-string j h)
-    where
-      byName : Option (List ℕ) → Option ℕ
-      byName o = elim o [ none ↦ none | some t ↦ namesAt s ops fresh t ]
 
-  module _ (h : isText (kindOf j) ≡ true) {w : List ℕ} (e : w ≡ string j) {f : Found} (p : f ≡ placeNamed 0 w (operationsAt s ops)) where
-    named-by : namedIn (namesAt s ops fresh) j ≡ nameOf (freshIds fresh) f
-    unfolding namedIn namesAt
-    named-by = ap byName (some-string j h) ∙ names-by (freshIds fresh) (string j) 0 (operationsAt s ops)
-        ∙ ap (nameOf (freshIds fresh)) (ap (λ x. placeNamed 0 x (operationsAt s ops)) (sym e) ∙ sym p)
-      where
-        byName : Option (List ℕ) → Option ℕ
-        byName o = elim o [ none ↦ none | some t ↦ namesOf (freshIds fresh) (operationsAt s ops) t ]
+  module _ (h : isText (kindOf j) ≡ true) {f : Found} (p : f ≡ placeIn s names (string j)) where
+    named-by : namedIn (namesAt s names) j ≡ idBy (freshIds names) f
+    unfolding namedIn namesAt byName
+    named-by = ap byName (some-string j h) ∙ ap (idBy (freshIds names)) (sym p)
 
-    pub named-some : {k : ℕ} → f ≡ At k → atomOf (namedIn (namesAt s ops fresh) j) ≡ some (freshAtom fresh k)
-    unfolding atomOf nameOf freshAtom
-    named-some g = ap atomOf (named-by ∙ ap (nameOf (freshIds fresh)) g)
+    pub named-some : {k : ℕ} → f ≡ At k → atomOf (namedIn (namesAt s names) j) ≡ some (freshAtom names k)
+    unfolding atomOf idBy freshAtom
+    named-some g = ap atomOf (named-by ∙ ap (idBy (freshIds names)) g)
 
-    pub named-none : f ≡ Nothing → atomOf (namedIn (namesAt s ops fresh) j) ≡ none
-    unfolding atomOf nameOf
-    named-none g = ap atomOf (named-by ∙ ap (nameOf (freshIds fresh)) g)
+    pub named-none : f ≡ Nothing → atomOf (namedIn (namesAt s names) j) ≡ none
+    unfolding atomOf idBy
+    named-none g = ap atomOf (named-by ∙ ap (idBy (freshIds names)) g)
 
 -- ── ["uuid", ..] and ["named-uuid", ..] ──
 few : (names : Names) (l : List Json) → isPair l ≡ false → uuidItems names l ≡ none

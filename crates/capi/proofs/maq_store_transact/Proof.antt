@@ -1,6 +1,7 @@
 -- `capi::maq_store_transact` meets its contract. Assumes nothing.
-use mathlib.Core.Path.{ap, _∙_}
+use mathlib.Core.Path.{sym, ap, _∙_}
 use Rattle.model.specs.Refusals.{numberOf}
+use Rattle.model.specs.Calls.{Transacted}
 use borrow.Author.Needs.{needs}
 use Rattle.capi.proofs.maq_store_transact.Statement.{statement}
 use Rattle.capi.proofs.maq_store_transact.Tie as tie
@@ -23,7 +24,8 @@ same-length-3 c = search needs
 returns : tie.Need-returns
 returns c =
     let p = c .before .before .before .before .before .before .before .transact .ensures in
-    (c .number .ensures ∙ p .0, (c .number .ensures ∙ ap numberOf (p .1 .0), p .1 .1))
+    let e = sym (p .1) in
+    (c .number .ensures ∙ p .0, (c .number .ensures ∙ ap (λ (q : Transacted). numberOf (q .answer)) e, (ap (λ (q : Transacted). q .area) e, (ap (λ (q : Transacted). q .records) e, ap (λ (q : Transacted). q .text) e))))
 
 pub maq-store-transact-spec : {M : Type 1} → statement M
 maq-store-transact-spec =

@@ -32,14 +32,14 @@ returns c =
     let st = ia .before .before .before .before .before in
     let a = st .args in
     let y = sym (ia .is-kind .ensures ∙ ap isArray (ia .before .kind-in .ensures)) ∙ c .before .before .if1 .taken in
-    c .mutations-fault .ensures ∙ ap (λ (f : Found). mutationsAt (a .text .now) (a .ops) (a .fresh .now) (a .columns .now) f .fault) (c .before .first .ensures) ∙ sym (ap (λ j. j .fault) (mutations-are (a .text .now) (a .ops) (a .fresh .now) (a .columns .now) (a .p) (st .pre .1) y))
+    c .mutations-fault .ensures ∙ ap (λ (f : Found). mutationsAt (a .text .now) (a .names .now) (a .columns .now) f .fault) (c .before .first .ensures) ∙ sym (ap (λ j. j .fault) (mutations-are (a .text .now) (a .names .now) (a .columns .now) (a .p) (st .pre .1) y))
 
 returns-2 : tie.Need-returns-2
 returns-2 c =
     let ia = c .before in
     let st = ia .before .before .before .before .before in
     let a = st .args in
-    sym (mutations-not (a .text .now) (a .ops) (a .fresh .now) (a .columns .now) (a .p) (sym (ia .is-kind .ensures ∙ ap isArray (ia .before .kind-in .ensures)) ∙ c .if1 .left))
+    sym (mutations-not (a .text .now) (a .names .now) (a .columns .now) (a .p) (sym (ia .is-kind .ensures ∙ ap isArray (ia .before .kind-in .ensures)) ∙ c .if1 .left))
 
 pub mutations-fault-spec : {M : Type 1} → statement M
 mutations-fault-spec =

@@ -10,7 +10,7 @@ use Rattle.clauses.proofs.name_fault.Tie as tie
 returns : tie.Need-returns
 returns c =
     let a = c .before .before .before .args in
-    λ given e. name-none (a .text .now) (a .ops) (a .i) given e (a .p) (c .if1 .taken)
+    λ given e. name-none (a .text .now) (a .names .now) (a .i) given e (a .p) (c .if1 .taken)
 
 kind-at-requires : tie.Need-kind-at-requires
 kind-at-requires c κs = search needs
@@ -39,7 +39,7 @@ returns-2 c =
     let el = it .before .before in
     let a = el .before .before .before .args in
     let y = sym (it .is-kind .ensures ∙ ap isText (it .before .kind-at .ensures)) ∙ nm .before .if2 .taken in
-    λ given e. name-good (a .text .now) (a .ops) (a .i) given e (a .p) (el .if1 .left) y (tx .text-of .ensures ∙ ap textOf (nm .name-at .ensures)) (sym (id .is-id .ensures) ∙ c .before .if3 .taken) (c .taken-fault .ensures)
+    λ given e. name-good (a .text .now) (a .names .now) (a .i) given e (a .p) (el .if1 .left) y (tx .text-of .ensures ∙ ap textOf (nm .name-at .ensures)) (sym (id .is-id .ensures) ∙ c .before .if3 .taken) (c .taken-fault .ensures)
 
 returns-3 : tie.Need-returns-3
 returns-3 c =
@@ -50,14 +50,14 @@ returns-3 c =
     let el = it .before .before in
     let a = el .before .before .before .args in
     let y = sym (it .is-kind .ensures ∙ ap isText (it .before .kind-at .ensures)) ∙ nm .before .if2 .taken in
-    λ given e. name-bad (a .text .now) (a .ops) (a .i) given e (a .p) (el .if1 .left) y (tx .text-of .ensures ∙ ap textOf (nm .name-at .ensures)) (sym (id .is-id .ensures) ∙ c .if3 .left)
+    λ given e. name-bad (a .text .now) (a .names .now) (a .i) given e (a .p) (el .if1 .left) y (tx .text-of .ensures ∙ ap textOf (nm .name-at .ensures)) (sym (id .is-id .ensures) ∙ c .if3 .left)
 
 returns-4 : tie.Need-returns-4
 returns-4 c =
     let it = c .before in
     let el = it .before .before in
     let a = el .before .before .before .args in
-    λ given e. name-other (a .text .now) (a .ops) (a .i) given e (a .p) (el .if1 .left) (sym (it .is-kind .ensures ∙ ap isText (it .before .kind-at .ensures)) ∙ c .if2 .left)
+    λ given e. name-other (a .text .now) (a .names .now) (a .i) given e (a .p) (el .if1 .left) (sym (it .is-kind .ensures ∙ ap isText (it .before .kind-at .ensures)) ∙ c .if2 .left)
 
 pub name-fault-spec : {M : Type 1} → statement M
 name-fault-spec =

@@ -11,7 +11,7 @@ use Rattle.model.specs.Members.{membersIn}
 use Rattle.model.specs.Value.{textOf}
 use Rattle.model.specs.Catalog.{entryName}
 use Rattle.model.specs.SchemaText.{truthOr}
-use Rattle.fields.specs.Fields.{wordsFrom, wordsOf, slotTree, Slots}
+use Rattle.members.specs.Fields.{wordsFrom, wordsOf, slotTree, Slots}
 use Rattle.columns.specs.Parts.{memberOf}
 use Rattle.columns.specs.Columns.{shapeBytes, columnTold, ColumnRead}
 use Rattle.columns.proofs.Cells.{columnWords, member-value, member-size, member-short, member-name, column-read}

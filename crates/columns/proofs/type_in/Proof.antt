@@ -6,8 +6,8 @@ use native.Mathlib.Omega.{arith}
 use borrow.Author.Tests.{ne-eqb, eqb-false, eqb-true}
 use Rattle.model.specs.Json.{Json}
 use Rattle.model.specs.Catalog.{entryName}
-use Rattle.fields.proofs.Slotted.{at-some}
-use Rattle.types.specs.Types.{TypeRead}
+use Rattle.members.proofs.Slotted.{at-some}
+use Rattle.column_types.specs.Types.{TypeRead}
 use borrow.Author.Needs.{needs}
 use Rattle.columns.proofs.type_in.Statement.{statement}
 use Rattle.columns.proofs.type_in.Tie as tie

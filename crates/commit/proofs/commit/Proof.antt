@@ -16,7 +16,7 @@ same-length c = search needs
 returns : tie.Need-returns
 returns c =
     let a = c .before .before .before in
-    commit-missing (packedTables (a .args .schema .now)) (a .args .n) (a .args .rows .now) (sym (c .before .all-found .ensures) ∙ not-true _ (c .if1 .taken))
+    commit-missing (packedTables (a .args .schema .now)) (a .args .n) (a .args .rows .now) (a .pre .1) (sym (c .before .all-found .ensures) ∙ not-true _ (c .if1 .taken))
 
 collect-requires : tie.Need-collect-requires
 collect-requires c κs = search needs

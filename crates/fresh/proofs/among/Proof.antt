@@ -21,7 +21,7 @@ loop-holds : tie.Need-loop-holds Inv-loop μ-loop
 loop-holds c = (refl, omega arith)
 
 id-at-requires : tie.Need-id-at-requires Inv-loop μ-loop
-id-at-requires c κs = (c .before .before .before .before .pre .0, c .loop-test .taken)
+id-at-requires c κs = (omega (arith, c .before .before .before .before .pre .0), c .loop-test .taken)
 
 same-requires : tie.Need-same-requires Inv-loop μ-loop
 same-requires c κs = (c .before .before .before .before .before .pre .1 .1, c .id-at .ensures .size)

@@ -1,95 +1,203 @@
 -- `operation::operate` meets its contract. Assumes nothing.
-use mathlib.Core.Path.{refl}
-use lib.ListN.{getD}
-use Rattle.inner.specs.Positions.{treeAt}
-use Rattle.model.specs.Members.{membersIn}
-use Rattle.model.specs.Transact.{freshIds}
+use mathlib.Core.Path.{refl, ap}
 use Rattle.model.specs.Catalog.{packedTables}
-use Rattle.inner.specs.Working.{working}
-use Rattle.fields.specs.Fields.{wordsFrom, wordsOf}
-use Rattle.uuids.specs.Named.{namesAt}
-use Rattle.table_operations.proofs.Doing.{ran-failed}
-use Rattle.operation.proofs.Choosing.{operate-there, operate-missing, ran-as}
+use Rattle.model.proofs.Tests.{clash}
+use Rattle.fresh.specs.Fresh.{freshAt}
+use Rattle.table_operations.specs.Ran.{Kept, inserting, selecting, updating, mutating, deleting}
+use Rattle.table_operations.proofs.Doing.{ran-failed, ran-as}
+use Rattle.operation.specs.Performed.{isOnTable, performed, commenting, aborting, isMutate, KeptBy}
+use Rattle.operation.proofs.Choosing.{ran-plain, ready, on-a-table, operates-as}
 use borrow.Author.Needs.{needs}
 use Rattle.operation.proofs.operate.Statement.{statement}
 use Rattle.operation.proofs.operate.Tie as tie
 
-slice-aggregate-find : tie.Need-slice-aggregate-find
-slice-aggregate-find c = search needs
-
-find-requires : tie.Need-find-requires
-find-requires c κs =
-    let st = c .before .before .before .before .before in
-    (st .pre .0 .says, st .pre .1 .1 .0)
-
-enum-known-f : tie.Need-enum-known-f
-enum-known-f c = search needs
-
 enum-told : tie.Need-enum-told
 enum-told c = search needs
 
-returns : tie.Need-returns
-returns c =
-    let fd = c .before .before in
-    let st = fd .before .before .before .before .before .before in
-    let b = st .pre in
-    let a = st .args in
-    let s = packedTables (a .schema .now) in
-    let work = working s (a .n) (a .rows .now) in
-    let names = namesAt (a .text .now) (a .ops) (a .fresh .now) in
-    let id = getD (freshIds (a .fresh .now)) (a .i) 0 in
-    let ms = membersIn (treeAt (a .text .now) (a .op)) in
-    λ given e. ran-as (operate-missing s names given id work ms (a .text .now) (fd .find .ensures) (c .enum-told .given .1)) (ran-failed (b .1 .1 .1 .1 .0 .0) refl refl)
+run-insert-requires : tie.Need-run-insert-requires
+unfolding isOnTable
+run-insert-requires c κs =
+    let et = c .before in
+    let b = et .before .before .before .before .before .before .pre in
+    ready (b .0) (on-a-table (b .0) (et .enum-told .given .1) refl)
 
-slice-aggregate-choose : tie.Need-slice-aggregate-choose
-slice-aggregate-choose c = search needs
+enum-told-2 : tie.Need-enum-told-2
+enum-told-2 c = search needs
 
-choose-requires : tie.Need-choose-requires
-choose-requires c κs = search needs
+run-select-requires : tie.Need-run-select-requires
+unfolding isOnTable
+run-select-requires c κs =
+    let et = c .before .before in
+    let b = et .before .before .before .before .before .before .pre in
+    (ready (b .0) (on-a-table (b .0) (et .enum-told2 .given .1) refl), b .1)
 
-perform-requires : tie.Need-perform-requires
-perform-requires c κs =
-    let ch = c .before .before in
-    let fd = ch .before .before .before .before .before in
-    let st = fd .before .before .before .before .before .before in
-    let b = st .pre in
-    record { running = b .0; accepted = b .1 .0; well = b .1 .1 .0; early = b .1 .1 .1 .0; count = b .1 .1 .1 .1 .0 .0; room = b .1 .1 .1 .1 .0 .1; space = b .1 .1 .1 .1 .1 }
+enum-told-3 : tie.Need-enum-told-3
+enum-told-3 c = search needs
+
+run-update-requires : tie.Need-run-update-requires
+unfolding isOnTable
+run-update-requires c κs =
+    let et = c .before in
+    let b = et .before .before .before .before .before .before .pre in
+    ready (b .0) (on-a-table (b .0) (et .enum-told3 .given .1) refl)
+
+enum-told-4 : tie.Need-enum-told-4
+enum-told-4 c = search needs
+
+run-mutate-requires : tie.Need-run-mutate-requires
+unfolding isOnTable
+run-mutate-requires c κs =
+    let et = c .before in
+    let b = et .before .before .before .before .before .before .pre in
+    ready (b .0) (on-a-table (b .0) (et .enum-told4 .given .1) refl)
+
+enum-told-5 : tie.Need-enum-told-5
+enum-told-5 c = search needs
+
+run-delete-requires : tie.Need-run-delete-requires
+unfolding isOnTable
+run-delete-requires c κs =
+    let et = c .before in
+    let b = et .before .before .before .before .before .before .pre in
+    ready (b .0) (on-a-table (b .0) (et .enum-told5 .given .1) refl)
+
+enum-told-6 : tie.Need-enum-told-6
+enum-told-6 c = search needs
+
+run-comment-requires : tie.Need-run-comment-requires
+run-comment-requires c κs = search needs
+
+enum-told-7 : tie.Need-enum-told-7
+enum-told-7 c = search needs
+
+run-abort-requires : tie.Need-run-abort-requires
+run-abort-requires c κs = search needs
+
+enum-told-8 : tie.Need-enum-told-8
+enum-told-8 c = search needs
 
 same-length : tie.Need-same-length
 same-length c = search needs
 
+returns : tie.Need-returns
+unfolding performed inserting freshAt KeptBy
+returns c =
+    let ri = c .before in
+    let et = ri .before .before in
+    let st = et .before .before .before .before .before .before in
+    let a = st .args in
+    let is = et .enum-told .given .1 in
+    (λ given e. ran-plain (freshAt (a .names .now) (a .call .number)) (a .at) (a .answer .now) (ran-as (operates-as (st .pre .0) given is) (ri .run-insert .ensures .0 given e)), (λ bad. refl, λ m. ri .run-insert .ensures .1))
+
 same-length-2 : tie.Need-same-length-2
 same-length-2 c = search needs
 
+same-length-3 : tie.Need-same-length-3
+same-length-3 c = search needs
+
 returns-2 : tie.Need-returns-2
-unfolding wordsOf wordsFrom
+unfolding performed selecting KeptBy Kept
 returns-2 c =
-    let pf = c .before .before .before in
-    let ch = pf .before .before .before in
-    let f = ch .before .before .before in
-    let fd = f .before .before in
-    let st = fd .before .before .before .before .before .before in
-    let b = st .pre in
+    let ri = c .before .before in
+    let et = ri .before .before .before in
+    let st = et .before .before .before .before .before .before in
     let a = st .args in
-    let s = packedTables (a .schema .now) in
-    let work = working s (a .n) (a .rows .now) in
-    let names = namesAt (a .text .now) (a .ops) (a .fresh .now) in
-    let id = getD (freshIds (a .fresh .now)) (a .i) 0 in
-    let ms = membersIn (treeAt (a .text .now) (a .op)) in
-    λ given e. ran-as (operate-there s names given id work ms (a .text .now) (fd .find .ensures) (f .f .given .1) (ch .choose .ensures)) (pf .perform .ensures given e)
+    let is = et .enum-told2 .given .1 in
+    (λ given e. ran-as (operates-as (st .pre .0) given is) (ri .run-select .ensures .0), (ri .run-select .ensures .1, λ m bad. refl))
+
+same-length-4 : tie.Need-same-length-4
+same-length-4 c = search needs
+
+returns-3 : tie.Need-returns-3
+unfolding performed updating KeptBy
+returns-3 c =
+    let ri = c .before in
+    let et = ri .before .before in
+    let st = et .before .before .before .before .before .before in
+    let a = st .args in
+    let is = et .enum-told3 .given .1 in
+    (λ given e. ran-plain (freshAt (a .names .now) (a .call .number)) (a .at) (a .answer .now) (ran-as (operates-as (st .pre .0) given is) (ri .run-update .ensures .0)), (λ bad. refl, λ m. ri .run-update .ensures .1))
+
+same-length-5 : tie.Need-same-length-5
+same-length-5 c = search needs
+
+returns-4 : tie.Need-returns-4
+unfolding performed mutating KeptBy isMutate
+returns-4 c =
+    let ri = c .before in
+    let et = ri .before .before in
+    let st = et .before .before .before .before .before .before in
+    let a = st .args in
+    let is = et .enum-told4 .given .1 in
+    (λ given e. ran-plain (freshAt (a .names .now) (a .call .number)) (a .at) (a .answer .now) (ran-as (operates-as (st .pre .0) given is) (ri .run-mutate .ensures)), (λ bad. refl, λ m. absurd (clash (isMutate (a .call .operation)) (ap isMutate is) m)))
+
+same-length-6 : tie.Need-same-length-6
+same-length-6 c = search needs
+
+returns-5 : tie.Need-returns-5
+unfolding performed deleting KeptBy
+returns-5 c =
+    let ri = c .before in
+    let et = ri .before .before in
+    let st = et .before .before .before .before .before .before in
+    let a = st .args in
+    let is = et .enum-told5 .given .1 in
+    (λ given e. ran-plain (freshAt (a .names .now) (a .call .number)) (a .at) (a .answer .now) (ran-as (operates-as (st .pre .0) given is) (ri .run-delete .ensures .0)), (λ bad. refl, λ m. ri .run-delete .ensures .1))
+
+returns-6 : tie.Need-returns-6
+unfolding performed commenting KeptBy Kept
+returns-6 c =
+    let et = c .before in
+    let st = et .before .before .before .before .before .before in
+    let a = st .args in
+    let id = freshAt (a .names .now) (a .call .number) in
+    (λ given e. ran-plain id (a .at) (a .answer .now) (ran-as (operates-as (st .pre .0) given (et .enum-told6 .given .1)) (c .run-comment .ensures (packedTables (a .schema .now)) (a .rows .now) id)), (λ bad. refl, λ m bad. refl))
+
+returns-7 : tie.Need-returns-7
+unfolding performed aborting KeptBy Kept
+returns-7 c =
+    let et = c .before in
+    let st = et .before .before .before .before .before .before in
+    let a = st .args in
+    let id = freshAt (a .names .now) (a .call .number) in
+    (λ given e. ran-plain id (a .at) (a .answer .now) (ran-as (operates-as (st .pre .0) given (et .enum-told7 .given .1)) (c .run-abort .ensures (packedTables (a .schema .now)) (a .rows .now) id)), (λ bad. refl, λ m bad. refl))
+
+returns-8 : tie.Need-returns-8
+unfolding performed KeptBy Kept
+returns-8 c =
+    let st = c .before .before .before .before .before .before in
+    (λ given e. ran-as (operates-as (st .pre .0) given (c .enum-told8 .given .1)) (ran-failed (st .pre .0 .count) refl refl), (λ bad. refl, λ m bad. refl))
 
 pub operate-spec : {M : Type 1} → statement M
 operate-spec =
     tie.close
     (tie.spec
-    slice-aggregate-find
-    find-requires
-    enum-known-f
     enum-told
-    returns
-    slice-aggregate-choose
-    choose-requires
-    perform-requires
+    run-insert-requires
+    enum-told-2
+    run-select-requires
+    enum-told-3
+    run-update-requires
+    enum-told-4
+    run-mutate-requires
+    enum-told-5
+    run-delete-requires
+    enum-told-6
+    run-comment-requires
+    enum-told-7
+    run-abort-requires
+    enum-told-8
     same-length
+    returns
     same-length-2
-    returns-2)
+    same-length-3
+    returns-2
+    same-length-4
+    returns-3
+    same-length-5
+    returns-4
+    same-length-6
+    returns-5
+    returns-6
+    returns-7
+    returns-8)

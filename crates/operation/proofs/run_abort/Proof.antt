@@ -1,7 +1,7 @@
 -- `operation::run_abort` meets its contract. Assumes nothing.
 use mathlib.Core.Path.{refl}
 use native.Mathlib.Omega.{arith}
-use Rattle.fields.specs.Fields.{wordsFrom, wordsOf}
+use Rattle.members.specs.Fields.{wordsFrom, wordsOf}
 use Rattle.operation.proofs.Choosing.{abort-done, abort-extra}
 use borrow.Author.Needs.{needs}
 use Rattle.operation.proofs.run_abort.Statement.{statement}
@@ -25,7 +25,7 @@ returns c =
     let fs = c .before in
     let st = fs .before .before .before .before in
     let a = st .args in
-    λ s rows out. abort-done (a .text .now) (a .op) (fs .fields .ensures) s rows out (a .n) (a .at) (st .pre .1 .1) (c .if1 .taken)
+    λ s rows id. abort-done (a .text .now) (a .op) (fs .fields .ensures) s rows id (st .pre .1 .1) (c .if1 .taken)
 
 returns-2 : tie.Need-returns-2
 unfolding wordsOf wordsFrom
@@ -33,7 +33,7 @@ returns-2 c =
     let fs = c .before in
     let st = fs .before .before .before .before in
     let a = st .args in
-    λ s rows out. abort-extra (a .text .now) (a .op) (fs .fields .ensures) s rows out (a .n) (a .at) (st .pre .1 .1) (c .if1 .left)
+    λ s rows id. abort-extra (a .text .now) (a .op) (fs .fields .ensures) s rows id (st .pre .1 .1) (c .if1 .left)
 
 pub run-abort-spec : {M : Type 1} → statement M
 run-abort-spec =

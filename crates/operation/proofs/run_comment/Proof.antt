@@ -2,8 +2,8 @@
 use mathlib.Core.Path.{refl, ap, _∙_}
 use native.Mathlib.Omega.{arith}
 use Rattle.model.specs.Nav.{isText}
-use Rattle.fields.specs.Fields.{wordsFrom, wordsOf}
-use Rattle.operation.proofs.Choosing.{comment-done, comment-untold, comment-extra}
+use Rattle.members.specs.Fields.{wordsFrom, wordsOf}
+use Rattle.operation.proofs.Choosing.{comment-done, comment-bare, comment-extra}
 use borrow.Author.Needs.{needs}
 use Rattle.operation.proofs.run_comment.Statement.{statement}
 use Rattle.operation.proofs.run_comment.Tie as tie
@@ -14,7 +14,7 @@ slice-aggregate-fields c = search needs
 fields-requires : tie.Need-fields-requires
 unfolding wordsOf wordsFrom
 fields-requires c κs =
-    let st = c .before .before .before .before in
+    let st = c .before .before .before in
     (st .pre .0, (st .pre .1 .0, (refl, omega arith)))
 
 array-read-kind-in : tie.Need-array-read-kind-in
@@ -29,27 +29,16 @@ is-kind-requires c κs = search needs
 array-read-if1 : tie.Need-array-read-if1
 array-read-if1 c = search needs
 
-slice-aggregate-put-bytes : tie.Need-slice-aggregate-put-bytes
-slice-aggregate-put-bytes c = search needs
-
-put-bytes-requires : tie.Need-put-bytes-requires
-put-bytes-requires c κs = search needs
-
-same-length : tie.Need-same-length
-same-length c = search needs
-
 returns : tie.Need-returns
 unfolding wordsOf wordsFrom
 returns c =
-    let pb = c .before .before in
-    let t2 = pb .before .before .before in
-    let t1 = t2 .before in
+    let t1 = c .before in
     let it = t1 .before in
     let ki = it .before in
     let fs = ki .before in
-    let st = fs .before .before .before .before .before in
+    let st = fs .before .before .before .before in
     let a = st .args in
-    λ s rows. comment-done (a .text .now) (a .op) (fs .fields .ensures) (it .is-kind .ensures ∙ ap isText (ki .kind-in .ensures)) s rows (st .pre .1 .1 .0) (t1 .if1 .taken) (t2 .if2 .taken) (pb .put-bytes .ensures)
+    λ s rows id. comment-done (a .text .now) (a .op) (fs .fields .ensures) (it .is-kind .ensures ∙ ap isText (ki .kind-in .ensures)) s rows id (st .pre .1 .1) (t1 .if1 .taken) (c .if2 .taken)
 
 returns-2 : tie.Need-returns-2
 unfolding wordsOf wordsFrom
@@ -58,9 +47,9 @@ returns-2 c =
     let it = t1 .before in
     let ki = it .before in
     let fs = ki .before in
-    let st = fs .before .before .before .before .before in
+    let st = fs .before .before .before .before in
     let a = st .args in
-    λ s rows. comment-untold (a .text .now) (a .op) (fs .fields .ensures) (it .is-kind .ensures ∙ ap isText (ki .kind-in .ensures)) s rows (st .pre .1 .1 .0) (c .if2 .left)
+    λ s rows id. comment-bare (a .text .now) (a .op) (fs .fields .ensures) (it .is-kind .ensures ∙ ap isText (ki .kind-in .ensures)) s rows id (st .pre .1 .1) (c .if2 .left)
 
 returns-3 : tie.Need-returns-3
 unfolding wordsOf wordsFrom
@@ -68,9 +57,9 @@ returns-3 c =
     let it = c .before in
     let ki = it .before in
     let fs = ki .before in
-    let st = fs .before .before .before .before .before in
+    let st = fs .before .before .before .before in
     let a = st .args in
-    λ s rows. comment-extra (a .text .now) (a .op) (fs .fields .ensures) (it .is-kind .ensures ∙ ap isText (ki .kind-in .ensures)) s rows (st .pre .1 .1 .0) (c .if1 .left)
+    λ s rows id. comment-extra (a .text .now) (a .op) (fs .fields .ensures) (it .is-kind .ensures ∙ ap isText (ki .kind-in .ensures)) s rows id (st .pre .1 .1) (c .if1 .left)
 
 pub run-comment-spec : {M : Type 1} → statement M
 run-comment-spec =
@@ -82,9 +71,6 @@ run-comment-spec =
     kind-in-requires
     is-kind-requires
     array-read-if1
-    slice-aggregate-put-bytes
-    put-bytes-requires
-    same-length
     returns
     returns-2
     returns-3)

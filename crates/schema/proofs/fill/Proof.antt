@@ -8,7 +8,7 @@ use lib.ListN.{length, getD}
 use Rattle.inner.specs.Positions.{treeAt}
 use Rattle.model.specs.Value.{textOf}
 use Rattle.model.specs.SchemaText.{isId}
-use Rattle.fields.specs.Fields.{wordsFrom, wordsOf, slotTree}
+use Rattle.members.specs.Fields.{wordsFrom, wordsOf, slotTree}
 use Rattle.tables.specs.Tables.{TablesRead}
 use Rattle.schema.specs.Schema.{Filled}
 use Rattle.schema.proofs.Members.{fill-rest, fill-many, fill-good}

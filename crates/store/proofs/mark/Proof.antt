@@ -1,9 +1,9 @@
 -- `store::mark` meets its contract. Assumes nothing.
-use mathlib.Core.Path.{_≡_, _∙_}
+use mathlib.Core.Path.{_∙_}
 use native.Mathlib.Omega.{arith}
 use borrow.Author.Needs.{needs}
 use borrow.Author.Tests.{not-true, not-false}
-use Rattle.store.proofs.Laws.{mark-numbered, mark-length, mark-short, mark-disordered, mark-made}
+use Rattle.store.proofs.Calls.{mark-numbered, mark-length, mark-short, mark-disordered, mark-made}
 use Rattle.store.proofs.mark.Statement.{statement}
 use Rattle.store.proofs.mark.Tie as tie
 
@@ -28,11 +28,11 @@ returns-2 c =
     let z = mark-short (a .area .now) (a .mark .now) (c .before .if1 .left) (omega (arith, c .before .before .before .before .clear .kept .0, c .if2 .taken)) in
     mark-numbered (a .area .now) (a .mark .now) (z .0, c .before .before .before .before .clear .ensures ∙ z .1)
 
-slice-aggregate-held : tie.Need-slice-aggregate-held
-slice-aggregate-held c = search needs
+slice-aggregate-opened : tie.Need-slice-aggregate-opened
+slice-aggregate-opened c = search needs
 
-held-requires : tie.Need-held-requires
-held-requires c κs = search needs
+opened-requires : tie.Need-opened-requires
+opened-requires c κs = search needs
 
 same-length-3 : tie.Need-same-length-3
 same-length-3 c = search needs
@@ -40,7 +40,7 @@ same-length-3 c = search needs
 returns-3 : tie.Need-returns-3
 returns-3 c =
     let a = c .before .before .before .before .before .before .before .before .before .before .before .before .before .args in
-    let z = mark-disordered (a .area .now) (a .mark .now) (c .before .before .before .before .before .before .if1 .left) (omega (arith, c .before .before .before .before .before .before .before .before .before .clear .kept .0, c .before .before .before .before .before .if2 .left)) (c .before .before .held .ensures .bad (not-true _ (c .if3 .taken))) in
+    let z = mark-disordered (a .area .now) (a .mark .now) (c .before .before .before .before .before .before .if1 .left) (omega (arith, c .before .before .before .before .before .before .before .before .before .clear .kept .0, c .before .before .before .before .before .if2 .left)) (c .before .before .opened .ensures .bad (not-true _ (c .if3 .taken))) in
     mark-numbered (a .area .now) (a .mark .now) (z .0, c .before .before .before .before .before .before .before .before .before .clear .ensures ∙ z .1)
 
 run-of-requires : tie.Need-run-of-requires
@@ -62,7 +62,7 @@ returns-4 : tie.Need-returns-4
 returns-4 c =
     let a = c .before .before .before .before .before .before .before .before .before .before .before .before .before .before .before .before .before .before .before .before .args in
     let w = c .before .before .write in
-    let h = c .before .before .before .before .before .before .before .before .before .held in
+    let h = c .before .before .before .before .before .before .before .before .before .opened in
     mark-numbered (a .area .now) (a .mark .now)
     (mark-made (a .area .now) (a .mark .now) (c .before .before .before .before .before .before .before .before .before .before .before .before .before .if1 .left) (omega (arith, c .before .before .before .before .before .before .before .before .before .before .before .before .before .before .before .before .clear .kept .0, c .before .before .before .before .before .before .before .before .before .before .before .before .if2 .left)) (h .last .1 .0) (h .last .1 .1 .0) (h .ensures .good (not-false _ (c .before .before .before .before .before .before .before .if3 .left)))
     (c .before .before .before .before .new .result) (c .before .before .before .before .before .before .run-of .result) (c .before .before .before .before .before .number-of .result) (c .before .before .before .before .new .ensures) (c .before .before .before .before .before .before .run-of .ensures) (c .before .before .before .before .before .number-of .ensures)
@@ -77,8 +77,8 @@ mark-spec =
     returns
     same-length-2
     returns-2
-    slice-aggregate-held
-    held-requires
+    slice-aggregate-opened
+    opened-requires
     same-length-3
     returns-3
     run-of-requires

@@ -1,9 +1,8 @@
 -- `store::start` meets its contract. Assumes nothing.
-use mathlib.Core.Path.{_≡_, sym, _∙_}
 use native.Mathlib.Omega.{arith}
 use borrow.Author.Needs.{needs}
 use borrow.Author.Tests.{not-true, not-false}
-use Rattle.store.proofs.Laws.{start-numbered, start-length, start-schema, start-made}
+use Rattle.store.proofs.Calls.{start-numbered, start-length, start-schema, start-made}
 use Rattle.store.proofs.start.Statement.{statement}
 use Rattle.store.proofs.start.Tie as tie
 

@@ -18,7 +18,7 @@ returns c =
     let b = c .before in
     let d = b .before in
     let st = d .before .before .before in
-    id-copied (st .args .fresh .now) (st .args .i) (d .id-at .result .now) (d .id-at .ensures) (b .put-bytes .ensures)
+    id-copied (st .args .names .now) (st .args .i) (d .id-at .result .now) (d .id-at .ensures) (b .put-bytes .ensures)
 
 pub new-id-spec : {M : Type 1} → statement M
 new-id-spec =

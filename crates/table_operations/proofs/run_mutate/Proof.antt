@@ -1,12 +1,34 @@
 -- `table_operations::run_mutate` meets its contract. Assumes nothing.
-use mathlib.Core.Path.{refl, sym, _∙_}
+use mathlib.Core.Path.{refl, sym, ap, _∙_}
+use mathlib.Core.Bool.{true}
+use Prim.Native.Nat.{_≤_}
 use native.Mathlib.Omega.{arith}
+use lib.ListN.{length, getD}
+use Rattle.model.specs.Catalog.{packedTables}
+use Rattle.model.specs.Members.{membersIn}
+use Rattle.inner.specs.Positions.{treeAt}
 use Rattle.inner.specs.Working.{working}
-use Rattle.fields.specs.Fields.{wordsFrom, wordsOf}
-use Rattle.table_operations.proofs.Doing.{ran-failed, mutate-slot, mutate-list-slot, mutate-fault, mutate-where, mutate-list, mutate-done, mutate-rows-fault}
+use Rattle.model.proofs.Tests.{clash}
+use Rattle.catalog.proofs.Laws.{few-tables, few-columns}
+use Rattle.members.specs.Fields.{wordsFrom, wordsOf}
+use Rattle.fresh.specs.Fresh.{freshAt}
+use Rattle.mutations.specs.Rows.{MarkedMutated}
+use Rattle.table_operations.specs.Ran.{mutating}
+use Rattle.table_operations.proofs.Doing.{ran-failed, ran-as, columns-same, front, chosen, mutate-slot, mutate-list-slot, mutate-fault, mu-parts, mutate-list, mutate-done}
 use borrow.Author.Needs.{needs}
 use Rattle.table_operations.proofs.run_mutate.Statement.{statement}
 use Rattle.table_operations.proofs.run_mutate.Tie as tie
+
+wide-requires : tie.Need-wide-requires
+wide-requires c κs = search needs
+
+columns-of-requires : tie.Need-columns-of-requires
+columns-of-requires c κs =
+    let st = c .before .before .before .before in
+    let x = st .pre .here in
+    let y = few-tables _ (st .pre .accepted) in
+    let w = c .wide .ensures in
+    (omega arith, few-columns _ (st .pre .accepted) (c .wide .result) (omega arith))
 
 slice-aggregate-fields : tie.Need-slice-aggregate-fields
 slice-aggregate-fields c = search needs
@@ -14,14 +36,8 @@ slice-aggregate-fields c = search needs
 fields-requires : tie.Need-fields-requires
 unfolding wordsOf wordsFrom
 fields-requires c κs =
-    let st = c .before .before .before .before .before in
+    let st = c .before .before .before .before .before .before in
     (st .pre .running .says, (st .pre .well, (refl, omega arith)))
-
-array-read-p : tie.Need-array-read-p
-array-read-p c = search needs
-
-array-read-q : tie.Need-array-read-q
-array-read-q c = search needs
 
 array-read-listed : tie.Need-array-read-listed
 array-read-listed c = search needs
@@ -29,21 +45,46 @@ array-read-listed c = search needs
 listed-requires : tie.Need-listed-requires
 listed-requires c κs = search needs
 
-where-fault-requires : tie.Need-where-fault-requires
+slice-reshare-prefix-front : tie.Need-slice-reshare-prefix-front
+slice-reshare-prefix-front c = search needs
+
+slice-aggregate-front : tie.Need-slice-aggregate-front
+slice-aggregate-front c =
+    let st = c .before .before .before .before .before .before .before .before .before in
+    front (st .args .n) (st .args .rows .now) (st .pre .count) (st .pre .room) .0
+
+of-table-requires : tie.Need-of-table-requires
+of-table-requires c κs =
+    let st = c .before .before .before .before .before .before .before .before .before in
+    front (st .args .n) (st .args .rows .now) (st .pre .count) (st .pre .room) .1
+
+array-read-p : tie.Need-array-read-p
+array-read-p c = search needs
+
+read-where-requires : tie.Need-read-where-requires
 unfolding wordsOf wordsFrom
-where-fault-requires c κs =
-    let fs = c .before in
-    let st = fs .before .before .before .before .before .before in
+read-where-requires c κs =
+    let li = c .before .before .before in
+    let fs = li .before in
+    let co = fs .before .before in
+    let st = co .before .before .before .before .before in
     let a = st .args in
-    (st .pre .running, (mutate-slot (a .text .now) (a .ops) (a .fresh .now) (a .columns .now) (a .op) (a .table) (fs .fields .ensures), st .pre .few))
+    (st .pre .running, (mutate-slot (a .text .now) (a .names .now) (co .columns-of .result .now) (a .call .at) (a .call .table) (fs .fields .ensures), (co .columns-of .ensures .1, front (a .n) (a .rows .now) (st .pre .count) (st .pre .room) .1)))
+
+array-read-q : tie.Need-array-read-q
+array-read-q c = search needs
 
 mutations-fault-requires : tie.Need-mutations-fault-requires
 unfolding wordsOf wordsFrom
 mutations-fault-requires c κs =
-    let fs = c .before .before in
-    let st = fs .before .before .before .before .before .before in
+    let rw = c in
+    let ot = rw .before .before in
+    let li = ot .before .before in
+    let fs = li .before in
+    let co = fs .before .before in
+    let st = co .before .before .before .before .before in
     let a = st .args in
-    (st .pre .running, mutate-list-slot (a .text .now) (a .ops) (a .fresh .now) (a .columns .now) (a .op) (a .table) (fs .fields .ensures))
+    (st .pre .running, mutate-list-slot (a .text .now) (a .names .now) (co .columns-of .result .now) (a .call .at) (a .call .table) (fs .fields .ensures))
 
 earlier-requires : tie.Need-earlier-requires
 earlier-requires c κs = search needs
@@ -54,153 +95,117 @@ earlier-requires-2 c κs = search needs
 is-fine-requires : tie.Need-is-fine-requires
 is-fine-requires c κs = search needs
 
+count-requires : tie.Need-count-requires
+count-requires c κs = c .before .before .before .before .before .before .before .before .before .before .before .before .before .before .before .before .before .before .pre .count
+
 first-requires : tie.Need-first-requires
 first-requires c κs = search needs
-
-first-requires-2 : tie.Need-first-requires-2
-first-requires-2 c κs = search needs
-
-count-rows-requires : tie.Need-count-rows-requires
-unfolding wordsOf wordsFrom
-count-rows-requires c κs =
-    let f2 = c .before in
-    let ft = f2 .before in
-    let th = ft .before in
-    let fi = th .before in
-    let e2 = fi .before in
-    let e1 = e2 .before in
-    let vf = e1 .before in
-    let wf = vf .before in
-    let li = wf .before in
-    let fs = li .before in
-    let st = fs .before .before .before .before .before .before in
-    let a = st .args in
-    let w = mutate-where (a .text .now) (a .ops) (a .fresh .now) (a .columns .now) (a .op) (a .table) (fs .fields .ensures) (li .listed .ensures) (wf .where-fault .ensures) (vf .mutations-fault .ensures) (e1 .earlier .ensures) (e2 .earlier2 .ensures) (sym (fi .is-fine .ensures) ∙ th .if1 .taken) (ft .first .ensures) (f2 .first2 .ensures) in
-    let x = st .pre .count in
-    let y = st .pre .room in
-    (st .pre .running, (w .items, (st .pre .few, (w .fine, omega arith))))
 
 mutate-rows-requires : tie.Need-mutate-rows-requires
 unfolding wordsOf wordsFrom
 mutate-rows-requires c κs =
-    let f2 = c .before .before .before in
-    let ft = f2 .before in
-    let th = ft .before in
+    let ft = c .before .before in
+    let cr = ft .before in
+    let th = cr .before .before in
     let fi = th .before in
     let e2 = fi .before in
     let e1 = e2 .before in
-    let vf = e1 .before in
-    let wf = vf .before in
-    let li = wf .before in
+    let mf = e1 .before in
+    let rw = mf .before in
+    let ot = rw .before .before in
+    let li = ot .before .before in
     let fs = li .before in
-    let st = fs .before .before .before .before .before .before in
+    let co = fs .before .before in
+    let st = co .before .before .before .before .before in
     let a = st .args in
-    let w = mutate-where (a .text .now) (a .ops) (a .fresh .now) (a .columns .now) (a .op) (a .table) (fs .fields .ensures) (li .listed .ensures) (wf .where-fault .ensures) (vf .mutations-fault .ensures) (e1 .earlier .ensures) (e2 .earlier2 .ensures) (sym (fi .is-fine .ensures) ∙ th .if1 .taken) (ft .first .ensures) (f2 .first2 .ensures) in
-    let q = mutate-list (a .text .now) (a .ops) (a .fresh .now) (a .columns .now) (a .op) (a .table) (fs .fields .ensures) (li .listed .ensures) (wf .where-fault .ensures) (vf .mutations-fault .ensures) (e1 .earlier .ensures) (e2 .earlier2 .ensures) (sym (fi .is-fine .ensures) ∙ th .if1 .taken) (ft .first .ensures) (f2 .first2 .ensures) in
+    let y = sym (fi .is-fine .ensures) ∙ th .if1 .taken in
+    let q = mutate-list (a .text .now) (a .names .now) (co .columns-of .result .now) (a .call .at) (a .call .table) (fs .fields .ensures) (li .listed .ensures) (rw .read-where .ensures .fault) (mf .mutations-fault .ensures) (e1 .earlier .ensures) (e2 .earlier2 .ensures) y (ft .first .ensures) in
     let x = st .pre .count in
-    let y = st .pre .room in
-    (st .pre .running, (w .items, (q .0, (st .pre .few, (w .fine, (q .1, omega arith))))))
-
-is-fine-requires-2 : tie.Need-is-fine-requires-2
-is-fine-requires-2 c κs = search needs
-
-put-count-requires : tie.Need-put-count-requires
-put-count-requires c κs =
-    let fi = c .before .before .before .before .before .before .before .before .before .before .before in
-    let st = fi .before .before .before .before .before .before .before .before .before .before .before .before in
-    let x = st .pre .space in
-    omega arith
+    let z = st .pre .room in
+    (st .pre .running, (q .0, (co .columns-of .ensures .1, (q .1, (x, omega arith)))))
 
 same-length : tie.Need-same-length
 same-length c = search needs
 
-same-length-2 : tie.Need-same-length-2
-same-length-2 c = search needs
-
 returns : tie.Need-returns
-unfolding wordsOf wordsFrom
+unfolding wordsOf wordsFrom MarkedMutated
 returns c =
-    let pc = c .before .before in
-    let t2 = pc .before .before in
-    let i2 = t2 .before in
-    let dr = i2 .before .before in
-    let cr = dr .before .before in
-    let f2 = cr .before .before in
-    let ft = f2 .before in
-    let th = ft .before in
+    let mr = c .before in
+    let ft = mr .before .before .before in
+    let cr = ft .before in
+    let th = cr .before .before in
     let fi = th .before in
     let e2 = fi .before in
     let e1 = e2 .before in
-    let vf = e1 .before in
-    let wf = vf .before in
-    let li = wf .before in
+    let mf = e1 .before in
+    let rw = mf .before in
+    let ot = rw .before .before in
+    let li = ot .before .before in
     let fs = li .before in
-    let st = fs .before .before .before .before .before .before in
+    let co = fs .before .before in
+    let st = co .before .before .before .before .before in
     let a = st .args in
-    λ s same. mutate-done (a .text .now) (a .ops) (a .fresh .now) (a .columns .now) (a .op) (a .table) (fs .fields .ensures) (li .listed .ensures) (wf .where-fault .ensures) (vf .mutations-fault .ensures) (e1 .earlier .ensures) (e2 .earlier2 .ensures) (sym (fi .is-fine .ensures) ∙ th .if1 .taken) (ft .first .ensures) (f2 .first2 .ensures) s same (dr .mutate-rows .ensures) (st .pre .count) (cr .count-rows .ensures s same) (sym (i2 .is-fine2 .ensures) ∙ t2 .if2 .taken) (pc .put-count .ensures)
+    let s = packedTables (a .schema .now) in
+    let same = columns-same (a .schema .now) (co .columns-of .result .now) (a .call .table) (st .pre .here) (co .before .wide .ensures) (co .columns-of .ensures .0) in
+    let id = freshAt (a .names .now) (a .call .number) in
+    let work = working s (a .n) (a .rows .now) in
+    let few = st .pre .count in
+    let room = st .pre .room in
+    let long : a .n ≤ length (a .rows .now) = omega arith in
+    let y = sym (fi .is-fine .ensures) ∙ th .if1 .taken in
+    let m = chosen (a .text .now) (a .names .now) (co .columns-of .result .now) (membersIn (treeAt (a .text .now) (a .call .at))) (getD (fs .fields .result) 2 0) (a .call .table) (a .n) (a .rows .now) (ot .of-table .ensures) (rw .read-where .ensures) (mu-parts (a .text .now) (a .names .now) (co .columns-of .result .now) (a .call .at) (a .call .table) (fs .fields .ensures) (li .listed .ensures) (rw .read-where .ensures .fault) (mf .mutations-fault .ensures) (e1 .earlier .ensures) (e2 .earlier2 .ensures) y (ft .first .ensures) .0) long in
+    ran-as (ap (mutating (a .text .now) (a .names .now) (a .call .at) work (a .call .table)) same) (mutate-done (a .text .now) (a .names .now) (co .columns-of .result .now) (a .call .at) (a .call .table) (fs .fields .ensures) (li .listed .ensures) (rw .read-where .ensures .fault) (mf .mutations-fault .ensures) (e1 .earlier .ensures) (e2 .earlier2 .ensures) y (ft .first .ensures) s same (mr .mutate-rows .ensures _ _ m) id _ few long m (cr .count .ensures))
 
-same-length-3 : tie.Need-same-length-3
-same-length-3 c = search needs
+same-length-2 : tie.Need-same-length-2
+same-length-2 c = search needs
 
 returns-2 : tie.Need-returns-2
 unfolding wordsOf wordsFrom
 returns-2 c =
-    let i2 = c .before in
-    let dr = i2 .before .before in
-    let cr = dr .before .before in
-    let f2 = cr .before .before in
-    let ft = f2 .before in
-    let th = ft .before in
-    let fi = th .before in
-    let e2 = fi .before in
-    let e1 = e2 .before in
-    let vf = e1 .before in
-    let wf = vf .before in
-    let li = wf .before in
-    let fs = li .before in
-    let st = fs .before .before .before .before .before .before in
-    let a = st .args in
-    λ s same. ran-failed (st .pre .count) (mutate-rows-fault (a .text .now) (a .ops) (a .fresh .now) (a .columns .now) (a .op) (a .table) (fs .fields .ensures) (li .listed .ensures) (wf .where-fault .ensures) (vf .mutations-fault .ensures) (e1 .earlier .ensures) (e2 .earlier2 .ensures) (sym (fi .is-fine .ensures) ∙ th .if1 .taken) (ft .first .ensures) (f2 .first2 .ensures) s same (dr .mutate-rows .ensures)) (sym (i2 .is-fine2 .ensures) ∙ c .if2 .left)
-
-returns-3 : tie.Need-returns-3
-unfolding wordsOf wordsFrom
-returns-3 c =
     let fi = c .before in
     let e2 = fi .before in
     let e1 = e2 .before in
-    let vf = e1 .before in
-    let wf = vf .before in
-    let li = wf .before in
+    let mf = e1 .before in
+    let rw = mf .before in
+    let ot = rw .before .before in
+    let li = ot .before .before in
     let fs = li .before in
-    let st = fs .before .before .before .before .before .before in
+    let co = fs .before .before in
+    let st = co .before .before .before .before .before in
     let a = st .args in
-    let bad = sym (fi .is-fine .ensures) ∙ c .if1 .left in
-    λ s same. ran-failed (st .pre .count) (mutate-fault (a .text .now) (a .ops) (a .fresh .now) (a .columns .now) (a .op) (a .table) (fs .fields .ensures) (li .listed .ensures) (wf .where-fault .ensures) (vf .mutations-fault .ensures) (e1 .earlier .ensures) (e2 .earlier2 .ensures) bad (working s (a .n) (a .rows .now))) bad
+    let s = packedTables (a .schema .now) in
+    let same = columns-same (a .schema .now) (co .columns-of .result .now) (a .call .table) (st .pre .here) (co .before .wide .ensures) (co .columns-of .ensures .0) in
+    let id = freshAt (a .names .now) (a .call .number) in
+    let work = working s (a .n) (a .rows .now) in
+    let few = st .pre .count in
+    let room = st .pre .room in
+    let long : a .n ≤ length (a .rows .now) = omega arith in
+    ran-as (ap (mutating (a .text .now) (a .names .now) (a .call .at) work (a .call .table)) same) (ran-failed few (mutate-fault (a .text .now) (a .names .now) (co .columns-of .result .now) (a .call .at) (a .call .table) (fs .fields .ensures) (li .listed .ensures) (rw .read-where .ensures .fault) (mf .mutations-fault .ensures) (e1 .earlier .ensures) (e2 .earlier2 .ensures) (sym (fi .is-fine .ensures) ∙ c .if1 .left) work) (sym (fi .is-fine .ensures) ∙ c .if1 .left))
 
 pub run-mutate-spec : {M : Type 1} → statement M
 run-mutate-spec =
     tie.close
     (tie.spec
+    wide-requires
+    columns-of-requires
     slice-aggregate-fields
     fields-requires
-    array-read-p
-    array-read-q
     array-read-listed
     listed-requires
-    where-fault-requires
+    slice-reshare-prefix-front
+    slice-aggregate-front
+    of-table-requires
+    array-read-p
+    read-where-requires
+    array-read-q
     mutations-fault-requires
     earlier-requires
     earlier-requires-2
     is-fine-requires
+    count-requires
     first-requires
-    first-requires-2
-    count-rows-requires
     mutate-rows-requires
-    is-fine-requires-2
-    put-count-requires
     same-length
-    same-length-2
     returns
-    same-length-3
-    returns-2
-    returns-3)
+    same-length-2
+    returns-2)

@@ -1,12 +1,35 @@
 -- `table_operations::run_update` meets its contract. Assumes nothing.
-use mathlib.Core.Path.{refl, sym, _∙_}
+use mathlib.Core.Path.{refl, sym, ap, _∙_}
+use mathlib.Core.Bool.{true}
+use Prim.Native.Nat.{_≤_}
 use native.Mathlib.Omega.{arith}
+use lib.ListN.{length, getD}
+use Rattle.model.specs.Catalog.{packedTables}
+use Rattle.model.specs.Members.{membersIn}
+use Rattle.inner.specs.Positions.{treeAt}
 use Rattle.inner.specs.Working.{working}
-use Rattle.fields.specs.Fields.{wordsFrom, wordsOf}
-use Rattle.table_operations.proofs.Doing.{ran-failed, update-slot, update-row-slot, update-fault, update-where, update-row, update-done}
+use Rattle.model.proofs.Tests.{clash}
+use Rattle.catalog.proofs.Laws.{few-tables, few-columns}
+use Rattle.members.specs.Fields.{wordsFrom, wordsOf}
+use Rattle.fresh.specs.Fresh.{freshAt}
+use Rattle.request_rows.proofs.Updates.{updated-rows}
+use Rattle.clauses.proofs.Slots.{row-as}
+use Rattle.table_operations.specs.Ran.{Kept, updating}
+use Rattle.table_operations.proofs.Doing.{ran-failed, ran-as, columns-same, front, chosen, update-slot, update-row-slot, update-fault, up-parts, update-row, update-done}
 use borrow.Author.Needs.{needs}
 use Rattle.table_operations.proofs.run_update.Statement.{statement}
 use Rattle.table_operations.proofs.run_update.Tie as tie
+
+wide-requires : tie.Need-wide-requires
+wide-requires c κs = search needs
+
+columns-of-requires : tie.Need-columns-of-requires
+columns-of-requires c κs =
+    let st = c .before .before .before .before in
+    let x = st .pre .here in
+    let y = few-tables _ (st .pre .accepted) in
+    let w = c .wide .ensures in
+    (omega arith, few-columns _ (st .pre .accepted) (c .wide .result) (omega arith))
 
 slice-aggregate-fields : tie.Need-slice-aggregate-fields
 slice-aggregate-fields c = search needs
@@ -14,14 +37,8 @@ slice-aggregate-fields c = search needs
 fields-requires : tie.Need-fields-requires
 unfolding wordsOf wordsFrom
 fields-requires c κs =
-    let st = c .before .before .before .before .before in
+    let st = c .before .before .before .before .before .before in
     (st .pre .running .says, (st .pre .well, (refl, omega arith)))
-
-array-read-p : tie.Need-array-read-p
-array-read-p c = search needs
-
-array-read-q : tie.Need-array-read-q
-array-read-q c = search needs
 
 array-read-listed : tie.Need-array-read-listed
 array-read-listed c = search needs
@@ -29,21 +46,46 @@ array-read-listed c = search needs
 listed-requires : tie.Need-listed-requires
 listed-requires c κs = search needs
 
-where-fault-requires : tie.Need-where-fault-requires
-unfolding wordsOf wordsFrom
-where-fault-requires c κs =
-    let fs = c .before in
-    let st = fs .before .before .before .before .before .before in
-    let a = st .args in
-    (st .pre .running, (update-slot (a .text .now) (a .ops) (a .fresh .now) (a .columns .now) (a .op) (a .table) (fs .fields .ensures), st .pre .few))
+slice-reshare-prefix-front : tie.Need-slice-reshare-prefix-front
+slice-reshare-prefix-front c = search needs
 
-row-fault-requires : tie.Need-row-fault-requires
+slice-aggregate-front : tie.Need-slice-aggregate-front
+slice-aggregate-front c =
+    let st = c .before .before .before .before .before .before .before .before .before in
+    front (st .args .n) (st .args .rows .now) (st .pre .count) (st .pre .room) .0
+
+of-table-requires : tie.Need-of-table-requires
+of-table-requires c κs =
+    let st = c .before .before .before .before .before .before .before .before .before in
+    front (st .args .n) (st .args .rows .now) (st .pre .count) (st .pre .room) .1
+
+array-read-p : tie.Need-array-read-p
+array-read-p c = search needs
+
+read-where-requires : tie.Need-read-where-requires
 unfolding wordsOf wordsFrom
-row-fault-requires c κs =
-    let fs = c .before .before in
-    let st = fs .before .before .before .before .before .before in
+read-where-requires c κs =
+    let li = c .before .before .before in
+    let fs = li .before in
+    let co = fs .before .before in
+    let st = co .before .before .before .before .before in
     let a = st .args in
-    (st .pre .running, update-row-slot (a .text .now) (a .ops) (a .fresh .now) (a .columns .now) (a .op) (a .table) (fs .fields .ensures))
+    (st .pre .running, (update-slot (a .text .now) (a .names .now) (co .columns-of .result .now) (a .call .at) (a .call .table) (fs .fields .ensures), (co .columns-of .ensures .1, front (a .n) (a .rows .now) (st .pre .count) (st .pre .room) .1)))
+
+array-read-q : tie.Need-array-read-q
+array-read-q c = search needs
+
+read-row-requires : tie.Need-read-row-requires
+unfolding wordsOf wordsFrom
+read-row-requires c κs =
+    let rw = c .before .before in
+    let ot = rw .before .before in
+    let li = ot .before .before in
+    let fs = li .before in
+    let co = fs .before .before in
+    let st = co .before .before .before .before .before in
+    let a = st .args in
+    (st .pre .running, (update-row-slot (a .text .now) (a .names .now) (co .columns-of .result .now) (a .call .at) (a .call .table) (fs .fields .ensures), co .columns-of .ensures .1))
 
 earlier-requires : tie.Need-earlier-requires
 earlier-requires c κs = search needs
@@ -54,114 +96,98 @@ earlier-requires-2 c κs = search needs
 is-fine-requires : tie.Need-is-fine-requires
 is-fine-requires c κs = search needs
 
-first-requires : tie.Need-first-requires
-first-requires c κs = search needs
-
-count-rows-requires : tie.Need-count-rows-requires
-unfolding wordsOf wordsFrom
-count-rows-requires c κs =
-    let ft = c .before in
-    let th = ft .before in
-    let fi = th .before in
-    let e2 = fi .before in
-    let e1 = e2 .before in
-    let vf = e1 .before in
-    let wf = vf .before in
-    let li = wf .before in
-    let fs = li .before in
-    let st = fs .before .before .before .before .before .before in
-    let a = st .args in
-    let w = update-where (a .text .now) (a .ops) (a .fresh .now) (a .columns .now) (a .op) (a .table) (fs .fields .ensures) (li .listed .ensures) (wf .where-fault .ensures) (vf .row-fault .ensures) (e1 .earlier .ensures) (e2 .earlier2 .ensures) (sym (fi .is-fine .ensures) ∙ th .if1 .taken) (ft .first .ensures) in
-    let x = st .pre .count in
-    let y = st .pre .room in
-    (st .pre .running, (w .items, (st .pre .few, (w .fine, omega arith))))
+count-requires : tie.Need-count-requires
+count-requires c κs = c .before .before .before .before .before .before .before .before .before .before .before .before .before .before .before .before .before .before .before .before .pre .count
 
 update-rows-requires : tie.Need-update-rows-requires
-unfolding wordsOf wordsFrom
 update-rows-requires c κs =
-    let ft = c .before .before .before in
-    let th = ft .before in
-    let fi = th .before in
-    let e2 = fi .before in
-    let e1 = e2 .before in
-    let vf = e1 .before in
-    let wf = vf .before in
-    let li = wf .before in
-    let fs = li .before in
-    let st = fs .before .before .before .before .before .before in
-    let a = st .args in
-    let w = update-where (a .text .now) (a .ops) (a .fresh .now) (a .columns .now) (a .op) (a .table) (fs .fields .ensures) (li .listed .ensures) (wf .where-fault .ensures) (vf .row-fault .ensures) (e1 .earlier .ensures) (e2 .earlier2 .ensures) (sym (fi .is-fine .ensures) ∙ th .if1 .taken) (ft .first .ensures) in
-    let q = update-row (a .text .now) (a .ops) (a .fresh .now) (a .columns .now) (a .op) (a .table) (fs .fields .ensures) (li .listed .ensures) (wf .where-fault .ensures) (vf .row-fault .ensures) (e1 .earlier .ensures) (e2 .earlier2 .ensures) (sym (fi .is-fine .ensures) ∙ th .if1 .taken) (ft .first .ensures) in
+    let co = c .before .before .before .before .before .before .before .before .before .before .before .before .before .before .before .before .before .before .before .before in
+    let st = co .before .before .before .before .before in
     let x = st .pre .count in
     let y = st .pre .room in
-    (st .pre .running, (w .items, (w .fine, (q .0, (st .pre .few, (q .1, omega arith))))))
-
-put-count-requires : tie.Need-put-count-requires
-put-count-requires c κs =
-    let fi = c .before .before .before .before .before .before .before .before in
-    let st = fi .before .before .before .before .before .before .before .before .before .before .before .before in
-    let x = st .pre .space in
-    omega arith
+    (co .columns-of .ensures .1, (x, omega arith))
 
 same-length : tie.Need-same-length
 same-length c = search needs
 
-same-length-2 : tie.Need-same-length-2
-same-length-2 c = search needs
-
 returns : tie.Need-returns
-unfolding wordsOf wordsFrom
+unfolding wordsOf wordsFrom Kept
 returns c =
-    let pc = c .before .before in
-    let dr = pc .before .before .before in
-    let cr = dr .before .before in
-    let ft = cr .before .before in
-    let th = ft .before in
+    let dr = c .before in
+    let cr = dr .before .before .before .before .before in
+    let th = cr .before .before in
     let fi = th .before in
     let e2 = fi .before in
     let e1 = e2 .before in
-    let vf = e1 .before in
-    let wf = vf .before in
-    let li = wf .before in
+    let rr = e1 .before in
+    let rw = rr .before .before .before in
+    let ot = rw .before .before in
+    let li = ot .before .before in
     let fs = li .before in
-    let st = fs .before .before .before .before .before .before in
+    let co = fs .before .before in
+    let st = co .before .before .before .before .before in
     let a = st .args in
-    λ s same. update-done (a .text .now) (a .ops) (a .fresh .now) (a .columns .now) (a .op) (a .table) (fs .fields .ensures) (li .listed .ensures) (wf .where-fault .ensures) (vf .row-fault .ensures) (e1 .earlier .ensures) (e2 .earlier2 .ensures) (sym (fi .is-fine .ensures) ∙ th .if1 .taken) (ft .first .ensures) s same (st .pre .count) (cr .count-rows .ensures s same) (dr .update-rows .ensures) (pc .put-count .ensures)
+    let s = packedTables (a .schema .now) in
+    let same = columns-same (a .schema .now) (co .columns-of .result .now) (a .call .table) (st .pre .here) (co .before .wide .ensures) (co .columns-of .ensures .0) in
+    let id = freshAt (a .names .now) (a .call .number) in
+    let work = working s (a .n) (a .rows .now) in
+    let few = st .pre .count in
+    let room = st .pre .room in
+    let long : a .n ≤ length (a .rows .now) = omega arith in
+    let y = sym (fi .is-fine .ensures) ∙ th .if1 .taken in
+    let m = chosen (a .text .now) (a .names .now) (co .columns-of .result .now) (membersIn (treeAt (a .text .now) (a .call .at))) (getD (fs .fields .result) 2 0) (a .call .table) (a .n) (a .rows .now) (ot .of-table .ensures) (rw .read-where .ensures) (up-parts (a .text .now) (a .names .now) (co .columns-of .result .now) (a .call .at) (a .call .table) (fs .fields .ensures) (li .listed .ensures) (rw .read-where .ensures .fault) (rr .read-row .ensures .fault) (e1 .earlier .ensures) (e2 .earlier2 .ensures) y .0) long in
+    let q = update-row (a .text .now) (a .names .now) (co .columns-of .result .now) (a .call .at) (a .call .table) (fs .fields .ensures) (li .listed .ensures) (rw .read-where .ensures .fault) (rr .read-row .ensures .fault) (e1 .earlier .ensures) (e2 .earlier2 .ensures) y in
+    (ran-as (ap (updating (a .text .now) (a .names .now) (a .call .at) work (a .call .table)) same) (update-done (a .text .now) (a .names .now) (co .columns-of .result .now) (a .call .at) (a .call .table) (fs .fields .ensures) (li .listed .ensures) (rw .read-where .ensures .fault) (rr .read-row .ensures .fault) (e1 .earlier .ensures) (e2 .earlier2 .ensures) y s same id _ few long m (cr .count .ensures) (updated-rows (a .text .now) (a .names .now) (co .columns-of .result .now) (getD (fs .fields .result) 3 0) (a .n) _ _ (a .call .table) (row-as (q .2) (rr .read-row .ensures)) (q .1) (dr .update-rows .ensures) m)), λ bad. absurd (clash true refl bad))
+
+same-length-2 : tie.Need-same-length-2
+same-length-2 c = search needs
 
 returns-2 : tie.Need-returns-2
-unfolding wordsOf wordsFrom
+unfolding wordsOf wordsFrom Kept
 returns-2 c =
     let fi = c .before in
     let e2 = fi .before in
     let e1 = e2 .before in
-    let vf = e1 .before in
-    let wf = vf .before in
-    let li = wf .before in
+    let rr = e1 .before in
+    let rw = rr .before .before .before in
+    let ot = rw .before .before in
+    let li = ot .before .before in
     let fs = li .before in
-    let st = fs .before .before .before .before .before .before in
+    let co = fs .before .before in
+    let st = co .before .before .before .before .before in
     let a = st .args in
-    λ s same. ran-failed (st .pre .count) (update-fault (a .text .now) (a .ops) (a .fresh .now) (a .columns .now) (a .op) (a .table) (fs .fields .ensures) (li .listed .ensures) (wf .where-fault .ensures) (vf .row-fault .ensures) (e1 .earlier .ensures) (e2 .earlier2 .ensures) (working s (a .n) (a .rows .now))) (sym (fi .is-fine .ensures) ∙ c .if1 .left)
+    let s = packedTables (a .schema .now) in
+    let same = columns-same (a .schema .now) (co .columns-of .result .now) (a .call .table) (st .pre .here) (co .before .wide .ensures) (co .columns-of .ensures .0) in
+    let id = freshAt (a .names .now) (a .call .number) in
+    let work = working s (a .n) (a .rows .now) in
+    let few = st .pre .count in
+    let room = st .pre .room in
+    let long : a .n ≤ length (a .rows .now) = omega arith in
+    (ran-as (ap (updating (a .text .now) (a .names .now) (a .call .at) work (a .call .table)) same) (ran-failed few (update-fault (a .text .now) (a .names .now) (co .columns-of .result .now) (a .call .at) (a .call .table) (fs .fields .ensures) (li .listed .ensures) (rw .read-where .ensures .fault) (rr .read-row .ensures .fault) (e1 .earlier .ensures) (e2 .earlier2 .ensures) work) (sym (fi .is-fine .ensures) ∙ c .if1 .left)), λ bad. refl)
 
 pub run-update-spec : {M : Type 1} → statement M
 run-update-spec =
     tie.close
     (tie.spec
+    wide-requires
+    columns-of-requires
     slice-aggregate-fields
     fields-requires
-    array-read-p
-    array-read-q
     array-read-listed
     listed-requires
-    where-fault-requires
-    row-fault-requires
+    slice-reshare-prefix-front
+    slice-aggregate-front
+    of-table-requires
+    array-read-p
+    read-where-requires
+    array-read-q
+    read-row-requires
     earlier-requires
     earlier-requires-2
     is-fine-requires
-    first-requires
-    count-rows-requires
+    count-requires
     update-rows-requires
-    put-count-requires
     same-length
-    same-length-2
     returns
+    same-length-2
     returns-2)

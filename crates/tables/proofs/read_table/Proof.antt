@@ -12,7 +12,7 @@ use Rattle.tables.specs.Tables.{restTold, IndexesIn}
 use native.Mathlib.Omega.{arith}
 use Rattle.model.specs.Catalog.{entryName}
 use Rattle.inner.specs.Positions.{treeAt}
-use Rattle.fields.specs.Fields.{wordsFrom, wordsOf}
+use Rattle.members.specs.Fields.{wordsFrom, wordsOf}
 use Rattle.tables.proofs.Shapes.{table-none, columns-well, columns-named, table-read}
 use borrow.Author.Needs.{needs}
 use Rattle.tables.proofs.read_table.Statement.{statement}

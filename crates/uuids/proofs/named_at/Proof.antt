@@ -15,34 +15,23 @@ kind-at-requires c κs = search needs
 is-kind-requires : tie.Need-is-kind-requires
 is-kind-requires c κs = search needs
 
-slice-aggregate-string-at : tie.Need-slice-aggregate-string-at
-slice-aggregate-string-at c = search needs
-
-string-at-requires : tie.Need-string-at-requires
-string-at-requires c κs = c .before .before .before .before .before .before .before .pre .short
-
-slice-aggregate-bytes : tie.Need-slice-aggregate-bytes
-slice-aggregate-bytes c = search needs
-
-bytes-requires : tie.Need-bytes-requires
-bytes-requires c κs = c .before .before .string-at .ensures .fits
-
 place-of-requires : tie.Need-place-of-requires
-place-of-requires c κs = (c .before .before .before .before .before .before .before .before .before .before .before .pre .says, c .before .before .before .before .before .before .before .before .before .before .before .pre .fine)
+place-of-requires c κs = search needs
 
 enum-known-f : tie.Need-enum-known-f
 enum-known-f c = search needs
 
 put-fresh-requires : tie.Need-put-fresh-requires
-put-fresh-requires c κs = (c .before .before .before .before .before .before .before .before .before .before .before .before .before .before .before .before .pre .ids, search needs)
+put-fresh-requires c κs = search needs
 
 returns : tie.Need-returns
 unfolding answered
 returns c =
-    let a = c .before .before .before .before .before .before .before .before .before .before .before .before .before .before .before .before .before .args in
-    let j = treeAt (a .text .now) (a .at) in
-    let h = ap isText (sym (c .before .before .before .before .before .before .before .before .before .before .before .before .before .kind-at .ensures)) ∙ sym (c .before .before .before .before .before .before .before .before .before .before .before .before .is-kind .ensures) ∙ c .before .before .before .before .before .before .before .before .before .before .before .if1 .taken in
-    named-some (a .text .now) (a .ops) (a .fresh .now) j h (c .before .before .before .before .before .before .bytes .ensures ∙ c .before .before .before .before .before .before .before .before .before .string-at .ensures .bytes) (c .before .before .before .before .before .place-of .ensures) (c .before .before .before .f .given .1) ∙ ap some (sym (c .put-fresh .ensures))
+    let f = c .before .before .before .before .before in
+    let k = f .before .before .before in
+    let a = k .before .before .before .args in
+    let h = ap isText (sym (k .kind-at .ensures)) ∙ sym (f .before .before .is-kind .ensures) ∙ f .before .if1 .taken in
+    named-some (a .text .now) (a .names .now) (treeAt (a .text .now) (a .at)) h (f .place-of .ensures) (c .before .before .before .f .given .1) ∙ ap some (sym (c .put-fresh .ensures))
 
 enum-told : tie.Need-enum-told
 enum-told c = search needs
@@ -50,16 +39,18 @@ enum-told c = search needs
 returns-2 : tie.Need-returns-2
 unfolding answered
 returns-2 c =
-    let a = c .before .before .before .before .before .before .before .before .before .before .before .before .before .before .args in
-    let j = treeAt (a .text .now) (a .at) in
-    let h = ap isText (sym (c .before .before .before .before .before .before .before .before .before .before .kind-at .ensures)) ∙ sym (c .before .before .before .before .before .before .before .before .before .is-kind .ensures) ∙ c .before .before .before .before .before .before .before .before .if1 .taken in
-    named-none (a .text .now) (a .ops) (a .fresh .now) j h (c .before .before .before .bytes .ensures ∙ c .before .before .before .before .before .before .string-at .ensures .bytes) (c .before .before .place-of .ensures) (c .enum-told .given .1)
+    let f = c .before .before in
+    let k = f .before .before .before in
+    let a = k .before .before .before .args in
+    let h = ap isText (sym (k .kind-at .ensures)) ∙ sym (f .before .before .is-kind .ensures) ∙ f .before .if1 .taken in
+    named-none (a .text .now) (a .names .now) (treeAt (a .text .now) (a .at)) h (f .place-of .ensures) (c .enum-told .given .1)
 
 returns-3 : tie.Need-returns-3
 unfolding answered
 returns-3 c =
-    let a = c .before .before .before .before .before .before .args in
-    named-not (a .text .now) (a .ops) (a .fresh .now) (treeAt (a .text .now) (a .at)) (ap isText (sym (c .before .before .kind-at .ensures)) ∙ sym (c .before .is-kind .ensures) ∙ c .if1 .left)
+    let k = c .before .before in
+    let a = k .before .before .before .args in
+    named-not (a .text .now) (a .names .now) (treeAt (a .text .now) (a .at)) (ap isText (sym (k .kind-at .ensures)) ∙ sym (c .before .is-kind .ensures) ∙ c .if1 .left)
 
 pub named-at-spec : {M : Type 1} → statement M
 named-at-spec =
@@ -67,10 +58,6 @@ named-at-spec =
     (tie.spec
     kind-at-requires
     is-kind-requires
-    slice-aggregate-string-at
-    string-at-requires
-    slice-aggregate-bytes
-    bytes-requires
     place-of-requires
     enum-known-f
     put-fresh-requires

@@ -38,7 +38,7 @@ same-length c = search needs
 returns : tie.Need-returns
 returns c =
     let s = c .before .before .before .before .before .before .before .before .before .before .before .before in
-    let f = s .args .fresh .now in
+    let f = s .args .names .now in
     let k = s .args .k in
     let z : 16 * k + 16 - 16 * k ≡ 16 = omega arith in
     c .before .before .put-bytes .ensures
@@ -51,7 +51,7 @@ same-length-2 c = search needs
 returns-2 : tie.Need-returns-2
 returns-2 c =
     let s = c .before .before .before .before .before .before .before in
-    fresh-past (s .args .fresh .now) (s .args .k) (c .before .before .before .clear .last .0) (c .if1 .left) (c .before .before .before .clear .ensures ∙ ap (λ (n : ℕ). replicate {A = ℕ} n 0) (s .pre .1))
+    fresh-past (s .args .names .now) (s .args .k) (c .before .before .before .clear .last .0) (c .if1 .left) (c .before .before .before .clear .ensures ∙ ap (λ (n : ℕ). replicate {A = ℕ} n 0) (s .pre .1))
 
 pub put-fresh-spec : {M : Type 1} → statement M
 put-fresh-spec =

@@ -24,7 +24,7 @@ unfolding answered Pairs
 returns c =
     let a = c .before .before .before .before .before .before .args in
     let s = a .text .now in
-    uuid-not (namesAt s (a .ops) (a .fresh .now)) (treeAt s (a .at)) (subst (λ z. Pairs s z (itemsIn (treeAt s (a .at)))) (c .enum-told .given .1) (c .before .before .pair-at .ensures))
+    uuid-not (namesAt s (a .names .now)) (treeAt s (a .at)) (subst (λ z. Pairs s z (itemsIn (treeAt s (a .at)))) (c .enum-told .given .1) (c .before .before .pair-at .ensures))
 
 slice-aggregate-is-word : tie.Need-slice-aggregate-is-word
 slice-aggregate-is-word c = search needs
@@ -45,7 +45,7 @@ returns-2 c =
     let s = a .text .now in
     let p = c .before .before .before .before .before .before .before .p .given in
     let two = subst (λ z. Pairs s z (itemsIn (treeAt s (a .at)))) (p .1) (c .before .before .before .before .before .before .before .before .before .pair-at .ensures) in
-    uuid-plain (namesAt s (a .ops) (a .fresh .now)) (treeAt s (a .at)) (two .0) (sym (c .before .before .before .before .is-word .ensures) ∙ c .before .before .before .if1 .taken)
+    uuid-plain (namesAt s (a .names .now)) (treeAt s (a .at)) (two .0) (sym (c .before .before .before .before .is-word .ensures) ∙ c .before .before .before .if1 .taken)
     ∙ spells-atom (c .before .before .id-at .result) (idIn (treeAt s (p .0 .1 .0))) (c .before .before .id-at .ensures) ∙ c .put-uuid .ensures
 
 slice-aggregate-is-word-2 : tie.Need-slice-aggregate-is-word-2
@@ -55,7 +55,7 @@ is-word-requires-2 : tie.Need-is-word-requires-2
 is-word-requires-2 c κs = search needs
 
 named-at-requires : tie.Need-named-at-requires
-named-at-requires c κs = c .before .before .before .before .before .before .before .before .before .before .before .before .before .before .pre .0
+named-at-requires c κs = c .before .before .before .before .before .before .before .before .before .before .before .before .before .before .pre .0 .size
 
 returns-3 : tie.Need-returns-3
 unfolding Pairs
@@ -63,7 +63,7 @@ returns-3 c =
     let a = c .before .before .before .before .before .before .before .before .before .before .before .before .before .before .before .args in
     let s = a .text .now in
     let two = subst (λ z. Pairs s z (itemsIn (treeAt s (a .at)))) (c .before .before .before .before .before .before .before .before .before .p .given .1) (c .before .before .before .before .before .before .before .before .before .before .before .pair-at .ensures) in
-    uuid-named (namesAt s (a .ops) (a .fresh .now)) (treeAt s (a .at)) (two .0) (sym (c .before .before .before .before .before .before .is-word .ensures) ∙ c .before .before .before .before .before .if1 .left) (sym (c .before .before .before .is-word2 .ensures) ∙ c .before .before .if2 .taken)
+    uuid-named (namesAt s (a .names .now)) (treeAt s (a .at)) (two .0) (sym (c .before .before .before .before .before .before .is-word .ensures) ∙ c .before .before .before .before .before .if1 .left) (sym (c .before .before .before .is-word2 .ensures) ∙ c .before .before .if2 .taken)
     ∙ c .named-at .ensures
 
 returns-4 : tie.Need-returns-4
@@ -72,7 +72,7 @@ returns-4 c =
     let a = c .before .before .before .before .before .before .before .before .before .before .before .before .before .args in
     let s = a .text .now in
     let two = subst (λ z. Pairs s z (itemsIn (treeAt s (a .at)))) (c .before .before .before .before .before .before .before .p .given .1) (c .before .before .before .before .before .before .before .before .before .pair-at .ensures) in
-    uuid-other (namesAt s (a .ops) (a .fresh .now)) (treeAt s (a .at)) (two .0) (sym (c .before .before .before .before .is-word .ensures) ∙ c .before .before .before .if1 .left) (sym (c .before .is-word2 .ensures) ∙ c .if2 .left)
+    uuid-other (namesAt s (a .names .now)) (treeAt s (a .at)) (two .0) (sym (c .before .before .before .before .is-word .ensures) ∙ c .before .before .before .if1 .left) (sym (c .before .is-word2 .ensures) ∙ c .if2 .left)
 
 pub uuid-at-spec : {M : Type 1} → statement M
 uuid-at-spec =

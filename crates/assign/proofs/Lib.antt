@@ -1,5 +1,0 @@
--- What the proofs of several functions use.
-pub mod Faults
-pub mod Values
-pub mod Rows
-pub mod Updates

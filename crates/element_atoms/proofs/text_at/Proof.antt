@@ -1,0 +1,107 @@
+-- `element_atoms::text_at` meets its contract. Assumes nothing.
+use Prim.Native.Nat.{_+_}
+use mathlib.Core.Path.{sym, ap, _∙_}
+use native.Mathlib.Omega.{arith}
+use lib.ListN.{length, replicate}
+use Rattle.model.specs.Strings.{bodyAt}
+use Rattle.model.specs.Nav.{isText}
+use Rattle.model.specs.Value.{textAtom}
+use Rattle.text.proofs.Words.{text-tree}
+use Rattle.uuids.proofs.Decoded.{fitted, over}
+use Rattle.element_atoms.specs.Atoms.{TextReads}
+use Rattle.element_atoms.proofs.Reading.{string-str, blank-is}
+use borrow.Author.Needs.{needs}
+use Rattle.element_atoms.proofs.text_at.Statement.{statement}
+use Rattle.element_atoms.proofs.text_at.Tie as tie
+
+clear-requires : tie.Need-clear-requires
+clear-requires c κs = search needs
+
+kind-at-requires : tie.Need-kind-at-requires
+kind-at-requires c κs = search needs
+
+is-kind-requires : tie.Need-is-kind-requires
+is-kind-requires c κs = search needs
+
+spaces-requires : tie.Need-spaces-requires
+spaces-requires c κs = search needs
+
+add-decode : tie.Need-add-decode
+add-decode c =
+    let a = c .before .before .before .before .before .before .before .args in
+    let t = ap isText (sym (c .before .before .before .kind-at .ensures)) ∙ sym (c .before .before .is-kind .ensures) ∙ c .before .if1 .taken in
+    omega (arith, c .spaces .ensures, text-tree (a .text .now) (a .at) t .0)
+
+slice-aggregate-decode : tie.Need-slice-aggregate-decode
+slice-aggregate-decode c = search needs
+
+decode-requires : tie.Need-decode-requires
+decode-requires c κs = search needs
+
+enum-known-w : tie.Need-enum-known-w
+enum-known-w c = search needs
+
+array-share-prefix-buf : tie.Need-array-share-prefix-buf
+array-share-prefix-buf c =
+    let f = fitted {before = replicate 24 0} (c .before .before .before .before .decode .ensures) (c .before .w .given .1) in
+    omega (arith, f .0, f .1)
+
+slice-aggregate-put-text : tie.Need-slice-aggregate-put-text
+slice-aggregate-put-text c =
+    let f = fitted {before = replicate 24 0} (c .before .before .before .before .before .decode .ensures) (c .before .before .w .given .1) in
+    f .0 ∙ sym (ap length (f .2))
+
+put-text-requires : tie.Need-put-text-requires
+put-text-requires c κs =
+    let f = fitted {before = replicate 24 0} (c .before .before .before .before .before .before .decode .ensures) (c .before .before .before .w .given .1) in
+    (search needs, omega (arith, ap length (f .2), f .1))
+
+returns : tie.Need-returns
+unfolding TextReads
+returns c =
+    let a = c .before .before .before .before .before .before .before .before .before .before .before .before .before .before .before .before .args in
+    let s = a .text .now in
+    let t = ap isText (sym (c .before .before .before .before .before .before .before .before .before .before .before .before .kind-at .ensures)) ∙ sym (c .before .before .before .before .before .before .before .before .before .before .before .is-kind .ensures) ∙ c .before .before .before .before .before .before .before .before .before .before .if1 .taken in
+    let f = fitted {before = replicate 24 0} (c .before .before .before .before .before .before .before .decode .ensures) (c .before .before .before .before .w .given .1) in
+    let q = ap (λ i. bodyAt s (i + 1) .tree) (c .before .before .before .before .before .before .before .before .before .spaces .ensures) ∙ sym (string-str (text-tree s (a .at) t .1)) in
+    (t, c .put-text .ensures ∙ ap textAtom (f .2 ∙ q), omega (arith, ap length q, f .1))
+
+enum-told : tie.Need-enum-told
+enum-told c = search needs
+
+returns-2 : tie.Need-returns-2
+unfolding TextReads
+returns-2 c =
+    let a = c .before .before .before .before .before .before .before .before .before .before .before .before .args in
+    let s = a .text .now in
+    let t = ap isText (sym (c .before .before .before .before .before .before .before .before .kind-at .ensures)) ∙ sym (c .before .before .before .before .before .before .before .is-kind .ensures) ∙ c .before .before .before .before .before .before .if1 .taken in
+    let g = over {before = replicate 24 0} (c .before .before .before .decode .ensures) (c .enum-told .given .1) in
+    let q = ap (λ i. bodyAt s (i + 1) .tree) (c .before .before .before .before .before .spaces .ensures) ∙ sym (string-str (text-tree s (a .at) t .1)) in
+    let k = c .before .before .before .before .before .before .before .before .before in
+    (t, omega (arith, ap length q, g), blank-is (a .out .now) (search needs) (k .clear .ensures))
+
+returns-3 : tie.Need-returns-3
+unfolding TextReads
+returns-3 c =
+    let a = c .before .before .before .before .before .before .args in
+    (ap isText (sym (c .before .before .kind-at .ensures)) ∙ sym (c .before .is-kind .ensures) ∙ c .if1 .left, blank-is (a .out .now) (search needs) (c .before .before .before .clear .ensures))
+
+pub text-at-spec : {M : Type 1} → statement M
+text-at-spec =
+    tie.close
+    (tie.spec
+    clear-requires
+    kind-at-requires
+    is-kind-requires
+    spaces-requires
+    add-decode
+    slice-aggregate-decode
+    decode-requires
+    enum-known-w
+    array-share-prefix-buf
+    slice-aggregate-put-text
+    put-text-requires
+    returns
+    enum-told
+    returns-2
+    returns-3)

@@ -1,0 +1,4 @@
+pub mod Atoms
+pub mod Marking
+pub mod Picking
+pub mod Meeting

@@ -1,0 +1,90 @@
+-- `marks::holds` meets its contract. Assumes nothing.
+use mathlib.Core.Path.{_≡_, refl, sym, ap, subst, _∙_}
+use mathlib.Core.List.{[], _∷_}
+use Prim.Native.Nat.{min}
+use native.Mathlib.Omega.{arith}
+use Rattle.model.specs.Octets.{value}
+use Rattle.model.specs.Value.{uuidAtom}
+use Rattle.inner.specs.Working.{idIn, valueIn}
+use Rattle.marks.specs.Marks.{met, InRow, atomsAt}
+use Rattle.marks.proofs.Atoms.{elements-min}
+use borrow.Author.Needs.{needs}
+use Rattle.marks.proofs.holds.Statement.{statement}
+use Rattle.marks.proofs.holds.Tie as tie
+
+enum-known-place : tie.Need-enum-known-place
+enum-known-place c = search needs
+
+atoms-in-requires : tie.Need-atoms-in-requires
+unfolding InRow
+atoms-in-requires c κs =
+    let p = c .before in
+    subst InRow (p .place .given .1) (p .before .before .pre)
+
+count-of-requires : tie.Need-count-of-requires
+unfolding InRow
+count-of-requires c κs =
+    let p = c .before .before in
+    subst InRow (p .place .given .1) (p .before .before .pre)
+
+size-requires : tie.Need-size-requires
+size-requires c κs = search needs
+
+slice-aggregate-compare : tie.Need-slice-aggregate-compare
+slice-aggregate-compare c =
+    let s = c .before in
+    let p = s .before .before .before .before in
+    elements-min (valueIn (p .place .given .0 .0) (p .before .before .args .row .now)) (s .before .before .atoms-in .ensures .0) (s .before .before .atoms-in .ensures .1) (s .size .ensures ∙ ap (λ x. min x 4) (s .before .count-of .ensures)) .1
+
+compare-requires : tie.Need-compare-requires
+compare-requires c κs = search needs
+
+enum-told : tie.Need-enum-told
+enum-told c = search needs
+
+id-of-requires : tie.Need-id-of-requires
+id-of-requires c κs = search needs
+
+atom-of-requires : tie.Need-atom-of-requires
+atom-of-requires c κs = search needs
+
+slice-aggregate-compare-2 : tie.Need-slice-aggregate-compare-2
+slice-aggregate-compare-2 c = search needs
+
+compare-requires-2 : tie.Need-compare-requires-2
+compare-requires-2 c κs = search needs
+
+returns : tie.Need-returns
+unfolding atomsAt
+returns c =
+    let s = c .before .before in
+    let p = s .before .before .before .before in
+    let a = p .before .before .args in
+    c .compare .ensures ∙ ap (λ xs. met (a .f) xs (a .l .now)) (elements-min (valueIn (p .place .given .0 .0) (a .row .now)) (s .before .before .atoms-in .ensures .0) (s .before .before .atoms-in .ensures .1) (s .size .ensures ∙ ap (λ x. min x 4) (s .before .count-of .ensures)) .0) ∙ ap (λ q. met (a .f) (atomsAt q (a .row .now)) (a .l .now)) (sym (p .place .given .1))
+
+returns-2 : tie.Need-returns-2
+unfolding atomsAt idIn
+returns-2 c =
+    let x = c .before .before in
+    let i = x .before in
+    let p = i .before in
+    let a = p .before .before .args in
+    c .compare2 .ensures ∙ ap (λ y. met (a .f) (y ∷ []) (a .l .now)) (x .atom-of .ensures ∙ ap (λ b. uuidAtom (value b)) (i .id-of .ensures .bytes)) ∙ ap (λ q. met (a .f) (atomsAt q (a .row .now)) (a .l .now)) (sym (p .enum-told .given .1))
+
+pub holds-spec : {M : Type 1} → statement M
+holds-spec =
+    tie.close
+    (tie.spec
+    enum-known-place
+    atoms-in-requires
+    count-of-requires
+    size-requires
+    slice-aggregate-compare
+    compare-requires
+    enum-told
+    id-of-requires
+    atom-of-requires
+    slice-aggregate-compare-2
+    compare-requires-2
+    returns
+    returns-2)

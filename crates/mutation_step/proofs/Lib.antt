@@ -1,4 +1,0 @@
-pub mod Calculating
-pub mod Uniting
-pub mod Deleting
-pub mod Stepping

@@ -1,0 +1,4 @@
+pub mod Nulls
+pub mod Results
+pub mod Next
+pub mod Going

@@ -1,0 +1,67 @@
+-- `request_values::weigh` meets its contract. Assumes nothing.
+use Prim.Native.Nat.{ℕ}
+use mathlib.Core.Path.{ap, _∙_}
+use Rattle.model.specs.Base.{distinct}
+use Rattle.inner.specs.Positions.{treeAt}
+use Rattle.model.specs.Catalog.{baseNumbered, columnFrom}
+use Rattle.elements.specs.Elements.{elementsFrom}
+use Rattle.uuids.specs.Named.{namesAt}
+use Rattle.element_atoms.specs.Atoms.{atomsOf}
+use Rattle.request_values.proofs.Judging.{weighed, taken-length, taken-distinct}
+use borrow.Author.Needs.{needs}
+use Rattle.request_values.proofs.weigh.Statement.{statement}
+use Rattle.request_values.proofs.weigh.Tie as tie
+
+elements-at-requires : tie.Need-elements-at-requires
+elements-at-requires c κs = search needs
+
+tally-from-requires : tie.Need-tally-from-requires
+tally-from-requires c κs = search needs
+
+slice-aggregate-distinct : tie.Need-slice-aggregate-distinct
+slice-aggregate-distinct c =
+    let a = c .before .before .before .before .before .before .before .before .before .before .before .args in
+    let e = c .before .before .before .before .before .before .before .elements-at .result in
+    taken-length (namesAt (a .text .now) (a .names .now)) (columnFrom (a .column .now)) (elementsFrom (a .text .now) (e .set) (e .first)) (c .before .before .before .before .before .tally-from .ensures) (c .before .before .before .if1 .taken)
+
+distinct-requires : tie.Need-distinct-requires
+distinct-requires c κs = search needs
+
+returns : tie.Need-returns
+returns c =
+    let a = c .before .before .before .before .before .before .before .before .before .before .before .before .args in
+    let s = a .text .now in
+    let n = namesAt s (a .names .now) in
+    let z = columnFrom (a .column .now) in
+    let e = c .before .before .before .before .before .before .before .before .elements-at in
+    let t = c .before .before .before .before .before .before .tally-from .ensures in
+    weighed n z s (e .result .set) (e .result .first) (treeAt s (a .at)) (e .ensures) t (c .distinct .ensures ∙ taken-distinct n z (elementsFrom s (e .result .set) (e .result .first)) t (c .before .before .before .before .if1 .taken))
+
+kind-requires : tie.Need-kind-requires
+kind-requires c κs = search needs
+
+distinct-from-requires : tie.Need-distinct-from-requires
+distinct-from-requires c κs = search needs
+
+returns-2 : tie.Need-returns-2
+returns-2 c =
+    let a = c .before .before .before .before .before .before .before .before .before .before .args in
+    let s = a .text .now in
+    let n = namesAt s (a .names .now) in
+    let z = columnFrom (a .column .now) in
+    let e = c .before .before .before .before .before .before .elements-at in
+    let same = ap (λ (k : ℕ). distinct (atomsOf n (baseNumbered k) (elementsFrom s (e .result .set) (e .result .first)))) (c .before .kind .ensures) in
+    weighed n z s (e .result .set) (e .result .first) (treeAt s (a .at)) (e .ensures) (c .before .before .before .before .tally-from .ensures) (c .distinct-from .ensures ∙ same)
+
+pub weigh-spec : {M : Type 1} → statement M
+weigh-spec =
+    tie.close
+    (tie.spec
+    elements-at-requires
+    tally-from-requires
+    slice-aggregate-distinct
+    distinct-requires
+    returns
+    kind-requires
+    distinct-from-requires
+    returns-2)

@@ -1,0 +1,49 @@
+-- `row_types::in_limits` meets its contract. Assumes nothing.
+use mathlib.Core.Path.{ap, _∙_}
+use mathlib.Core.Bool.{not, _&&_}
+use lib.Signed.{ltZ}
+use Rattle.model.specs.Value.{intOf, fromTwos}
+use Rattle.row_types.proofs.Laws.{not-below}
+use borrow.Author.Needs.{needs}
+use Rattle.row_types.proofs.in_limits.Statement.{statement}
+use Rattle.row_types.proofs.in_limits.Tie as tie
+
+low-requires : tie.Need-low-requires
+low-requires c κs = search needs
+
+integer-requires : tie.Need-integer-requires
+integer-requires c κs = search needs
+
+high-requires : tie.Need-high-requires
+high-requires c κs = search needs
+
+integer-requires-2 : tie.Need-integer-requires-2
+integer-requires-2 c κs = search needs
+
+less-integers-requires : tie.Need-less-integers-requires
+less-integers-requires c κs = search needs
+
+less-integers-requires-2 : tie.Need-less-integers-requires-2
+less-integers-requires-2 c κs = search needs
+
+returns : tie.Need-returns
+returns c =
+    let s = c .before .before .before .before .before .before .before .before in
+    let z = intOf (s .args .a .now) in
+    let low = c .before .before .before .before .before .before .integer .ensures ∙ ap fromTwos (c .before .before .before .before .before .before .before .low .ensures) in
+    let high = c .before .before .before .before .integer2 .ensures ∙ ap fromTwos (c .before .before .before .before .before .high .ensures) in
+    let x = ap not (c .before .before .less-integers .ensures) ∙ (λ j. not (ltZ z (low j))) ∙ not-below z _ in
+    let y = ap not (c .less-integers2 .ensures) ∙ (λ j. not (ltZ (high j) z)) ∙ not-below _ z in
+    λ j. x j && y j
+
+pub in-limits-spec : {M : Type 1} → statement M
+in-limits-spec =
+    tie.close
+    (tie.spec
+    low-requires
+    integer-requires
+    high-requires
+    integer-requires-2
+    less-integers-requires
+    less-integers-requires-2
+    returns)

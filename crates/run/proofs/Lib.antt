@@ -1,3 +1,0 @@
-pub mod Nulls
-pub mod Turns
-pub mod Going

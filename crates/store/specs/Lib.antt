@@ -1,0 +1,2 @@
+pub mod GoodOrder
+pub mod Replying

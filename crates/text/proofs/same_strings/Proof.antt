@@ -1,0 +1,80 @@
+-- `text::same_strings` meets its contract. Assumes nothing.
+use mathlib.Core.Path.{sym, ap, subst, _∙_}
+use Rattle.model.specs.Octets.{eqBytes}
+use Rattle.model.specs.Text.{isWord}
+use Rattle.inner.specs.Positions.{treeAt, wordIn}
+use Rattle.text.specs.Steps.{bodyFrom, Begins}
+use Rattle.text.proofs.Stepping.{word-begins, word-none, same-begins, same-none}
+use borrow.Author.Needs.{needs}
+use Rattle.text.proofs.same_strings.Statement.{statement}
+use Rattle.text.proofs.same_strings.Tie as tie
+
+body-at-requires : tie.Need-body-at-requires
+body-at-requires c κs = search needs
+
+body-at-requires-2 : tie.Need-body-at-requires-2
+body-at-requires-2 c κs = search needs
+
+enum-known-f : tie.Need-enum-known-f
+enum-known-f c = search needs
+
+enum-known-g : tie.Need-enum-known-g
+enum-known-g c = search needs
+
+same-bodies-requires : tie.Need-same-bodies-requires
+same-bodies-requires c κs = search needs
+
+enum-told : tie.Need-enum-told
+enum-told c = search needs
+
+enum-told-2 : tie.Need-enum-told-2
+enum-told-2 c = search needs
+
+slice-aggregate-is-word : tie.Need-slice-aggregate-is-word
+slice-aggregate-is-word c = search needs
+
+is-word-requires : tie.Need-is-word-requires
+is-word-requires c κs = search needs
+
+returns : tie.Need-returns
+returns c =
+    let y = c .before .before .before .before .before .before .before in
+    let a = y .before .before .before .args in
+    let s = a .text .now in
+    let j = treeAt s (a .p) in
+    let k = treeAt s (a .q) in
+    let w = word-begins s j _ (subst (Begins s j) (c .before .before .before .before .before .f .given .1) (y .before .body-at .ensures)) in
+    c .same-bodies .ensures ∙ ap (eqBytes (bodyFrom s _)) (sym w) ∙ sym (same-begins s (wordIn j) k _ (subst (Begins s k) (c .before .before .g .given .1) (y .body-at2 .ensures)))
+
+returns-2 : tie.Need-returns-2
+returns-2 c =
+    let y = c .before .before .before .before .before in
+    let a = y .before .before .before .args in
+    let s = a .text .now in
+    let k = treeAt s (a .q) in
+    sym (same-none s (wordIn (treeAt s (a .p))) k (subst (Begins s k) (c .enum-told .given .1) (y .body-at2 .ensures)))
+
+returns-3 : tie.Need-returns-3
+returns-3 c =
+    let y = c .before .before .before .before in
+    let a = y .before .before .before .args in
+    let s = a .text .now in
+    let j = treeAt s (a .p) in
+    c .is-word .ensures ∙ ap (λ w. isWord w (treeAt s (a .q))) (sym (word-none s j (subst (Begins s j) (c .before .before .enum-told2 .given .1) (y .before .body-at .ensures))))
+
+pub same-strings-spec : {M : Type 1} → statement M
+same-strings-spec =
+    tie.close
+    (tie.spec
+    body-at-requires
+    body-at-requires-2
+    enum-known-f
+    enum-known-g
+    same-bodies-requires
+    enum-told
+    enum-told-2
+    slice-aggregate-is-word
+    is-word-requires
+    returns
+    returns-2
+    returns-3)
