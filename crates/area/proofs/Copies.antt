@@ -6,7 +6,7 @@ use native.Mathlib.Nat.{add-comm, mul-suc, mul-zero}
 use native.Mathlib.Numerals.{add-one}
 use native.Mathlib.Omega.{arith}
 use lib.ListN.{length, take, drop, getD, set, length-drop, drop-of-length-le}
-use lib.Seq.{drop-cons, drop-drop, take-add, take-suc, take-all, take-at, set-at, length-take-le, getD-take, getD-drop}
+use lib.Seq.{drop-cons, drop-drop, take-add, take-suc, take-all, set-at, length-take-le, getD-take, getD-drop}
 use Rattle.model.specs.Octets.{part, chunks}
 use Rattle.model.specs.Base.{flat}
 use Rattle.model.specs.Records.{cut}
@@ -107,10 +107,6 @@ module _ (a : List ℕ) (i : ℕ) where
   pub rows-are : (n : ℕ) → i < n → getD (rowsAt n a) i [] ≡ rowAt a i
   unfolding rowAt
   rows-are n h = row-from a rowsOffset n i h
-
--- the front of a list that is filled beyond it
-pub take-copied : {A : Type 0} (out src : List A) (n : ℕ) → length src ≡ n → take n (src ++ drop n out) ≡ src
-take-copied out src n h = take-at src (drop n out) n h
 
 -- ── written cell by cell ──
 flat-append : (l m : List (List ℕ)) → flat (l ++ m) ≡ flat l ++ flat m

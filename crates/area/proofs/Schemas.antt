@@ -1,14 +1,14 @@
 -- Tables and columns in the cells of a schema, and the tests of a row by them. Assumes nothing.
 use mathlib.Core.Path.{_≡_, refl, sym, ap, _∙_}
 use mathlib.Core.Bool.{Bool, true, false, not, _&&_}
-use mathlib.Core.List.{List, [], _∷_, map}
+use mathlib.Core.List.{List, [], _∷_, _++_, map}
 use Prim.Native.Nat.{ℕ, zero, suc, _+_, _-_, _*_, _^_, _≤_, _<_}
 use native.Mathlib.Numerals.{add-one}
 use native.Mathlib.Omega.{arith}
-use borrow.Author.Tests.{lt-ltb, le-ltb, lt-leb, le-leb}
+use borrow.Author.Tests.{lt-ltb, le-ltb, lt-leb, le-leb, leb-true}
 use lib.Dec.{eqb, ltb, leb}
 use lib.ListN.{length, getD, take, drop, length-map, drop-of-length-le}
-use lib.Seq.{drop-cons, drop-drop, getD-drop, take-all}
+use lib.Seq.{drop-cons, drop-drop, getD-drop, take-all, take-at}
 use Rattle.model.specs.Limits.{rowsOffset}
 use Rattle.model.specs.Base.{all}
 use Rattle.model.specs.Schema.{Column, Schema, columnsOf}
@@ -20,8 +20,9 @@ use Rattle.inner.specs.Working.{working, tableIn, idIn, valueIn, Ordered}
 use Rattle.inner.proofs.Ordering.{sorted-ordered}
 use Rattle.model.proofs.Tests.{clash, and-l, and-r}
 use Rattle.model.proofs.GoodOrder.{ascends-sorted}
+use Rattle.area.proofs.Copies.{rows-length}
 use Rattle.area.proofs.Walks.{and-true}
-use Rattle.area.specs.Layout.{rowsIn, tidyFrom, canonicalFrom, rowGood, rowsGood, rowCount, restZero, partGood, Judged}
+use Rattle.area.specs.Layout.{rowsIn, tidyFrom, canonicalFrom, rowGood, rowsGood, rowCount, restZero, partGood, rowsAt, rowsRead, PartRead}
 use Rattle.catalog.specs.Entries.{columnsAt}
 
 pub tables-count : (cells : List (List ℕ)) (t n : ℕ) → length (tablesFrom cells t n) ≡ n
@@ -172,11 +173,11 @@ module _ (schema : List (List ℕ)) (a : List ℕ) where
   abbrev rows-test : Bool
   rows-test = rowsGood schema (rowCount a) (rowsIn (rowCount a) (drop rowsOffset a))
 
-  pub part-many : 32 < rowCount a → partGood schema a ≡ false
+  part-many : 32 < rowCount a → partGood schema a ≡ false
   unfolding partGood
   part-many h = ap (λ (b : Bool). b && (restZero a && rows-test)) (lt-leb (rowCount a) 32 h)
 
-  pub part-rest : restZero a ≡ false → partGood schema a ≡ false
+  part-rest : restZero a ≡ false → partGood schema a ≡ false
   unfolding partGood
   part-rest h = ap (λ (b : Bool). leb (rowCount a) 32 && (b && rows-test)) h ∙ and-false (leb (rowCount a) 32)
 
@@ -184,5 +185,26 @@ module _ (schema : List (List ℕ)) (a : List ℕ) where
   unfolding partGood
   part-rows g z = λ j. le-leb (rowCount a) 32 g j && (z j && rows-test)
 
-  pub judged-no : (cells : List (List (List ℕ))) → partGood schema a ≡ false → Judged a schema cells false
-  judged-no cells e = record { good = sym e; rows = λ q. absurd (clash false q refl); ordered = λ q. absurd (clash false q refl) }
+  module _ (before : List (List (List ℕ))) where
+    -- what is read where a test fails, and where none does
+    pub read-many : 32 < rowCount a → PartRead a schema before before false
+    unfolding rowsRead
+    read-many h = record { good = sym (part-many h); rows = rw (lt-leb (rowCount a) 32 h); ordered = λ q. absurd (clash false q refl) }
+
+    pub read-rest : rowCount a ≤ 32 → restZero a ≡ false → PartRead a schema before before false
+    unfolding rowsRead
+    read-rest g z = record { good = sym (part-rest z); rows = rw (le-leb (rowCount a) 32 g, z); ordered = λ q. absurd (clash false q refl) }
+
+    pub read-all : rowCount a ≤ 32 → restZero a ≡ true → rowsRead a before ≡ rowsAt (rowCount a) a ++ drop (rowCount a) before
+    unfolding rowsRead
+    read-all g z = rw (le-leb (rowCount a) 32 g, z)
+
+    -- the rows of a part in good order stand in front
+    pub read-front : {after : List (List (List ℕ))} {r : Bool} → PartRead a schema before after r → r ≡ true → take (rowCount a) after ≡ rowsAt (rowCount a) a
+    unfolding partGood
+    read-front p e =
+        let n = rowCount a in
+        let few = leb n 32 in
+        let h : (few && (restZero a && rows-test)) ≡ true = sym (p .good) ∙ e in
+        ap (take n) (p .rows ∙ read-all (leb-true n 32 (and-l few (restZero a && rows-test) h)) (and-l (restZero a) rows-test (and-r few (restZero a && rows-test) h)))
+        ∙ take-at (rowsAt n a) (drop n before) n (rows-length n (drop rowsOffset a))

@@ -1,7 +1,7 @@
 -- An area's rows as cells, and the tests of what an area leaves unused. Assumes nothing: these are definitions.
 use Prim.Native.Nat.{ℕ, zero, suc, _+_, _-_, _*_, _≤_, _<_}
 use mathlib.Core.Path.{_≡_}
-use mathlib.Core.Bool.{Bool, true, _&&_}
+use mathlib.Core.Bool.{Bool, true, cond, _&&_}
 use mathlib.Core.List.{List, [], _∷_, _++_, map}
 use lib.Dec.{leb}
 use lib.ListN.{length, getD, take, drop}
@@ -68,7 +68,12 @@ restZero a = zeros (part (rowsOffset + rowBytes * rowCount a) (rowBytes * (mostR
 unfoldable pub partGood : List (List ℕ) → List ℕ → Bool
 partGood schema a = leb (rowCount a) mostRows && (restZero a && rowsGood schema (rowCount a) (rowsAt (rowCount a) a))
 
-pub record Judged (a : List ℕ) (schema : List (List ℕ)) (cells : List (List (List ℕ))) (r : Bool) : Type 0 where
+-- its rows in front of what was there; nothing is read where there are too many of them, or bytes behind them that are not zero
+unfoldable pub rowsRead : List ℕ → List (List (List ℕ)) → List (List (List ℕ))
+rowsRead a before = cond (leb (rowCount a) mostRows && restZero a) (rowsAt (rowCount a) a ++ drop (rowCount a) before) before
+
+-- whether its rows are in good order, and the working rows after it
+pub record PartRead (a : List ℕ) (schema : List (List ℕ)) (before after : List (List (List ℕ))) (r : Bool) : Type 0 where
   pub good : r ≡ partGood schema a
-  pub rows : r ≡ true → take (rowCount a) cells ≡ rowsAt (rowCount a) a
-  pub ordered : r ≡ true → Ordered (rowCount a) cells
+  pub rows : after ≡ rowsRead a before
+  pub ordered : r ≡ true → Ordered (rowCount a) after

@@ -39,7 +39,7 @@ ghost use Rattle.model.specs.Areas.{ascends, distinctIds, encodeStore, entriesI
 ghost use Rattle.inner.specs.Working.{working, idIn, valueIn, Tidy};
 ghost use Rattle.catalog.specs.Accepted.{Accepted};
 ghost use Rattle.rows.specs.Post.{KeyBytes};
-ghost use Rattle.area.specs.Layout.{rowsIn, rowAt, Rows, tidyFrom, canonicalFrom, rowGood, rowsGood, Judged};
+ghost use Rattle.area.specs.Layout.{rowsIn, rowAt, Rows, tidyFrom, canonicalFrom, rowGood, rowsGood, PartRead};
 ghost use Rattle.area.specs.Writing.{tailGood, tailBytes, placed, rowsPart, storeIn};
 
 // A cell in an area.
@@ -71,10 +71,10 @@ fn row_at(area: &[u8], at: usize) -> Row
     row
 }
 
-// The rows of an area, read from a place on.
+// The rows of an area, read from a place on into the first n rows; the others stay.
 pub fn read_rows(area: &[u8], at: usize, rows: &mut [Row], n: usize)
     requires { ⌜ (at + rowBytes * n ≤ length (now area)) × (n ≤ length (now rows)) ⌝ }
-    ensures { λ _. ⌜ take n (now (rows .exit)) ≡ rowsIn n (drop at (now (area .entry))) ⌝ }
+    ensures { λ _. ⌜ now (rows .exit) ≡ rowsIn n (drop at (now (area .entry))) ++ drop n (now (rows .entry)) ⌝ }
 {
     let mut i = 0;
     while i < n {
@@ -352,11 +352,11 @@ pub fn catalog_of(area: &[u8]) -> Catalog
     catalog
 }
 
-// Whether the rows of the part of an area that stores and mirrors share are in good order, by its catalog. They are read on the way.
+// Whether the rows of the part of an area that stores and mirrors share are in good order, by its catalog. They are read on the way, unless there are too many of them or the rest is not zero.
 pub fn part_good(area: &[u8], schema: &Catalog, rows: &mut [Row]) -> bool
     requires { ⌜ Accepted (now schema) ⌝ }
     requires { ⌜ (storeBytes ≤ length (now area)) × (mostRows ≤ length (now rows)) ⌝ }
-    ensures { λ r. ⌜ Judged (now (area .entry)) (now (schema .entry)) (now (rows .exit)) r ⌝ }
+    ensures { λ r. ⌜ PartRead (now (area .entry)) (now (schema .entry)) (now (rows .entry)) (now (rows .exit)) r ⌝ }
 {
     let n = row_count(area);
     if ROWS < n {

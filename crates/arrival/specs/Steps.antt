@@ -1,19 +1,21 @@
 -- What an arrival asks of working rows, and what it leaves (document 01, "What a mirror doesn't refuse it has heard .."). Assumes nothing: these are definitions.
 use mathlib.Core.Path.{_≡_}
-use mathlib.Core.Bool.{Bool, true, false}
+use mathlib.Core.Bool.{Bool, true, false, not, _&&_}
 use mathlib.Core.List.{List, []}
 use mathlib.Core.Option.{Option, none, some}
 use Prim.Native.Nat.{ℕ, _+_, _≤_, max}
+use lib.Dec.{eqb, leb}
 use lib.ListN.{length, take}
-use Rattle.model.specs.Base.{nth}
-use Rattle.model.specs.Limits.{mostRows, entryCount}
+use Rattle.model.specs.Base.{if_then_else_, nth}
+use Rattle.model.specs.Limits.{mostRows}
 use Rattle.model.specs.Schema.{Schema}
 use Rattle.model.specs.Rows.{Row}
-use Rattle.model.specs.Records.{act, fits, sound, isEnd, Record, numbered, mark}
+use Rattle.model.specs.Records.{Change, act, fits, sound, isEnd, Record, numbered, mark}
 use Rattle.model.specs.Mirror.{Mirror, Step, bad, step, level, valueAnswer, columnAnswer}
 use Rattle.model.specs.Areas.{rowFrom}
 use Rattle.model.proofs.Order.{Good}
 use Rattle.model.specs.Catalog.{packedTables}
+use Rattle.model.specs.declared.Status.the-variants.{OtherRun, Repeat, Behind, Heard}
 use Rattle.inner.specs.Working.{working, Tidy, Ordered}
 use Rattle.record.specs.Reading.{canonicalIn}
 use Rattle.arrival.specs.declared.Head.{Head}
@@ -69,6 +71,18 @@ hearsOf m k = record { n = m .n; top = max (m .top) k; heard = true; whole = m .
 unfoldable pub appliesOf : Numbers → ℕ → Bool → Numbers
 appliesOf m k ends = record { n = k; top = max (m .top) k; heard = true; whole = ends }
 
+-- "record n+1", of the mirror's run
+unfoldable pub isNext : ℕ → Numbers → Head → Bool
+isNext run m h = eqb (h .run) run && (not (h .marks) && eqb (h .number) (m .n + 1))
+
+-- what another record that is not refused by 8 leaves: refusal 9, "heard to a mark", "repeat to a record numbered n or less (nothing changes), behind to one above n+1"
+unfoldable pub heardOf : ℕ → Numbers → Head → ℕ → Outcome
+heardOf run m h count =
+    if not (eqb (h .run) run) then record { status = OtherRun; numbers = m; count = count }
+    else if h .marks then record { status = Heard; numbers = hearsOf m (h .number); count = count }
+    else if leb (h .number) (m .n) then record { status = Repeat; numbers = m; count = count }
+    else record { status = Behind; numbers = hearsOf m (h .number); count = count }
+
 unfoldable pub stepOf : Schema → ℕ → Mirror → List ℕ → Step
 stepOf s run m x = step s run m x
 
@@ -100,9 +114,13 @@ pub record Left (s : Schema) (rows : List Row) (count : ℕ) (entry : List (List
   pub few : left ≤ mostRows
   pub tidy : Good s (working s count entry) → Tidy s (take count entry) → Tidy s (take left exit)
 
+-- the same of a change: what it makes of the first rows
+abbrev pub Acted : Schema → Change → ℕ → List (List (List ℕ)) → ℕ → List (List (List ℕ)) → Type 0
+Acted s e count entry left exit = Left s (act s e (working s count entry)) count entry left exit
+
 -- an arrival: the answer and the mirror are the model's
 pub record Stepped (schema : List (List ℕ)) (run : ℕ) (m : Numbers) (bytes : List ℕ) (count : ℕ) (entry exit : List (List (List ℕ))) (r : Outcome) : Type 0 where
-  pub answer : r .answer ≡ stepOf (packedTables schema) run (mirrorOf m (working (packedTables schema) count entry)) bytes .answer
+  pub status : r .status ≡ stepOf (packedTables schema) run (mirrorOf m (working (packedTables schema) count entry)) bytes .status
   pub next : mirrorOf (r .numbers) (working (packedTables schema) (r .count) exit) ≡ stepOf (packedTables schema) run (mirrorOf m (working (packedTables schema) count entry)) bytes .next
   pub few : r .count ≤ mostRows
   pub tidy : Good (packedTables schema) (working (packedTables schema) count entry) → Tidy (packedTables schema) (take count entry) → Tidy (packedTables schema) (take (r .count) exit)

@@ -1,5 +1,4 @@
 // An arrival at a mirror, on working rows: whether it is refused, what it does to the rows, and what the mirror's numbers are then; and what a mirror tells of itself.
-use model::Answer;
 use model::Atom;
 use model::Atoms;
 use model::Catalog;
@@ -9,6 +8,7 @@ use model::ID;
 use model::ROW_RECORD;
 use model::ROWS;
 use model::Row;
+use model::Status;
 use model::TABLES;
 use record::Arrival;
 use record::ID_AT;
@@ -22,13 +22,13 @@ ghost use Rattle.model.specs.Octets.{value};
 ghost use Rattle.model.specs.Schema.{Schema, columnsOf};
 ghost use Rattle.model.specs.Value.{canonicalFor};
 ghost use Rattle.model.specs.Rows.{Row, keyOf, has};
-ghost use Rattle.model.specs.Records.{act, known, born, gone, column, valueBytes};
+ghost use Rattle.model.specs.Records.{known, born, gone, column, valueBytes};
 ghost use Rattle.model.specs.Catalog.{columnFrom, packedTables, tableCount};
 ghost use Rattle.inner.specs.Working.{working, valueIn};
 ghost use Rattle.record.specs.Reading.{idIn, arrivalRecord, columnCounts, listedRecord};
 ghost use Rattle.record.specs.Reading.{Sized as Long};
 ghost use Rattle.catalog.specs.Accepted.{Accepted};
-ghost use Rattle.arrival.specs.Steps.{headOf, canonicalRecord, soundRecord, fitsRecord, badRecord, actRecord, levelOf, columnIn, columnOf, hearsOf, appliesOf, Ready, Welcome, Left, Stepped};
+ghost use Rattle.arrival.specs.Steps.{headOf, canonicalRecord, soundRecord, fitsRecord, badRecord, actRecord, levelOf, columnIn, columnOf, hearsOf, appliesOf, isNext, heardOf, Ready, Welcome, Left, Acted, Stepped};
 
 // A mirror's numbers: n, the highest heard, whether anything was heard, whether n is 0 or ends a commit.
 pub struct Numbers {
@@ -40,7 +40,7 @@ pub struct Numbers {
 
 // What an arrival leaves beside the rows: the answer, the mirror's numbers, and how many rows there are.
 pub struct Outcome {
-    pub answer: Answer,
+    pub status: Status,
     pub numbers: Numbers,
     pub count: usize,
 }
@@ -53,47 +53,34 @@ pub struct Head {
     pub ends: bool,
 }
 
+// What a change carries.
+fn head_with(run: u32, number: u32, ends: bool) -> Head
+    ensures { λ r. ⌜ r ≡ record { run = run; number = number; marks = false; ends = ends } ⌝ }
+{
+    Head {
+        run,
+        number,
+        marks: false,
+        ends,
+    }
+}
+
 // What a record carries.
 fn head_of(arrival: Arrival) -> Head
     ensures { λ r. ⌜ ((bytes : List ℕ) → r ≡ headOf (arrivalRecord arrival bytes)) ⌝ }
 {
     match arrival {
-        Arrival::Born(r) => Head {
-            run: r.run,
-            number: r.number,
-            marks: false,
-            ends: false,
-        },
-        Arrival::Gone(r) => Head {
-            run: r.run,
-            number: r.number,
-            marks: false,
-            ends: false,
-        },
-        Arrival::Column(r) => Head {
-            run: r.run,
-            number: r.number,
-            marks: false,
-            ends: false,
-        },
-        Arrival::End(r) => Head {
-            run: r.run,
-            number: r.number,
-            marks: false,
-            ends: true,
-        },
+        Arrival::Born(r) => head_with(r.run, r.number, false),
+        Arrival::Gone(r) => head_with(r.run, r.number, false),
+        Arrival::Column(r) => head_with(r.run, r.number, false),
+        Arrival::End(r) => head_with(r.run, r.number, true),
         Arrival::Mark(r) => Head {
             run: r.run,
             number: r.last,
             marks: true,
             ends: false,
         },
-        Arrival::Bad => Head {
-            run: 0,
-            number: 0,
-            marks: false,
-            ends: false,
-        },
+        Arrival::Bad => head_with(0, 0, false),
     }
 }
 
@@ -275,7 +262,7 @@ fn born(schema: &Catalog, rows: &mut [Row], count: usize, table: u8, id: &[u8; I
     requires { ⌜ Accepted (now schema) ⌝ }
     requires { ⌜ (count < mostRows) × (mostRows ≤ length (now rows)) ⌝ }
     requires { ⌜ known (packedTables (now schema)) table (value (now id)) ≡ true ⌝ }
-    ensures { λ _. ⌜ Left (packedTables (now (schema .entry))) (act (packedTables (now (schema .entry))) (born table (value (now (id .entry)))) (working (packedTables (now (schema .entry))) count (now (rows .entry)))) count (now (rows .entry)) (count + 1) (now (rows .exit)) ⌝ }
+    ensures { λ _. ⌜ Acted (packedTables (now (schema .entry))) (born table (value (now (id .entry)))) count (now (rows .entry)) (count + 1) (now (rows .exit)) ⌝ }
 {
     let mins = catalog::minimums_of(catalog::columns_of(schema, leaf::wide(table)));
     let row = rows::new_row(table, id, &mins);
@@ -285,7 +272,7 @@ fn born(schema: &Catalog, rows: &mut [Row], count: usize, table: u8, id: &[u8; I
 // A row taken away.
 fn gone(rows: &mut [Row], count: usize, table: u8, id: &[u8; ID])
     requires { ⌜ Ready count (now rows) ⌝ }
-    ensures { λ _. ⌜ ((s : Schema) → has (keyOf table (value (now (id .entry)))) (working s count (now (rows .entry))) ≡ true → Left s (act s (gone table (value (now (id .entry)))) (working s count (now (rows .entry)))) count (now (rows .entry)) (count - 1) (now (rows .exit))) ⌝ }
+    ensures { λ _. ⌜ ((s : Schema) → has (keyOf table (value (now (id .entry)))) (working s count (now (rows .entry))) ≡ true → Acted s (gone table (value (now (id .entry)))) count (now (rows .entry)) (count - 1) (now (rows .exit))) ⌝ }
 {
     let found = rows::find(rows, count, table, id);
     match found {
@@ -306,7 +293,7 @@ fn set(
 )
     requires { ⌜ Ready count (now rows) ⌝ }
     requires { ⌜ c < mostColumns ⌝ }
-    ensures { λ _. ⌜ ((s : Schema) → known s table (value (now (id .entry))) ≡ true → c < length (columnsOf s table) → length (columnsOf s table) ≤ mostColumns → Left s (act s (column table (value (now (id .entry))) c (record { count = elements; atoms = now (atoms .entry) })) (working s count (now (rows .entry)))) count (now (rows .entry)) count (now (rows .exit))) ⌝ }
+    ensures { λ _. ⌜ ((s : Schema) → known s table (value (now (id .entry))) ≡ true → c < length (columnsOf s table) → length (columnsOf s table) ≤ mostColumns → Acted s (column table (value (now (id .entry))) c (record { count = elements; atoms = now (atoms .entry) })) count (now (rows .entry)) count (now (rows .exit))) ⌝ }
 {
     let found = rows::find(rows, count, table, id);
     match found {
@@ -354,6 +341,45 @@ fn acts(schema: &Catalog, rows: &mut [Row], count: usize, arrival: Arrival, byte
     }
 }
 
+// Whether a record is the one after those that a mirror has applied, of its run.
+fn is_next(run: u32, m: Numbers, head: Head) -> bool
+    ensures { λ r. ⌜ r ≡ isNext run m head ⌝ }
+{
+    (head.run == run) & (!head.marks & (head.number as usize == m.n as usize + 1))
+}
+
+// What another record that is not refused for what it says leaves: rows stay as they are.
+fn heard(run: u32, m: Numbers, head: Head, count: usize) -> Outcome
+    ensures { λ r. ⌜ r ≡ heardOf run m head count ⌝ }
+{
+    if head.run != run {
+        return Outcome {
+            status: Status::OtherRun,
+            numbers: m,
+            count,
+        };
+    }
+    if head.marks {
+        return Outcome {
+            status: Status::Heard,
+            numbers: hears(m, head.number),
+            count,
+        };
+    }
+    if head.number <= m.n {
+        return Outcome {
+            status: Status::Repeat,
+            numbers: m,
+            count,
+        };
+    }
+    Outcome {
+        status: Status::Behind,
+        numbers: hears(m, head.number),
+        count,
+    }
+}
+
 // One arrival.
 pub fn step(
     schema: &Catalog,
@@ -372,47 +398,21 @@ pub fn step(
     let arrival = record::read(bytes);
     if bad(schema, rows, count, m.n, arrival, bytes) {
         return Outcome {
-            answer: Answer::BadRecord,
+            status: Status::BadRecord,
             numbers: m,
             count,
         };
     }
     let head = head_of(arrival);
-    let number = head.number;
-    if head.run != run {
+    if is_next(run, m, head) {
+        let left = acts(schema, rows, count, arrival, bytes);
         return Outcome {
-            answer: Answer::OtherRun,
-            numbers: m,
-            count,
+            status: Status::Applied,
+            numbers: applies(m, head.number, head.ends),
+            count: left,
         };
     }
-    if head.marks {
-        return Outcome {
-            answer: Answer::Heard,
-            numbers: hears(m, number),
-            count,
-        };
-    }
-    if number <= m.n {
-        return Outcome {
-            answer: Answer::Repeat,
-            numbers: m,
-            count,
-        };
-    }
-    if number - 1 != m.n {
-        return Outcome {
-            answer: Answer::Behind,
-            numbers: hears(m, number),
-            count,
-        };
-    }
-    let left = acts(schema, rows, count, arrival, bytes);
-    Outcome {
-        answer: Answer::Applied,
-        numbers: applies(m, number, head.ends),
-        count: left,
-    }
+    heard(run, m, head, count)
 }
 
 // The count and the atoms of a row's column.

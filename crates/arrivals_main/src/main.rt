@@ -1,9 +1,9 @@
 // Reads calls on a mirror's area from standard input, each after its length in two bytes, and writes a line for each: what it answers, and what the mirror tells then.
 // A call's first byte says which: 1 a start (run, schema's text), 2 an arrival (its bytes), 3 a row (table, id), 4 a column (table, id, column),
 // 5 a byte put into the area (where, in two bytes, and the byte), 6 all of these on an area that lacks its last byte.
-use model::Answer;
 use model::ID;
 use model::MIRROR_BYTES;
+use model::Status;
 use model::VALUE_BYTES;
 ghost use Rattle.model.specs.Limits.{idBytes, mirrorBytes};
 ghost use mathlib.Core.Path.{_≡_};
@@ -14,24 +14,41 @@ fn put(s: &[u8]) {
     io::write_all(1, s);
 }
 
+// The number of a refusal, 0 for any other answer.
+fn refusal_of(status: Status) -> u64 {
+    match status {
+        Status::Disordered => 1,
+        Status::WrongLength => 2,
+        Status::BadSchema => 3,
+        Status::BadRequest => 4,
+        Status::OtherDatabase => 5,
+        Status::BadFreshIds => 6,
+        Status::AnswerTooLong => 7,
+        Status::BadRecord => 8,
+        Status::OtherRun => 9,
+        Status::NumbersSpent => 10,
+        _ => 0,
+    }
+}
+
+// An answer that is no refusal, in a word.
+fn put_word(status: Status) {
+    match status {
+        Status::Repeat => put(b"repeat"),
+        Status::Behind => put(b"behind"),
+        Status::Heard => put(b"heard"),
+        Status::Applied => put(b"applied"),
+        _ => put(b"accepted"),
+    }
+}
+
 // An answer: the number of a refusal, or a word.
-fn put_answer(answer: Answer) {
-    match answer {
-        Answer::Accepted => put(b"accepted"),
-        Answer::Disordered => put(b"1"),
-        Answer::WrongLength => put(b"2"),
-        Answer::BadSchema => put(b"3"),
-        Answer::BadRequest => put(b"4"),
-        Answer::OtherDatabase => put(b"5"),
-        Answer::BadFreshIds => put(b"6"),
-        Answer::AnswerTooLong => put(b"7"),
-        Answer::BadRecord => put(b"8"),
-        Answer::OtherRun => put(b"9"),
-        Answer::NumbersSpent => put(b"10"),
-        Answer::Repeat => put(b"repeat"),
-        Answer::Behind => put(b"behind"),
-        Answer::Heard => put(b"heard"),
-        Answer::Applied => put(b"applied"),
+fn put_status(status: Status) {
+    let n = refusal_of(status);
+    if n == 0 {
+        put_word(status);
+    } else {
+        io::print_decimal(1, n);
     }
 }
 
@@ -84,9 +101,9 @@ fn id_at(call: &[u8], at: usize) -> [u8; ID]
 // n, and whether the mirror is level.
 fn tell(area: &[u8]) {
     let p = mirror::progress(area);
-    let answer = p.answer;
+    let status = p.status;
     put(b": ");
-    put_answer(answer);
+    put_status(status);
     put(b" ");
     io::print_decimal(1, p.n as u64);
     put_bit(p.level);
@@ -97,9 +114,9 @@ fn start(area: &mut [u8], call: &[u8]) {
         return;
     }
     let run = octets::number(&call[1..5], 4) as u32;
-    let answer = mirror::start(area, &call[5..], run);
+    let status = mirror::start(area, &call[5..], run);
     put(b"start ");
-    put_answer(answer);
+    put_status(status);
     tell(area);
 }
 
@@ -107,9 +124,9 @@ fn hear(area: &mut [u8], call: &[u8]) {
     if call.len() < 1 {
         return;
     }
-    let answer = mirror::hear(area, &call[1..]);
+    let status = mirror::hear(area, &call[1..]);
     put(b"hear ");
-    put_answer(answer);
+    put_status(status);
     tell(area);
 }
 
@@ -119,9 +136,9 @@ fn row(area: &[u8], call: &[u8]) {
     }
     let id = id_at(call, 2);
     let p = mirror::has_row(area, call[1], &id);
-    let answer = p.answer;
+    let status = p.status;
     put(b"row ");
-    put_answer(answer);
+    put_status(status);
     put_bit(p.there);
 }
 
@@ -131,9 +148,9 @@ fn column(area: &[u8], call: &[u8]) {
     }
     let id = id_at(call, 2);
     let mut out = [255u8; VALUE_BYTES];
-    let answer = mirror::column(area, call[1], &id, call[18], &mut out);
+    let status = mirror::column(area, call[1], &id, call[18], &mut out);
     put(b"column ");
-    put_answer(answer);
+    put_status(status);
     put(b" ");
     put_used(&out);
 }

@@ -69,7 +69,7 @@ pub fn text_of<'a>(a: &'a Atom) -> &'a [u8]
 pub fn less_integers(a: &Atom, b: &Atom) -> bool
     ensures { λ r. ⌜ r ≡ lessAtom integer (now (a .entry)) (now (b .entry)) ⌝ }
 {
-    leaf::turn(octets::number(a, 8)) < leaf::turn(octets::number(b, 8))
+    leaf::biased(octets::number(a, 8)) < leaf::biased(octets::number(b, 8))
 }
 
 // Whether a is before b, of a base type by its number.

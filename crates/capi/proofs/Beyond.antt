@@ -19,8 +19,8 @@ use Rattle.model.specs.Mirror.{Mirror, columnBytes, valueAnswer, rowAnswer, col
 use Rattle.model.specs.Areas.{MirrorState, mirrorOf}
 use Rattle.model.specs.Limits.{mirrorBytes}
 use Rattle.model.specs.Calls.{asked, Presence, noPresence, presenceOf, mirrorHasRow, Contents, noContents, contentsOf, mirrorColumn}
-use Rattle.model.specs.declared.Answer.{Answer}
-use Rattle.model.specs.declared.Answer.the-variants.{Accepted, Disordered, WrongLength}
+use Rattle.model.specs.declared.Status.{Status}
+use Rattle.model.specs.declared.Status.the-variants.{Accepted, Disordered, WrongLength}
 use Rattle.model.proofs.Tests.{split}
 use Rattle.model.proofs.GoodOrder.{known-table}
 use Rattle.model.proofs.Accepted.{Kept, narrow, sane-kept}
@@ -88,7 +88,7 @@ module _ (a : List ℕ) (m : MirrorState) (e : mirrorOf a ≡ some m) where
       (λ d l. column-beyond (m .database .tables) (keyOf (min t 255) i) d (kept .narrow) (omega (arith, l)) (m .mirror .rows) fine) c
 
 -- ── questions ──
-module _ {A : Type 0} (refuse : Answer → A) where
+module _ {A : Type 0} (refuse : Status → A) where
   chosen : (Mirror → A) → Option MirrorState → A
   chosen f o = elim o [ none ↦ refuse Disordered | some m ↦ f (m .mirror) ]
 
@@ -108,13 +108,13 @@ module _ {A : Type 0} (refuse : Answer → A) where
 pub row-small : (a : List ℕ) (t : ℕ) (id : List ℕ) → mirrorHasRow a t id ≡ mirrorHasRow a (min t 255) id
 unfolding mirrorHasRow
 row-small a t id =
-    asked-same noPresence a (presenceOf t id) (presenceOf (min t 255) id) (λ m e. ap (λ (b : Bool). record { answer = Accepted; there = b }) (has-alike a m e t (value id)))
+    asked-same noPresence a (presenceOf t id) (presenceOf (min t 255) id) (λ m e. ap (λ (b : Bool). record { status = Accepted; there = b }) (has-alike a m e t (value id)))
 
 pub column-small : (a : List ℕ) (t : ℕ) (id : List ℕ) (c : ℕ) (out : List ℕ) → mirrorColumn a t id c out ≡ mirrorColumn a (min t 255) id (min c 255) out
 unfolding mirrorColumn
 column-small a t id c out =
     ap (λ (x : Contents). elim (eqb (length out) columnBytes) [ true ↦ x | false ↦ noContents out WrongLength ])
-    (asked-same (noContents out) a (contentsOf t id c) (contentsOf (min t 255) id (min c 255)) (λ m e. ap (λ (l : List ℕ). record { answer = Accepted; out = l }) (column-alike a m e t (value id) c)))
+    (asked-same (noContents out) a (contentsOf t id c) (contentsOf (min t 255) id (min c 255)) (λ m e. ap (λ (l : List ℕ). record { status = Accepted; out = l }) (column-alike a m e t (value id) c)))
 
 -- by a table and a column that are 255 where they are above
 pub column-by : (a : List ℕ) (t : ℕ) (id : List ℕ) (c : ℕ) (out : List ℕ) (u d : ℕ) (x : Contents) → u ≡ min t 255 → d ≡ min c 255 → mirrorColumn a u id d out ≡ x → mirrorColumn a t id c out ≡ x

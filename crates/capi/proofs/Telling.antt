@@ -14,33 +14,33 @@ use Rattle.model.specs.Areas.{mirrorOf}
 use Rattle.model.specs.Limits.{mirrorBytes}
 use Rattle.model.specs.Catalog.{bit}
 use Rattle.model.specs.Calls.{zeroed, Progress, mirrorProgress, Presence, mirrorHasRow}
-use Rattle.model.specs.declared.Answer.{Answer}
+use Rattle.model.specs.declared.Status.{Status}
 use Rattle.model.specs.FirstRefusal.{askNumber}
 use Rattle.model.proofs.Tests.{split}
 use Rattle.model.proofs.Accepting.{progress-first, has-row-first, short-first}
-use Rattle.capi.specs.Exports.{Told, toldIn, progressBytes, presenceBytes, askedNumber}
+use Rattle.capi.specs.Exports.{Output, outputIn, progressBytes, presenceBytes, askedNumber}
 use Rattle.capi.proofs.Beyond.{row-small}
 
-told-other : (n : ℕ) (out z : List ℕ) (a : Answer) (bytes : List ℕ) → (length out ≡ n → ⊥) → z ≡ zeroed out → toldIn n out a bytes ≡ record { answer = 2; out = z }
-unfolding toldIn
-told-other n out z a bytes h e = rw (ne-eqb (length out) n h, toldIn) (ap (λ (l : List ℕ). record { answer = 2; out = l }) (sym e))
+output-other : (n : ℕ) (out z : List ℕ) (a : Status) (bytes : List ℕ) → (length out ≡ n → ⊥) → z ≡ zeroed out → outputIn n out a bytes ≡ record { status = 2; out = z }
+unfolding outputIn
+output-other n out z a bytes h e = rw (ne-eqb (length out) n h, outputIn) (ap (λ (l : List ℕ). record { status = 2; out = l }) (sym e))
 
-told-is : (n : ℕ) (out z : List ℕ) (a : Answer) (bytes : List ℕ) (r : ℕ) → length out ≡ n → r ≡ numberOf a → z ≡ bytes → toldIn n out a bytes ≡ record { answer = r; out = z }
-unfolding toldIn
-told-is n out z a bytes r h e f = rw (eq-eqb (length out) n h, toldIn) (λ j. record { answer = sym e j; out = sym f j })
+output-is : (n : ℕ) (out z : List ℕ) (a : Status) (bytes : List ℕ) (r : ℕ) → length out ≡ n → r ≡ numberOf a → z ≡ bytes → outputIn n out a bytes ≡ record { status = r; out = z }
+unfolding outputIn
+output-is n out z a bytes r h e f = rw (eq-eqb (length out) n h, outputIn) (λ j. record { status = sym e j; out = sym f j })
 
 -- the number is the first of the refusals that apply
-told-number : (n : ℕ) (area out : List ℕ) (a : Answer) (bytes : List ℕ) → numberOf a ≡ askNumber area → toldIn n out a bytes .answer ≡ askedNumber n area out
-unfolding toldIn askedNumber askNumber
-told-number n area out a bytes h = split (eqb (length out) n) (λ e. rw (toldIn, e) h) (λ e. rw (toldIn, e) (sym (short-first (eqb (length area) mirrorBytes) (not (isSome (mirrorOf area))))))
+output-number : (n : ℕ) (area out : List ℕ) (a : Status) (bytes : List ℕ) → numberOf a ≡ askNumber area → outputIn n out a bytes .status ≡ askedNumber n area out
+unfolding outputIn askedNumber askNumber
+output-number n area out a bytes h = split (eqb (length out) n) (λ e. rw (outputIn, e) h) (λ e. rw (outputIn, e) (sym (short-first (eqb (length area) mirrorBytes) (not (isSome (mirrorOf area))))))
 
-pub progress-numbered : (area out : List ℕ) {x : Told} → progressBytes area out ≡ x → (x .answer ≡ askedNumber 5 area out) × (progressBytes area out ≡ x)
+pub progress-numbered : (area out : List ℕ) {x : Output} → progressBytes area out ≡ x → (x .status ≡ askedNumber 5 area out) × (progressBytes area out ≡ x)
 unfolding progressBytes
-progress-numbered area out e = (ap (λ (t : Told). t .answer) (sym e) ∙ told-number 5 area out (mirrorProgress area .answer) _ (progress-first area), e)
+progress-numbered area out e = (ap (λ (t : Output). t .status) (sym e) ∙ output-number 5 area out (mirrorProgress area .status) _ (progress-first area), e)
 
-pub presence-numbered : (area : List ℕ) (t : ℕ) (id out : List ℕ) {x : Told} → presenceBytes area t id out ≡ x → (x .answer ≡ askedNumber 1 area out) × (presenceBytes area t id out ≡ x)
+pub presence-numbered : (area : List ℕ) (t : ℕ) (id out : List ℕ) {x : Output} → presenceBytes area t id out ≡ x → (x .status ≡ askedNumber 1 area out) × (presenceBytes area t id out ≡ x)
 unfolding presenceBytes
-presence-numbered area t id out e = (ap (λ (y : Told). y .answer) (sym e) ∙ told-number 1 area out (mirrorHasRow area t id .answer) _ (has-row-first area t id), e)
+presence-numbered area t id out e = (ap (λ (y : Output). y .status) (sym e) ∙ output-number 1 area out (mirrorHasRow area t id .status) _ (has-row-first area t id), e)
 
 -- the last of five bytes, and the one of one
 pub last-byte : (out : List ℕ) (x : ℕ) → length out ≡ 5 → drop 4 (set out 4 x) ≡ x ∷ []
@@ -58,23 +58,23 @@ only-byte (a ∷ []) x h = refl
 only-byte (a ∷ b ∷ l) x h = absurd (omega arith)
 
 module _ (area out z : List ℕ) where
-  pub progress-other : (length out ≡ 5 → ⊥) → z ≡ zeroed out → progressBytes area out ≡ record { answer = 2; out = z }
+  pub progress-other : (length out ≡ 5 → ⊥) → z ≡ zeroed out → progressBytes area out ≡ record { status = 2; out = z }
   unfolding progressBytes
-  progress-other h e = told-other 5 out z (mirrorProgress area .answer) (big 4 (mirrorProgress area .n) ++ bit (mirrorProgress area .level) ∷ []) h e
+  progress-other h e = output-other 5 out z (mirrorProgress area .status) (big 4 (mirrorProgress area .n) ++ bit (mirrorProgress area .level) ∷ []) h e
 
-  pub progress-told : (p : Progress) (r : ℕ) → mirrorProgress area ≡ p → length out ≡ 5 → r ≡ numberOf (p .answer) → z ≡ big 4 (p .n) ++ bit (p .level) ∷ [] → progressBytes area out ≡ record { answer = r; out = z }
+  pub progress-output : (p : Progress) (r : ℕ) → mirrorProgress area ≡ p → length out ≡ 5 → r ≡ numberOf (p .status) → z ≡ big 4 (p .n) ++ bit (p .level) ∷ [] → progressBytes area out ≡ record { status = r; out = z }
   unfolding progressBytes
-  progress-told p r h l e f =
-      ap (λ (q : Progress). toldIn 5 out (q .answer) (big 4 (q .n) ++ bit (q .level) ∷ [])) h ∙ told-is 5 out z (p .answer) (big 4 (p .n) ++ bit (p .level) ∷ []) r l e f
+  progress-output p r h l e f =
+      ap (λ (q : Progress). outputIn 5 out (q .status) (big 4 (q .n) ++ bit (q .level) ∷ [])) h ∙ output-is 5 out z (p .status) (big 4 (p .n) ++ bit (p .level) ∷ []) r l e f
 
   module _ (t : ℕ) (id : List ℕ) where
-    pub presence-other : (length out ≡ 1 → ⊥) → z ≡ zeroed out → presenceBytes area t id out ≡ record { answer = 2; out = z }
+    pub presence-other : (length out ≡ 1 → ⊥) → z ≡ zeroed out → presenceBytes area t id out ≡ record { status = 2; out = z }
     unfolding presenceBytes
-    presence-other h e = told-other 1 out z (mirrorHasRow area t id .answer) (bit (mirrorHasRow area t id .there) ∷ []) h e
+    presence-other h e = output-other 1 out z (mirrorHasRow area t id .status) (bit (mirrorHasRow area t id .there) ∷ []) h e
 
     -- by a table that is 255 where it is above
-    pub presence-told : (u : ℕ) (p : Presence) (r : ℕ) → u ≡ min t 255 → mirrorHasRow area u id ≡ p → length out ≡ 1 → r ≡ numberOf (p .answer) → z ≡ bit (p .there) ∷ [] → presenceBytes area t id out ≡ record { answer = r; out = z }
+    pub presence-output : (u : ℕ) (p : Presence) (r : ℕ) → u ≡ min t 255 → mirrorHasRow area u id ≡ p → length out ≡ 1 → r ≡ numberOf (p .status) → z ≡ bit (p .there) ∷ [] → presenceBytes area t id out ≡ record { status = r; out = z }
     unfolding presenceBytes
-    presence-told u p r s h l e f =
+    presence-output u p r s h l e f =
         let q : mirrorHasRow area t id ≡ p = row-small area t id ∙ ap (λ (x : ℕ). mirrorHasRow area x id) (sym s) ∙ h in
-        ap (λ (x : Presence). toldIn 1 out (x .answer) (bit (x .there) ∷ [])) q ∙ told-is 1 out z (p .answer) (bit (p .there) ∷ []) r l e f
+        ap (λ (x : Presence). outputIn 1 out (x .status) (bit (x .there) ∷ [])) q ∙ output-is 1 out z (p .status) (bit (p .there) ∷ []) r l e f

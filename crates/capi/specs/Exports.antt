@@ -4,8 +4,8 @@ use mathlib.Core.Bool.{Bool, true, false}
 use mathlib.Core.List.{List, [], _∷_, _++_}
 use lib.Dec.{eqb}
 use lib.ListN.{length}
-use Rattle.model.specs.declared.Answer.{Answer}
-use Rattle.model.specs.declared.Answer.the-variants.{WrongLength}
+use Rattle.model.specs.declared.Status.{Status}
+use Rattle.model.specs.declared.Status.the-variants.{WrongLength}
 use Rattle.model.specs.Octets.{big}
 use Rattle.model.specs.Refusals.{numberOf}
 use Rattle.model.specs.Catalog.{bit}
@@ -13,25 +13,25 @@ use Rattle.model.specs.FirstRefusal.{given, askConditions}
 use Rattle.model.specs.Calls.{zeroed, Progress, mirrorProgress, Presence, mirrorHasRow}
 
 -- a question's answer as a number, and its output
-pub record Told : Type 0 where
-  pub answer : ℕ
+pub record Output : Type 0 where
+  pub status : ℕ
   pub out : List ℕ
 
 -- "An output of the wrong length gets 2" (reading 48), and at a refusal it is all zero; one of n bytes is filled with what was asked for
-unfoldable pub toldIn : ℕ → List ℕ → Answer → List ℕ → Told
-toldIn n out a bytes =
+unfoldable pub outputIn : ℕ → List ℕ → Status → List ℕ → Output
+outputIn n out a bytes =
     elim (eqb (length out) n) [
-      | true ↦ record { answer = numberOf a; out = bytes }
-      | false ↦ record { answer = numberOf WrongLength; out = zeroed out }
+      | true ↦ record { status = numberOf a; out = bytes }
+      | false ↦ record { status = numberOf WrongLength; out = zeroed out }
     ]
 
 -- n in four bytes, and level; a refused question has n 0 and is not level
-unfoldable pub progressBytes : List ℕ → List ℕ → Told
-progressBytes area out = let p = mirrorProgress area in toldIn 5 out (p .answer) (big 4 (p .n) ++ bit (p .level) ∷ [])
+unfoldable pub progressBytes : List ℕ → List ℕ → Output
+progressBytes area out = let p = mirrorProgress area in outputIn 5 out (p .status) (big 4 (p .n) ++ bit (p .level) ∷ [])
 
 -- 1 where the row is there
-unfoldable pub presenceBytes : List ℕ → ℕ → List ℕ → List ℕ → Told
-presenceBytes area t id out = let p = mirrorHasRow area t id in toldIn 1 out (p .answer) (bit (p .there) ∷ [])
+unfoldable pub presenceBytes : List ℕ → ℕ → List ℕ → List ℕ → Output
+presenceBytes area t id out = let p = mirrorHasRow area t id in outputIn 1 out (p .status) (bit (p .there) ∷ [])
 
 -- the number that a question with an output of n bytes gets: the first of its refusals that applies
 unfoldable pub askedNumber : ℕ → List ℕ → List ℕ → ℕ

@@ -1,9 +1,9 @@
 // The C library: include/maqdufesh.h. Each function is the call of `store` or `mirror` of that name; a slice is a pointer and a length, 0 is accepted, a refusal is its number.
 
-use model::Answer;
 use model::ID;
 use model::MIRROR_BYTES;
 use model::STORE_BYTES;
+use model::Status;
 ghost use mathlib.Core.Path.{_≡_};
 ghost use Prim.Native.Nat.{min};
 ghost use Rattle.model.specs.Refusals.{numberOf};
@@ -14,25 +14,25 @@ ghost use Rattle.model.specs.FirstRefusal.{storeStartNumber, transactNumber, ma
 ghost use Rattle.capi.specs.Exports.{progressBytes, presenceBytes, askedNumber};
 
 // An answer's number.
-fn number(a: Answer) -> u32
+fn number(a: Status) -> u32
     ensures { λ r. ⌜ r ≡ numberOf a ⌝ }
 {
     match a {
-        Answer::Accepted => 0,
-        Answer::Disordered => 1,
-        Answer::WrongLength => 2,
-        Answer::BadSchema => 3,
-        Answer::BadRequest => 4,
-        Answer::OtherDatabase => 5,
-        Answer::BadFreshIds => 6,
-        Answer::AnswerTooLong => 7,
-        Answer::BadRecord => 8,
-        Answer::OtherRun => 9,
-        Answer::NumbersSpent => 10,
-        Answer::Repeat => 100,
-        Answer::Behind => 101,
-        Answer::Heard => 102,
-        Answer::Applied => 103,
+        Status::Accepted => 0,
+        Status::Disordered => 1,
+        Status::WrongLength => 2,
+        Status::BadSchema => 3,
+        Status::BadRequest => 4,
+        Status::OtherDatabase => 5,
+        Status::BadFreshIds => 6,
+        Status::AnswerTooLong => 7,
+        Status::BadRecord => 8,
+        Status::OtherRun => 9,
+        Status::NumbersSpent => 10,
+        Status::Repeat => 100,
+        Status::Behind => 101,
+        Status::Heard => 102,
+        Status::Applied => 103,
     }
 }
 
@@ -73,7 +73,7 @@ pub extern "C" fn maq_mirror_area_len() -> u64
 #[no_mangle]
 pub extern "C" fn maq_store_start(area: &mut [u8], schema: &[u8], run: u32) -> u32
     ensures { λ r. ⌜ r ≡ storeStartNumber (now (area .entry)) (now (schema .entry)) ⌝ }
-    ensures { λ r. ⌜ r ≡ numberOf (storeStart (now (area .entry)) (now (schema .entry)) run .answer) ⌝ }
+    ensures { λ r. ⌜ r ≡ numberOf (storeStart (now (area .entry)) (now (schema .entry)) run .status) ⌝ }
     ensures { λ _. ⌜ now (area .exit) ≡ storeStart (now (area .entry)) (now (schema .entry)) run .area ⌝ }
 {
     number(store::start(area, schema, run))
@@ -88,7 +88,7 @@ pub extern "C" fn maq_store_transact(
     answer: &mut [u8],
 ) -> u32
     ensures { λ r. ⌜ r ≡ transactNumber (now (area .entry)) (now (request .entry)) (now (fresh .entry)) (now (records .entry)) (now (answer .entry)) ⌝ }
-    ensures { λ r. ⌜ r ≡ numberOf (storeTransact (now (area .entry)) (now (request .entry)) (now (fresh .entry)) (now (records .entry)) (now (answer .entry)) .answer) ⌝ }
+    ensures { λ r. ⌜ r ≡ numberOf (storeTransact (now (area .entry)) (now (request .entry)) (now (fresh .entry)) (now (records .entry)) (now (answer .entry)) .status) ⌝ }
     ensures { λ _. ⌜ now (area .exit) ≡ storeTransact (now (area .entry)) (now (request .entry)) (now (fresh .entry)) (now (records .entry)) (now (answer .entry)) .area ⌝ }
     ensures { λ _. ⌜ now (records .exit) ≡ storeTransact (now (area .entry)) (now (request .entry)) (now (fresh .entry)) (now (records .entry)) (now (answer .entry)) .records ⌝ }
     ensures { λ _. ⌜ now (answer .exit) ≡ storeTransact (now (area .entry)) (now (request .entry)) (now (fresh .entry)) (now (records .entry)) (now (answer .entry)) .text ⌝ }
@@ -99,7 +99,7 @@ pub extern "C" fn maq_store_transact(
 #[no_mangle]
 pub extern "C" fn maq_store_mark(area: &[u8], mark: &mut [u8]) -> u32
     ensures { λ r. ⌜ r ≡ markNumber (now (area .entry)) (now (mark .entry)) ⌝ }
-    ensures { λ r. ⌜ r ≡ numberOf (storeMark (now (area .entry)) (now (mark .entry)) .answer) ⌝ }
+    ensures { λ r. ⌜ r ≡ numberOf (storeMark (now (area .entry)) (now (mark .entry)) .status) ⌝ }
     ensures { λ _. ⌜ now (mark .exit) ≡ storeMark (now (area .entry)) (now (mark .entry)) .mark ⌝ }
 {
     number(store::mark(area, mark))
@@ -108,7 +108,7 @@ pub extern "C" fn maq_store_mark(area: &[u8], mark: &mut [u8]) -> u32
 #[no_mangle]
 pub extern "C" fn maq_mirror_start(area: &mut [u8], schema: &[u8], run: u32) -> u32
     ensures { λ r. ⌜ r ≡ mirrorStartNumber (now (area .entry)) (now (schema .entry)) ⌝ }
-    ensures { λ r. ⌜ r ≡ numberOf (mirrorStart (now (area .entry)) (now (schema .entry)) run .answer) ⌝ }
+    ensures { λ r. ⌜ r ≡ numberOf (mirrorStart (now (area .entry)) (now (schema .entry)) run .status) ⌝ }
     ensures { λ _. ⌜ now (area .exit) ≡ mirrorStart (now (area .entry)) (now (schema .entry)) run .area ⌝ }
 {
     number(mirror::start(area, schema, run))
@@ -117,7 +117,7 @@ pub extern "C" fn maq_mirror_start(area: &mut [u8], schema: &[u8], run: u32) -> 
 #[no_mangle]
 pub extern "C" fn maq_mirror_hear(area: &mut [u8], bytes: &[u8]) -> u32
     ensures { λ r. ⌜ r ≡ hearNumber (now (area .entry)) (now (bytes .entry)) ⌝ }
-    ensures { λ r. ⌜ r ≡ numberOf (mirrorHear (now (area .entry)) (now (bytes .entry)) .answer) ⌝ }
+    ensures { λ r. ⌜ r ≡ numberOf (mirrorHear (now (area .entry)) (now (bytes .entry)) .status) ⌝ }
     ensures { λ _. ⌜ now (area .exit) ≡ mirrorHear (now (area .entry)) (now (bytes .entry)) .area ⌝ }
 {
     number(mirror::hear(area, bytes))
@@ -127,33 +127,33 @@ pub extern "C" fn maq_mirror_hear(area: &mut [u8], bytes: &[u8]) -> u32
 #[no_mangle]
 pub extern "C" fn maq_mirror_progress(area: &[u8], out: &mut [u8]) -> u32
     ensures { λ r. ⌜ r ≡ askedNumber 5 (now (area .entry)) (now (out .entry)) ⌝ }
-    ensures { λ r. ⌜ progressBytes (now (area .entry)) (now (out .entry)) ≡ record { answer = r; out = now (out .exit) } ⌝ }
+    ensures { λ r. ⌜ progressBytes (now (area .entry)) (now (out .entry)) ≡ record { status = r; out = now (out .exit) } ⌝ }
 {
     if out.len() != 5 {
         octets::clear(out);
         return 2;
     }
     let p = mirror::progress(area);
-    let answer = p.answer;
+    let status = p.status;
     out[4] = flag(p.level);
     octets::put_number(out, p.n as u64, 4);
-    number(answer)
+    number(status)
 }
 
 // Whether a row is there, in one byte.
 #[no_mangle]
 pub extern "C" fn maq_mirror_has_row(area: &[u8], table: u32, id: &[u8; ID], out: &mut [u8]) -> u32
     ensures { λ r. ⌜ r ≡ askedNumber 1 (now (area .entry)) (now (out .entry)) ⌝ }
-    ensures { λ r. ⌜ presenceBytes (now (area .entry)) table (now (id .entry)) (now (out .entry)) ≡ record { answer = r; out = now (out .exit) } ⌝ }
+    ensures { λ r. ⌜ presenceBytes (now (area .entry)) table (now (id .entry)) (now (out .entry)) ≡ record { status = r; out = now (out .exit) } ⌝ }
 {
     if out.len() != 1 {
         octets::clear(out);
         return 2;
     }
     let p = mirror::has_row(area, small(table), id);
-    let answer = p.answer;
+    let status = p.status;
     out[0] = flag(p.there);
-    number(answer)
+    number(status)
 }
 
 // A column's count and atoms, in 101 bytes.
@@ -166,7 +166,7 @@ pub extern "C" fn maq_mirror_column(
     out: &mut [u8],
 ) -> u32
     ensures { λ r. ⌜ r ≡ columnNumber (now (area .entry)) (now (out .entry)) ⌝ }
-    ensures { λ r. ⌜ r ≡ numberOf (mirrorColumn (now (area .entry)) table (now (id .entry)) column (now (out .entry)) .answer) ⌝ }
+    ensures { λ r. ⌜ r ≡ numberOf (mirrorColumn (now (area .entry)) table (now (id .entry)) column (now (out .entry)) .status) ⌝ }
     ensures { λ _. ⌜ now (out .exit) ≡ mirrorColumn (now (area .entry)) table (now (id .entry)) column (now (out .entry)) .out ⌝ }
 {
     number(mirror::column(area, small(table), id, small(column), out))

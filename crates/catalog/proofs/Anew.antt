@@ -1,6 +1,6 @@
 -- A catalog written anew from what its entries say, entry by entry. Assumes nothing.
-use mathlib.Core.Path.{_≡_, refl, sym, ap, subst, _∙_}
-use mathlib.Core.Bool.{Bool, true, false, _&&_}
+use mathlib.Core.Path.{_≡_, refl, ap, subst, _∙_}
+use mathlib.Core.Bool.{Bool, true}
 use mathlib.Core.List.{List, [], _∷_, _++_, map}
 use Prim.Native.Nat.{ℕ, zero, suc, _+_, _-_, _*_, _≤_, _<_}
 use native.Mathlib.Omega.{arith}
@@ -10,15 +10,14 @@ use lib.ListN.{length, getD, take, drop, replicate, length-append, length-map, l
 use lib.Seq.{length-take-le, getD-drop, getD-take}
 use Rattle.model.specs.Octets.{big}
 use Rattle.model.specs.Base.{all, isSome, flat}
-use Rattle.model.specs.Limits.{mostTables, mostColumns, mostIndexColumns, mostTextBytes, entryCount, entryBytes}
+use Rattle.model.specs.Limits.{mostIndexColumns, entryBytes}
 use Rattle.model.specs.Schema.{Column, Table, Database}
-use Rattle.model.specs.SchemaText.{isId}
-use Rattle.model.specs.Catalog.{tableCount, columnCount, columnPlace, entryName, isSet, columnFrom, indexesFrom, maxRowsFrom, tableFrom, tablesFrom, databaseFrom, nameBytes, bit, columnEntry, indexBytes, numberOr0, tableEntry, databaseEntry, blankEntry, inRoom, columnEntries, catalogOf}
+use Rattle.model.specs.Catalog.{tableCount, columnCount, columnPlace, entryName, isSet, columnFrom, indexesFrom, maxRowsFrom, tableFrom, tablesFrom, databaseFrom, nameBytes, bit, columnEntry, indexBytes, numberOr0, tableEntry, blankEntry, inRoom, columnEntries, catalogOf}
 use Rattle.model.specs.Sane.{columnSane, saneColumn, indexSane, saneIndex, tableSane, saneTable, databaseSane, sane}
 use Rattle.model.proofs.Tests.{and-l, and-r, parts}
 use Rattle.model.proofs.Lists.{all-at}
 use Rattle.model.proofs.Catalogs.{getD-past, id-short}
-use Rattle.catalog.specs.Tidied.{databaseTidied, tableTidied}
+use Rattle.catalog.specs.Tidied.{databaseTidied, tableTidied, Readable}
 use Rattle.catalog.proofs.Laws.{tables-length}
 
 -- ── lists ──
@@ -118,7 +117,7 @@ module _ (cells : List (List ℕ)) where
       ∙ columns-none k (suc u) m t c (narrow-on u m w) (omega arith) (omega arith) g
 
 -- ── entries of a database that keeps the rules, with room for what they say ──
-module _ (cells : List (List ℕ)) (size : length cells ≡ entryCount) (h : sane (databaseFrom cells) ≡ true) (wide : (t : ℕ) → t < mostTables → columnCount cells t ≤ mostColumns) where
+module _ {cells : List (List ℕ)} (r : Readable cells) where
   abbrev d : Database
   d = databaseFrom cells
 
@@ -128,24 +127,24 @@ module _ (cells : List (List ℕ)) (size : length cells ≡ entryCount) (h : san
   count : length (d .tables) ≡ n
   count = tables-length cells 0 n
 
-  pub few : n ≤ 4
+  few : n ≤ 4
   unfolding sane
-  few = omega (arith, count, leb-true (length (d .tables)) 4 (parts (databaseSane d) h .1 .0))
+  few = omega (arith, count, leb-true (length (d .tables)) 4 (parts (databaseSane d) (r .sane) .1 .0))
 
   every-table : (t : ℕ) → t < n → saneTable (length (d .tables)) (tableFrom cells t) ≡ true
   unfolding sane
-  every-table t l = let e : 0 + t ≡ t = omega arith in rw (← e) (all-tables cells (saneTable (length (d .tables))) 0 n t (parts (databaseSane d) h .1 .1 .0) l)
+  every-table t l = let e : 0 + t ≡ t = omega arith in rw (← e) (all-tables cells (saneTable (length (d .tables))) 0 n t (parts (databaseSane d) (r .sane) .1 .1 .0) l)
 
   -- a table's columns are as many as its entry says
   width-is : (t : ℕ) → t < n → length (tableFrom cells t .columns) ≡ columnCount cells t
   unfolding tableFrom
   width-is t l =
       length-map (take (columnCount cells t) (drop (columnPlace t 0) cells)) columnFrom
-      ∙ length-take-le (columnCount cells t) (drop (columnPlace t 0) cells) (omega (arith, length-drop (columnPlace t 0) cells, wide t (omega (arith, few)), few))
+      ∙ length-take-le (columnCount cells t) (drop (columnPlace t 0) cells) (omega (arith, length-drop (columnPlace t 0) cells, r .wide t (omega (arith, few)), few))
 
   narrow : Narrow cells 0 n
   unfolding Narrow
-  narrow t l = let e : 0 + t ≡ t = omega arith in rw e (omega (arith, width-is t l, wide t (omega (arith, few))))
+  narrow t l = let e : 0 + t ≡ t = omega arith in rw e (omega (arith, width-is t l, r .wide t (omega (arith, few))))
 
   -- the database's entry
   pub database-anew : getD (catalogOf d) 0 [] ≡ databaseTidied (getD cells 0 [])
@@ -203,7 +202,7 @@ module _ (cells : List (List ℕ)) (size : length cells ≡ entryCount) (h : san
     entries = take (columnCount cells t) (drop (columnPlace t 0) cells)
 
     entries-size : length entries ≡ columnCount cells t
-    entries-size = length-take-le (columnCount cells t) (drop (columnPlace t 0) cells) (omega (arith, length-drop (columnPlace t 0) cells, wide t (omega (arith, few)), few))
+    entries-size = length-take-le (columnCount cells t) (drop (columnPlace t 0) cells) (omega (arith, length-drop (columnPlace t 0) cells, r .wide t (omega (arith, few)), few))
 
     column-here : c < columnCount cells t → getD entries c [] ≡ getD cells (5 + 6 * t + c) []
     column-here k =
@@ -231,15 +230,15 @@ module _ (cells : List (List ℕ)) (size : length cells ≡ entryCount) (h : san
     column-short k =
         let s = parts (tableSane (length (d .tables)) (tableFrom cells t)) (every-table t l) .1 .1 .0 in
         let q = all-at (saneColumn (length (d .tables))) (tableFrom cells t .columns) c (columnFrom []) s (omega (arith, width-is t l)) in
-        let r : saneColumn (length (d .tables)) (columnFrom (getD cells (5 + 6 * t + c) [])) ≡ true = subst (λ (x : Column). saneColumn (length (d .tables)) x ≡ true) (column-is k) q in
-        id-short (entryName (getD cells (5 + 6 * t + c) [])) (parts (columnSane (length (d .tables)) (columnFrom (getD cells (5 + 6 * t + c) []))) r .0)
+        let z : saneColumn (length (d .tables)) (columnFrom (getD cells (5 + 6 * t + c) [])) ≡ true = subst (λ (x : Column). saneColumn (length (d .tables)) x ≡ true) (column-is k) q in
+        id-short (entryName (getD cells (5 + 6 * t + c) [])) (parts (columnSane (length (d .tables)) (columnFrom (getD cells (5 + 6 * t + c) []))) z .0)
 
   pub column-none : (t c : ℕ) → n ≤ t → t < 4 → c < 6 → getD (catalogOf d) (5 + 6 * t + c) [] ≡ blankEntry
   column-none t c l k g = column-place t c k g ∙ columns-none cells 4 0 n t c narrow k l g
 
   pub database-short : length (entryName (getD cells 0 [])) ≤ 24
   unfolding sane
-  database-short = id-short (entryName (getD cells 0 [])) (parts (databaseSane d) h .0)
+  database-short = id-short (entryName (getD cells 0 [])) (parts (databaseSane d) (r .sane) .0)
 
   module _ (t : ℕ) (l : t < n) where
     pub table-short : length (entryName (getD cells (1 + t) [])) ≤ 24

@@ -1,27 +1,16 @@
 -- Names among the names of entries, one after another. Assumes nothing.
-use mathlib.Core.Path.{_≡_, refl}
+use mathlib.Core.Path.{_≡_}
 use mathlib.Core.Bool.{true, false}
-use mathlib.Core.List.{List, [], _∷_, map}
+use mathlib.Core.List.{List, [], map}
 use Prim.Native.Nat.{ℕ, _+_, _-_, _<_, _≤_}
 use native.Mathlib.Omega.{arith}
 use lib.ListN.{length, getD, take, drop, drop-of-length-le, length-drop}
 use lib.Seq.{take-all}
-use Rattle.model.specs.Octets.{eqBytes}
 use Rattle.model.specs.Base.{member, distinct}
 use Rattle.model.specs.Catalog.{entryName}
 use Rattle.catalog.proofs.Ids.{next}
 
 module _ (cells : List (List ℕ)) (i : ℕ) where
-  module _ (w : List ℕ) where
-    pub among-here : i < length cells → eqBytes w (entryName (getD cells i [])) ≡ true → member w (map entryName (drop i cells)) ≡ true
-    among-here h e = rw (next [] cells i h, e)
-
-    pub among-next : i < length cells → eqBytes w (entryName (getD cells i [])) ≡ false → member w (map entryName (drop i cells)) ≡ member w (map entryName (drop (i + 1) cells))
-    among-next h e = rw (next [] cells i h, e)
-
-    pub among-end : length cells ≤ i → member w (map entryName (drop i cells)) ≡ false
-    among-end h = rw (drop-of-length-le cells h)
-
   pub distinct-not : i < length cells → member (entryName (getD cells i [])) (map entryName (drop (i + 1) cells)) ≡ true → distinct (map entryName (drop i cells)) ≡ false
   distinct-not h e = rw (next [] cells i h, e)
 

@@ -11,10 +11,11 @@ use lib.Seq.{drop-cons}
 use Rattle.model.specs.declared.Found.{Found}
 use Rattle.model.specs.declared.Found.the-variants.{At, Nothing}
 use Rattle.model.specs.Octets.{eqBytes}
-use Rattle.model.specs.Base.{placeOf}
+use Rattle.model.specs.Base.{member, placeOf}
 use Rattle.model.specs.Schema.{Column}
 use Rattle.model.specs.Catalog.{entryName, columnFrom}
-use Rattle.catalog.specs.Entries.{foundAt, entryNamed}
+use Rattle.model.proofs.Tests.{split}
+use Rattle.catalog.specs.Entries.{foundAt, isFound, entryNamed}
 
 -- a place found from i on
 abbrev pub foundFrom : ℕ → Option ℕ → Found
@@ -51,6 +52,17 @@ module _ (cells : List (List ℕ)) (w : List ℕ) where
 
     pub named-next : eqBytes w (entryName (getD cells i [])) ≡ false → foundFrom i (left i) ≡ foundFrom (i + 1) (left (i + 1))
     named-next e = rw (next, placeOf, e) (past i (left (i + 1)))
+
+-- a place is found exactly of what is there
+pub found-member : (w : List ℕ) (ws : List (List ℕ)) → isFound (foundAt (placeOf w ws)) ≡ member w ws
+unfolding isFound foundAt
+found-member w [] = refl
+found-member w (x ∷ ws) =
+    split (eqBytes w x) (λ e. rw (placeOf, e)) (λ e. rw (placeOf, e) (later (placeOf w ws) ∙ found-member w ws))
+  where
+    later : (o : Option ℕ) → isFound (foundAt (elim o [ none ↦ none | some k ↦ some (suc k) ])) ≡ isFound (foundAt o)
+    later none = refl
+    later (some k) = refl
 
 -- the names in entries are those of the columns that they say
 pub cells-names : (l : List (List ℕ)) → map entryName l ≡ map (λ (c : Column). c .name) (map columnFrom l)

@@ -1,6 +1,7 @@
 -- The entries of a catalog, by table and by name. Assumes nothing: these are definitions.
 use Prim.Native.Nat.{ℕ, _+_, _*_}
-use mathlib.Core.List.{List, [], map}
+use mathlib.Core.Bool.{Bool, true, false}
+use mathlib.Core.List.{List, map}
 use mathlib.Core.Option.{Option, none, some}
 use lib.ListN.{take, drop}
 use Rattle.model.specs.declared.Found.{Found}
@@ -16,6 +17,10 @@ columnsAt catalog t = take (columnCount catalog t) (drop (1 + mostTables + mostC
 unfoldable pub foundAt : Option ℕ → Found
 foundAt none = Nothing
 foundAt (some k) = At k
+
+unfoldable pub isFound : Found → Bool
+isFound (At k) = true
+isFound Nothing = false
 
 -- the place of a name among the names of entries
 unfoldable pub entryNamed : List (List ℕ) → List ℕ → Found

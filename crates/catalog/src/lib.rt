@@ -25,7 +25,7 @@ ghost use Rattle.model.specs.Schema.{scalar};
 ghost use Rattle.model.specs.Catalog.{baseOffset, refersOffset, targetOffset, minOffset, maxOffset, mutableOffset, lowOffset, highOffset, columnsOffset, rootOffset, limitedOffset, maxRowsOffset, indexesOffset, tablesOffset, entryName, isSet, columnFrom, columnCount, columnPlace, indexFrom, firstIndexOffset, secondIndexOffset};
 ghost use Rattle.model.specs.Conditions.{idColumn};
 ghost use Rattle.inner.specs.Working.{minimums};
-ghost use Rattle.catalog.specs.Entries.{columnsAt, entryNamed};
+ghost use Rattle.catalog.specs.Entries.{columnsAt, isFound, entryNamed};
 ghost use Rattle.catalog.specs.Writing.{columnEnd, limitBytes, columnBytes, headBytes};
 
 // Where the parts of a column's entry lie, behind the name.
@@ -207,6 +207,16 @@ pub fn named(entries: &[Entry], name: &[u8]) -> Found
     Found::Nothing
 }
 
+// Whether a place was found.
+pub fn is_found(f: Found) -> bool
+    ensures { λ r. ⌜ r ≡ isFound f ⌝ }
+{
+    match f {
+        Found::At(_) => true,
+        Found::Nothing => false,
+    }
+}
+
 // The entries of a table's columns, lent.
 pub fn columns_of<'s>(catalog: &'s Catalog, t: usize) -> &'s [Entry]
     requires { ⌜ (t < mostTables) × (columnCount (now catalog) t ≤ mostColumns) ⌝ }
@@ -256,53 +266,36 @@ fn put_six(out: &mut [u8], base: u8, how: u8, target: u8, min: u8, max: u8, muta
     out[5] = mutable;
 }
 
+// What a column's entry says behind its name.
+pub struct Shape {
+    pub base: u8,
+    pub how: u8,
+    pub target: u8,
+    pub min: u8,
+    pub max: u8,
+    pub mutable: u8,
+    pub low: Whole,
+    pub high: Whole,
+}
+
 // What follows the name in a column's entry.
-fn put_shape(
-    out: &mut [u8],
-    base: u8,
-    how: u8,
-    target: u8,
-    min: u8,
-    max: u8,
-    mutable: u8,
-    low: Whole,
-    high: Whole,
-)
+fn put_shape(out: &mut [u8], s: Shape)
     requires { ⌜ 22 ≤ length (now out) ⌝ }
-    ensures { λ _. ⌜ now (out .exit) ≡ columnBytes base how target min max mutable low high ++ drop 22 (now (out .entry)) ⌝ }
+    ensures { λ _. ⌜ now (out .exit) ≡ columnBytes s ++ drop 22 (now (out .entry)) ⌝ }
 {
-    put_six(out, base, how, target, min, max, mutable);
+    put_six(out, s.base, s.how, s.target, s.min, s.max, s.mutable);
+    let low = s.low;
+    let high = s.high;
     put_limits(&mut out[6..], low, high);
 }
 
 // The entry of a column.
-pub fn put_column(
-    out: &mut [u8],
-    name: &Atom,
-    base: u8,
-    how: u8,
-    target: u8,
-    min: u8,
-    max: u8,
-    mutable: u8,
-    low: Whole,
-    high: Whole,
-)
+pub fn put_column(out: &mut [u8], name: &Atom, s: Shape)
     requires { ⌜ columnEnd ≤ length (now out) ⌝ }
-    ensures { λ _. ⌜ now (out .exit) ≡ (now (name .entry) ++ columnBytes base how target min max mutable low high) ++ drop columnEnd (now (out .entry)) ⌝ }
+    ensures { λ _. ⌜ now (out .exit) ≡ (now (name .entry) ++ columnBytes s) ++ drop columnEnd (now (out .entry)) ⌝ }
 {
     octets::put_bytes(out, name);
-    put_shape(
-        &mut out[KIND..],
-        base,
-        how,
-        target,
-        min,
-        max,
-        mutable,
-        low,
-        high,
-    );
+    put_shape(&mut out[KIND..], s);
 }
 
 // What stands between the name and the indexes of a table's entry.

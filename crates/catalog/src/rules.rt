@@ -16,7 +16,9 @@ use super::TABLE_COUNT;
 use super::TARGET;
 use super::WIDTH;
 use super::columns_of;
+use super::is_found;
 use super::name_of;
+use super::named;
 use super::number_at;
 use model::ATOM;
 use model::COLUMNS;
@@ -159,8 +161,8 @@ fn counts_well(min: u8, max: u8) -> bool
 fn at_most(x: u64, y: u64) -> bool
     ensures { λ r. ⌜ r ≡ leZ (fromTwos x) (fromTwos y) ⌝ }
 {
-    let a = leaf::turn(x);
-    let b = leaf::turn(y);
+    let a = leaf::biased(x);
+    let b = leaf::biased(y);
     let less = b < a;
     !less
 }
@@ -311,15 +313,7 @@ fn are_columns(entries: &[Entry], n: u8) -> bool
 fn is_among(name: &[u8], entries: &[Entry]) -> bool
     ensures { λ r. ⌜ r ≡ member (now (name .entry)) (map entryName (now (entries .entry))) ⌝ }
 {
-    let mut i = 0;
-    while i < entries.len() {
-        let same = octets::equal(name, name_of(&entries[i]));
-        if same {
-            return true;
-        }
-        i += 1;
-    }
-    false
+    is_found(named(entries, name))
 }
 
 // Whether the names of entries are all different.

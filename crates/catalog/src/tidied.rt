@@ -8,12 +8,12 @@ use model::TABLES;
 ghost use mathlib.Core.Path.{_≡_};
 ghost use mathlib.Core.Bool.{true};
 ghost use mathlib.Core.List.{List, []};
-ghost use Prim.Native.Nat.{ℕ, _≤_, _<_};
+ghost use Prim.Native.Nat.{ℕ, _+_, _≤_, _<_};
 ghost use lib.Dec.{leb};
 ghost use lib.ListN.{length, getD};
 ghost use Rattle.model.specs.Base.{all};
-ghost use Rattle.model.specs.Limits.{mostTextBytes, mostIndexColumns, entryCount};
-ghost use Rattle.model.specs.Catalog.{entryName, columnFrom, indexesFrom, columnEntry, databaseFrom, catalogOf};
+ghost use Rattle.model.specs.Limits.{mostTables, mostColumns, mostTextBytes, mostIndexColumns, entryCount};
+ghost use Rattle.model.specs.Catalog.{entryName, columnFrom, indexesFrom, columnEntry, databaseFrom, catalogOf, columnPlace};
 ghost use Rattle.catalog.specs.Tidied.{databaseTidied, tableTidied, Readable};
 
 // The entry of a database, whose name has its place.
@@ -45,7 +45,33 @@ fn column_of(e: &Entry) -> Entry
     super::tidied_columns::column_entry(e)
 }
 
-// Entry i written anew: the database's, a table's or a column's, or one that is not in use.
+// The entry of table t written anew, zeros where there is no such table.
+fn table_anew(cells: &Catalog, t: usize) -> Entry
+    requires { ⌜ Readable (now cells) ⌝ }
+    requires { ⌜ t < mostTables ⌝ }
+    ensures { λ r. ⌜ r ≡ getD (catalogOf (databaseFrom (now (cells .entry)))) (1 + t) [] ⌝ }
+{
+    if t < leaf::wide(super::table_count(&cells[0])) {
+        return table_of(&cells[1 + t]);
+    }
+    [0u8; ENTRY]
+}
+
+// The entry of column c of table t written anew, zeros where there is no such column.
+fn column_anew(cells: &Catalog, t: usize, c: usize) -> Entry
+    requires { ⌜ Readable (now cells) ⌝ }
+    requires { ⌜ (t < mostTables) × (c < mostColumns) ⌝ }
+    ensures { λ r. ⌜ r ≡ getD (catalogOf (databaseFrom (now (cells .entry)))) (columnPlace t c) [] ⌝ }
+{
+    if t < leaf::wide(super::table_count(&cells[0])) {
+        if c < leaf::wide(super::width(&cells[1 + t])) {
+            return column_of(&cells[1 + TABLES + COLUMNS * t + c]);
+        }
+    }
+    [0u8; ENTRY]
+}
+
+// Entry i written anew: the database's, a table's or a column's.
 fn entry_anew(cells: &Catalog, i: usize) -> Entry
     requires { ⌜ Readable (now cells) ⌝ }
     requires { ⌜ i < entryCount ⌝ }
@@ -54,22 +80,11 @@ fn entry_anew(cells: &Catalog, i: usize) -> Entry
     if i == 0 {
         return database_of(&cells[0]);
     }
-    let n = leaf::wide(super::table_count(&cells[0]));
     if i <= TABLES {
-        if i <= n {
-            return table_of(&cells[i]);
-        }
-        return [0u8; ENTRY];
+        return table_anew(cells, i - 1);
     }
-    let t = (i - 1 - TABLES) / COLUMNS;
-    let c = (i - 1 - TABLES) % COLUMNS;
-    if n <= t {
-        return [0u8; ENTRY];
-    }
-    if leaf::wide(super::width(&cells[1 + t])) <= c {
-        return [0u8; ENTRY];
-    }
-    column_of(&cells[i])
+    let k = i - 1 - TABLES;
+    column_anew(cells, k / COLUMNS, k % COLUMNS)
 }
 
 // All entries written anew.

@@ -13,8 +13,8 @@ use Rattle.model.specs.Base.{flat}
 use Rattle.model.specs.Records.{Change, born, gone, column, end, numbered, numberFrom, encode, bornKind, goneKind, columnKind, endKind, valueBytes}
 use Rattle.model.proofs.Octets.{big-octets, value-big, value-inj}
 use Rattle.octets.proofs.Rests.{write-next}
-use Rattle.answer.specs.Put.{putAt}
-use Rattle.answer.proofs.Putting.{put-none, put-append, put-zeros}
+use Rattle.json_writer.specs.Put.{putAt}
+use Rattle.json_writer.proofs.Putting.{put-none, put-append, put-zeros}
 use Rattle.changes.specs.declared.Cursor.{Cursor}
 use Rattle.changes.specs.Walk.{Written, written, put, puts, Room, Recorded}
 

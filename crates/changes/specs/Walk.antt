@@ -9,11 +9,15 @@ use Rattle.model.specs.Limits.{mostColumns, mostRows, storeBytes, rowRecordByte
 use Rattle.model.specs.Schema.{Schema}
 use Rattle.model.specs.Value.{Value, sameValue}
 use Rattle.model.specs.Rows.{Row, key, find}
-use Rattle.model.specs.Records.{Change, never, rowWrites, numbered, encode}
+use Rattle.model.specs.Records.{Change, never, rowWrites, writes, numbered, encode}
+use Rattle.model.specs.Areas.{rowFrom}
+use Rattle.model.specs.Catalog.{packedTables}
 use Rattle.model.specs.declared.Found.{Found}
 use Rattle.model.specs.declared.Found.the-variants.{At, Nothing}
-use Rattle.area.specs.Layout.{rowAt}
-use Rattle.answer.specs.Put.{putAt}
+use Rattle.inner.specs.Positions.{isNothing}
+use Rattle.inner.specs.Working.{working, tableIn, idIn}
+use Rattle.area.specs.Layout.{rowAt, rowsAt}
+use Rattle.json_writer.specs.Put.{putAt}
 use Rattle.changes.specs.declared.Cursor.{Cursor}
 
 -- a buffer of records: how many are in it, where the next one begins, its bytes
@@ -67,6 +71,18 @@ oldCells a Nothing row = row
 abbrev pub fore : ℕ → List Row → ℕ
 fore k [] = 0
 fore k (r ∷ rs) = elim (ltb (key r) k) [ true ↦ suc (fore k rs) | false ↦ 0 ]
+
+-- the first m rows that an area has, and the first n working rows, by the schema's entries
+abbrev pub areaRows : List (List ℕ) → ℕ → List ℕ → List Row
+areaRows schema m area = working (packedTables schema) m (rowsAt m area)
+
+abbrev pub workingRows : List (List ℕ) → ℕ → List (List (List ℕ)) → List Row
+workingRows schema n rows = working (packedTables schema) n rows
+
+-- the columns that a row writes beside what was at its place before
+abbrev pub columnsWritten : List (List ℕ) → List ℕ → Found → List (List ℕ) → List Change
+columnsWritten schema area old row =
+    writes (skips (isNothing old)) (tableIn row) (idIn row) 0 (rowFrom (packedTables schema) (oldCells area old row) .columns) (rowFrom (packedTables schema) row .columns)
 
 -- ── what a row after the commit writes: "each new row .., each changed row .." ──
 unfoldable pub rowWritten : Schema → List Row → Row → List Change

@@ -25,12 +25,18 @@ ghost use Rattle.inner.specs.Working.{working, tableIn, idIn, keyIn, valueIn, O
 ghost use Rattle.area.specs.Layout.{rowsAt};
 ghost use Rattle.model.specs.Records.{born, gone, column, end, gones, writes, walk, diff, numberFrom, encode};
 ghost use Rattle.catalog.specs.Accepted.{Accepted};
-ghost use Rattle.changes.specs.Walk.{Room, Recorded, Old, oldCells, skips, fore, rowWritten, rowMost};
+ghost use Rattle.changes.specs.Walk.{Room, Recorded, Old, oldCells, skips, areaRows, workingRows, columnsWritten, fore, rowWritten, rowMost};
 
 // Where the next record goes: how many there are already, and where their bytes end.
 pub struct Cursor {
     pub count: usize,
     pub at: usize,
+}
+
+// How the records of a commit are numbered: the store's run, and the number of the last record before them.
+pub struct Numbering {
+    pub run: u32,
+    pub number: u32,
 }
 
 // How many numbers the bytes of one hold.
@@ -45,14 +51,14 @@ fn next(number: u32, count: usize) -> u32
 }
 
 // A row that went, by its table and id.
-fn put_gone(table: u8, id: &[u8], run: u32, number: u32, to: Cursor, records: &mut [u8]) -> Cursor
+fn put_gone(table: u8, id: &[u8], by: Numbering, to: Cursor, records: &mut [u8]) -> Cursor
     requires { ⌜ length (now id) ≡ idBytes ⌝ }
     requires { ⌜ Room rowRecordBytes to (length (now records)) ⌝ }
-    ensures { λ r. ⌜ Recorded run number (gone table (value (now (id .entry))) ∷ []) rowRecordBytes to (now (records .entry)) r (now (records .exit)) ⌝ }
+    ensures { λ r. ⌜ Recorded (by .run) (by .number) (gone table (value (now (id .entry))) ∷ []) rowRecordBytes to (now (records .entry)) r (now (records .exit)) ⌝ }
 {
     let at = to.at;
-    let n = next(number, to.count);
-    Gone::new(run, n, table).write(id, &mut records[at..]);
+    let n = next(by.number, to.count);
+    Gone::new(by.run, n, table).write(id, &mut records[at..]);
     Cursor {
         count: to.count + 1,
         at: at + Gone::LEN,
@@ -60,14 +66,14 @@ fn put_gone(table: u8, id: &[u8], run: u32, number: u32, to: Cursor, records: &m
 }
 
 // A new row, by its table and id.
-fn put_born(table: u8, id: &[u8], run: u32, number: u32, to: Cursor, records: &mut [u8]) -> Cursor
+fn put_born(table: u8, id: &[u8], by: Numbering, to: Cursor, records: &mut [u8]) -> Cursor
     requires { ⌜ length (now id) ≡ idBytes ⌝ }
     requires { ⌜ Room rowRecordBytes to (length (now records)) ⌝ }
-    ensures { λ r. ⌜ Recorded run number (born table (value (now (id .entry))) ∷ []) rowRecordBytes to (now (records .entry)) r (now (records .exit)) ⌝ }
+    ensures { λ r. ⌜ Recorded (by .run) (by .number) (born table (value (now (id .entry))) ∷ []) rowRecordBytes to (now (records .entry)) r (now (records .exit)) ⌝ }
 {
     let at = to.at;
-    let n = next(number, to.count);
-    Born::new(run, n, table).write(id, &mut records[at..]);
+    let n = next(by.number, to.count);
+    Born::new(by.run, n, table).write(id, &mut records[at..]);
     Cursor {
         count: to.count + 1,
         at: at + Born::LEN,
@@ -75,17 +81,21 @@ fn put_born(table: u8, id: &[u8], run: u32, number: u32, to: Cursor, records: &m
 }
 
 // Column c of a row.
-fn put_column(row: &Row, c: usize, run: u32, number: u32, to: Cursor, records: &mut [u8]) -> Cursor
+fn put_column(row: &Row, c: usize, by: Numbering, to: Cursor, records: &mut [u8]) -> Cursor
     requires { ⌜ Room columnRecordBytes to (length (now records)) ⌝ }
     requires { ⌜ c < mostColumns ⌝ }
-    ensures { λ r. ⌜ Recorded run number (column (tableIn (now (row .entry))) (idIn (now (row .entry))) c (valueIn c (now (row .entry))) ∷ []) columnRecordBytes to (now (records .entry)) r (now (records .exit)) ⌝ }
+    ensures { λ r. ⌜ Recorded (by .run) (by .number) (column (tableIn (now (row .entry))) (idIn (now (row .entry))) c (valueIn c (now (row .entry))) ∷ []) columnRecordBytes to (now (records .entry)) r (now (records .exit)) ⌝ }
 {
     let at = to.at;
-    let n = next(number, to.count);
+    let n = next(by.number, to.count);
     let table = rows::table_of(row);
     let count = rows::count_of(row, c);
     let atoms = rows::atoms_in(row, c);
-    Column::new(run, n, table, c as u8, count).write(rows::id_of(row), atoms, &mut records[at..]);
+    Column::new(by.run, n, table, c as u8, count).write(
+        rows::id_of(row),
+        atoms,
+        &mut records[at..],
+    );
     Cursor {
         count: to.count + 1,
         at: at + Column::LEN,
@@ -93,13 +103,13 @@ fn put_column(row: &Row, c: usize, run: u32, number: u32, to: Cursor, records: &
 }
 
 // The end of a commit.
-fn put_end(run: u32, number: u32, to: Cursor, records: &mut [u8]) -> Cursor
+fn put_end(by: Numbering, to: Cursor, records: &mut [u8]) -> Cursor
     requires { ⌜ Room endBytes to (length (now records)) ⌝ }
-    ensures { λ r. ⌜ Recorded run number (end ∷ []) endBytes to (now (records .entry)) r (now (records .exit)) ⌝ }
+    ensures { λ r. ⌜ Recorded (by .run) (by .number) (end ∷ []) endBytes to (now (records .entry)) r (now (records .exit)) ⌝ }
 {
     let at = to.at;
-    let n = next(number, to.count);
-    End::new(run, n).write(&mut records[at..]);
+    let n = next(by.number, to.count);
+    End::new(by.run, n).write(&mut records[at..]);
     Cursor {
         count: to.count + 1,
         at: at + End::LEN,
@@ -152,22 +162,21 @@ fn put_columns(
     area: &[u8],
     old: Found,
     row: &Row,
-    run: u32,
-    number: u32,
+    by: Numbering,
     start: Cursor,
     records: &mut [u8],
 ) -> Cursor
     requires { ⌜ Accepted (now schema) ⌝ }
     requires { ⌜ Old (now area) old ⌝ }
     requires { ⌜ Room (mostColumns * columnRecordBytes) start (length (now records)) ⌝ }
-    ensures { λ r. ⌜ Recorded run number (writes (skips (isNothing old)) (tableIn (now (row .entry))) (idIn (now (row .entry))) 0 (rowFrom (packedTables (now (schema .entry))) (oldCells (now (area .entry)) old (now (row .entry))) .columns) (rowFrom (packedTables (now (schema .entry))) (now (row .entry)) .columns)) (mostColumns * columnRecordBytes) start (now (records .entry)) r (now (records .exit)) ⌝ }
+    ensures { λ r. ⌜ Recorded (by .run) (by .number) (columnsWritten (now (schema .entry)) (now (area .entry)) old (now (row .entry))) (mostColumns * columnRecordBytes) start (now (records .entry)) r (now (records .exit)) ⌝ }
 {
     let w = width_of(schema, area, old, row);
     let mut to = start;
     let mut c = 0;
     while c < w {
         if !is_left(area, old, row, c) {
-            let past = put_column(row, c, run, number, to, records);
+            let past = put_column(row, c, by, to, records);
             to = past;
         }
         c += 1;
@@ -181,15 +190,14 @@ fn put_gones(
     m: usize,
     after: &[Row],
     n: usize,
-    run: u32,
-    number: u32,
+    by: Numbering,
     start: Cursor,
     records: &mut [u8],
 ) -> Cursor
     requires { ⌜ (storeBytes ≤ length (now area)) × (m ≤ mostRows) ⌝ }
     requires { ⌜ Ordered n (now after) ⌝ }
     requires { ⌜ Room (rowRecordBytes * m) start (length (now records)) ⌝ }
-    ensures { λ r. ⌜ ((s : Schema) → Recorded run number (gones (working s n (now (after .entry))) (working s m (rowsAt m (now (area .entry))))) (rowRecordBytes * m) start (now (records .entry)) r (now (records .exit))) ⌝ }
+    ensures { λ r. ⌜ ((s : Schema) → Recorded (by .run) (by .number) (gones (working s n (now (after .entry))) (working s m (rowsAt m (now (area .entry))))) (rowRecordBytes * m) start (now (records .entry)) r (now (records .exit))) ⌝ }
 {
     let mut to = start;
     let mut i = 0;
@@ -198,7 +206,7 @@ fn put_gones(
         let table = key[0];
         let id = &key[ID_OFFSET..COUNTS_OFFSET];
         if !rows::has_key(after, n, table, id) {
-            let past = put_gone(table, id, run, number, to, records);
+            let past = put_gone(table, id, by, to, records);
             to = past;
         }
         i += 1;
@@ -250,8 +258,7 @@ fn put_row(
     m: usize,
     old: Found,
     row: &Row,
-    run: u32,
-    number: u32,
+    by: Numbering,
     to: Cursor,
     records: &mut [u8],
 ) -> Cursor
@@ -259,14 +266,14 @@ fn put_row(
     requires { ⌜ (storeBytes ≤ length (now area)) × (m ≤ mostRows) ⌝ }
     requires { ⌜ old ≡ place (keyIn (now row)) (working (packedTables (now schema)) m (rowsAt m (now area))) ⌝ }
     requires { ⌜ Room rowMost to (length (now records)) ⌝ }
-    ensures { λ r. ⌜ Recorded run number (rowWritten (packedTables (now (schema .entry))) (working (packedTables (now (schema .entry))) m (rowsAt m (now (area .entry)))) (rowFrom (packedTables (now (schema .entry))) (now (row .entry)))) rowMost to (now (records .entry)) r (now (records .exit)) ⌝ }
+    ensures { λ r. ⌜ Recorded (by .run) (by .number) (rowWritten (packedTables (now (schema .entry))) (areaRows (now (schema .entry)) m (now (area .entry))) (rowFrom (packedTables (now (schema .entry))) (now (row .entry)))) rowMost to (now (records .entry)) r (now (records .exit)) ⌝ }
 {
     match old {
-        Found::At(_) => put_columns(schema, area, old, row, run, number, to, records),
+        Found::At(_) => put_columns(schema, area, old, row, by, to, records),
         Found::Nothing => {
             let table = rows::table_of(row);
-            let past = put_born(table, rows::id_of(row), run, number, to, records);
-            put_columns(schema, area, old, row, run, number, past, records)
+            let past = put_born(table, rows::id_of(row), by, to, records);
+            put_columns(schema, area, old, row, by, past, records)
         }
     }
 }
@@ -278,8 +285,7 @@ fn put_rows(
     m: usize,
     after: &[Row],
     n: usize,
-    run: u32,
-    number: u32,
+    by: Numbering,
     start: Cursor,
     records: &mut [u8],
 ) -> Cursor
@@ -287,7 +293,7 @@ fn put_rows(
     requires { ⌜ (storeBytes ≤ length (now area)) × (m ≤ mostRows) ⌝ }
     requires { ⌜ Ordered m (rowsAt m (now area)) × Ordered n (now after) ⌝ }
     requires { ⌜ Room (rowMost * n) start (length (now records)) ⌝ }
-    ensures { λ r. ⌜ Recorded run number (walk (packedTables (now (schema .entry))) (working (packedTables (now (schema .entry))) m (rowsAt m (now (area .entry)))) (working (packedTables (now (schema .entry))) n (now (after .entry)))) (rowMost * n) start (now (records .entry)) r (now (records .exit)) ⌝ }
+    ensures { λ r. ⌜ Recorded (by .run) (by .number) (walk (packedTables (now (schema .entry))) (areaRows (now (schema .entry)) m (now (area .entry))) (workingRows (now (schema .entry)) n (now (after .entry)))) (rowMost * n) start (now (records .entry)) r (now (records .exit)) ⌝ }
 {
     let mut to = start;
     let mut j = 0;
@@ -295,7 +301,7 @@ fn put_rows(
     while i < n {
         let at = skip(area, m, j, &after[i]);
         let old = old_place(area, m, at, &after[i]);
-        let past = put_row(schema, area, m, old, &after[i], run, number, to, records);
+        let past = put_row(schema, area, m, old, &after[i], by, to, records);
         to = past;
         j = at;
         i += 1;
@@ -318,16 +324,17 @@ pub fn write(
     requires { ⌜ Accepted (now schema) ⌝ }
     requires { ⌜ (storeBytes ≤ length (now area)) × (m ≤ mostRows) × (n ≤ mostRows) × (leastRecords ≤ length (now records)) ⌝ }
     requires { ⌜ Ordered m (rowsAt m (now area)) × Ordered n (now after) ⌝ }
-    ensures { λ r. ⌜ r ≡ length (diff (packedTables (now (schema .entry))) (working (packedTables (now (schema .entry))) m (rowsAt m (now (area .entry)))) (working (packedTables (now (schema .entry))) n (now (after .entry)))) ⌝ }
-    ensures { λ _. ⌜ now (records .exit) ≡ filled (length (now (records .entry))) (flat (map encode (numberFrom run number (diff (packedTables (now (schema .entry))) (working (packedTables (now (schema .entry))) m (rowsAt m (now (area .entry)))) (working (packedTables (now (schema .entry))) n (now (after .entry))))))) ⌝ }
+    ensures { λ r. ⌜ r ≡ length (diff (packedTables (now (schema .entry))) (areaRows (now (schema .entry)) m (now (area .entry))) (workingRows (now (schema .entry)) n (now (after .entry)))) ⌝ }
+    ensures { λ _. ⌜ now (records .exit) ≡ filled (length (now (records .entry))) (flat (map encode (numberFrom run number (diff (packedTables (now (schema .entry))) (areaRows (now (schema .entry)) m (now (area .entry))) (workingRows (now (schema .entry)) n (now (after .entry))))))) ⌝ }
 {
     octets::clear(records);
+    let by = Numbering { run, number };
     let to = Cursor { count: 0, at: 0 };
-    let to = put_gones(area, m, after, n, run, number, to, records);
-    let to = put_rows(schema, area, m, after, n, run, number, to, records);
+    let to = put_gones(area, m, after, n, by, to, records);
+    let to = put_rows(schema, area, m, after, n, by, to, records);
     if to.count == 0 {
         return 0;
     }
-    let to = put_end(run, number, to, records);
+    let to = put_end(by, to, records);
     to.count
 }

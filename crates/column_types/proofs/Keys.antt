@@ -26,10 +26,10 @@ use Rattle.model.specs.SchemaText as ST
 use Rattle.model.proofs.Tests.{split, and-r, parts, bytes-same}
 use Rattle.members.specs.Fields.{choiceFrom, choice, slotTree, Slots}
 use Rattle.members.proofs.Slotted.{must-null, may-slot}
-use Rattle.catalog.specs.Entries.{entryNamed}
+use Rattle.catalog.specs.Entries.{isFound, entryNamed}
 use Rattle.column_types.proofs.Tables.{one-of, place-is}
-use Rattle.column_types.specs.declared.Key.{Key}
-use Rattle.column_types.specs.Types.{limitIn, boundIn, tableIn, isFound, placeByte, baseByte, howByte, limitTold, keyTold, KeyRead}
+use Rattle.column_types.specs.declared.Parts.{Parts}
+use Rattle.column_types.specs.Types.{limitIn, boundIn, tableIn, placeByte, baseByte, howByte, baseWords, refWords, limitAllowed, partsIn, keyAllowed, KeyRead}
 
 -- ── conjunctions ──
 pub both : {a b c d : Bool} → a ≡ c → b ≡ d → (a && b) ≡ (c && d)
@@ -47,13 +47,10 @@ or-else true b h e = cc
 or-else false b h e = h
 
 -- ── bases ──
-abbrev pub baseWords : List (List ℕ)
-baseWords = ascii "integer" ∷ ascii "boolean" ∷ ascii "string" ∷ ascii "uuid" ∷ []
-
 module _ (j : Json) where
-  base-told : isBase j ≡ ltb (choice baseWords j) 4
+  base-allowed : isBase j ≡ ltb (choice baseWords j) 4
   unfolding isBase choice choiceFrom
-  base-told =
+  base-allowed =
       split
       (isWord (ascii "integer") j)
       (λ a. rw (choice, choiceFrom, a))
@@ -111,9 +108,6 @@ bound-by A b x y d f i o t u =
     (λ g. split (eqb b 2) (λ h. rw (baseNumbered, e, g, h) t) (λ h. rw (baseNumbered, e, g, h) u)))
 
 -- ── how a key refers ──
-abbrev pub refWords : List (List ℕ)
-refWords = ascii "strong" ∷ ascii "weak" ∷ []
-
 not-both : (j : Json) → isWord (ascii "strong") j ≡ true → isWord (ascii "weak") j ≡ false
 unfolding isWord
 not-both null h = refl
@@ -124,9 +118,9 @@ not-both (arr xs) h = refl
 not-both (obj ms) h = refl
 
 module _ (j : Json) where
-  kind-told : (isWord (ascii "strong") j || isWord (ascii "weak") j) ≡ ltb (choice refWords j) 2
+  kind-allowed : (isWord (ascii "strong") j || isWord (ascii "weak") j) ≡ ltb (choice refWords j) 2
   unfolding choice choiceFrom
-  kind-told =
+  kind-allowed =
       split
       (isWord (ascii "strong") j)
       (λ a. rw (choice, choiceFrom, a))
@@ -178,8 +172,8 @@ module _ (s : List ℕ) (cells : List (List ℕ)) (j : Json) (f : List ℕ) (k :
   abbrev kind : ℕ
   kind = choice refWords (slotTree s (slot 6))
 
-  abbrev made : Key
-  made = record { fits = keyTold s f n base low high table kind; base = base; how = howByte (slot 5) kind; target = placeByte table; low = low; high = high }
+  abbrev allowed : Bool
+  allowed = keyAllowed s f (record { word = n; base = base; low = low; high = high; table = table; kind = kind })
 
   base-of : baseNumbered base ≡ keyBase ms
   base-of = base-is (slotTree s (slot 0)) ∙ ap ST.baseOf (sym (k .value 0 (omega arith)))
@@ -188,8 +182,8 @@ module _ (s : List ℕ) (cells : List (List ℕ)) (j : Json) (f : List ℕ) (k :
   same-base b m h = rw (← base-of, byte-number n, h)
 
   -- a limit that is there fits, or not
-  limit-told : (i : ℕ) (h : i < 7) (b : Base) (m : ℕ) → baseNumber b ≡ m → may (getD keyWords i []) (isLimit b (keyBase ms)) ms ≡ limitTold s (slot i) (eqb base m)
-  limit-told i h b m e = may-slot k i h (isLimit b (keyBase ms)) ∙ ap (λ (x : Bool). eqb (slot i) 0 || (x && isInteger (slotTree s (slot i)))) (same-base b m e)
+  limit-allowed : (i : ℕ) (h : i < 7) (b : Base) (m : ℕ) → baseNumber b ≡ m → may (getD keyWords i []) (isLimit b (keyBase ms)) ms ≡ limitAllowed s (slot i) (eqb base m)
+  limit-allowed i h b m e = may-slot k i h (isLimit b (keyBase ms)) ∙ ap (λ (x : Bool). eqb (slot i) 0 || (x && isInteger (slotTree s (slot i)))) (same-base b m e)
 
   limit-is : (i : ℕ) (h : i < 7) (d : Whole) → limitOr (getD keyWords i []) (wholeInt d) ms ≡ wholeInt (limitIn s (slot i) d)
   unfolding limitOr limitIn
@@ -222,54 +216,54 @@ module _ (s : List ℕ) (cells : List (List ℕ)) (j : Json) (f : List ℕ) (k :
       ∙ int-by (limitIn s (slot 2) d) (limitIn s (slot 4) d) d)
 
   -- the table that it refers to is one of the tables
-  table-told : (eqb (slot 5) 0 ≡ false) → isFound table ≡ isOneOf (map entryName cells) (slotTree s (slot 5))
+  table-allowed : (eqb (slot 5) 0 ≡ false) → isFound table ≡ isOneOf (map entryName cells) (slotTree s (slot 5))
   unfolding tableIn entryNamed
-  table-told e = rw (tableIn, e) (one-of (map entryName cells) ids (slotTree s (slot 5)))
+  table-allowed e = rw (tableIn, e) (one-of (map entryName cells) ids (slotTree s (slot 5)))
 
-  refer-told : may (ascii "refTable") (λ (x : Json). sameBase (keyBase ms) uuid && isOneOf (map entryName cells) x) ms ≡ (eqb (slot 5) 0 || (eqb base 3 && isFound table))
+  refer-allowed : may (ascii "refTable") (λ (x : Json). sameBase (keyBase ms) uuid && isOneOf (map entryName cells) x) ms ≡ (eqb (slot 5) 0 || (eqb base 3 && isFound table))
   unfolding baseNumber
-  refer-told =
+  refer-allowed =
       may-slot k 5 (omega arith) (λ (x : Json). sameBase (keyBase ms) uuid && isOneOf (map entryName cells) x)
       ∙ split
       (eqb (slot 5) 0)
       (λ e. rw e)
-      (λ e. rw e (both (same-base uuid 3 refl) (sym (table-told e))))
+      (λ e. rw e (both (same-base uuid 3 refl) (sym (table-allowed e))))
 
-  type-told : may (ascii "refType") (λ (x : Json). isWord (ascii "strong") x || isWord (ascii "weak") x) ms ≡ (eqb (slot 6) 0 || ltb kind 2)
-  type-told = may-slot k 6 (omega arith) (λ (x : Json). isWord (ascii "strong") x || isWord (ascii "weak") x) ∙ ap (λ (b : Bool). eqb (slot 6) 0 || b) (kind-told (slotTree s (slot 6)))
+  type-allowed : may (ascii "refType") (λ (x : Json). isWord (ascii "strong") x || isWord (ascii "weak") x) ms ≡ (eqb (slot 6) 0 || ltb kind 2)
+  type-allowed = may-slot k 6 (omega arith) (λ (x : Json). isWord (ascii "strong") x || isWord (ascii "weak") x) ∙ ap (λ (b : Bool). eqb (slot 6) 0 || b) (kind-allowed (slotTree s (slot 6)))
 
-  with-told : (hasMember (ascii "refTable") ms || not (hasMember (ascii "refType") ms)) ≡ (not (eqb (slot 5) 0) || eqb (slot 6) 0)
-  with-told = rw (k .here 5 (omega arith), k .here 6 (omega arith)) (split (eqb (slot 6) 0) (λ e. rw e) (λ e. rw e))
+  with-allowed : (hasMember (ascii "refTable") ms || not (hasMember (ascii "refType") ms)) ≡ (not (eqb (slot 5) 0) || eqb (slot 6) 0)
+  with-allowed = rw (k .here 5 (omega arith), k .here 6 (omega arith)) (split (eqb (slot 6) 0) (λ e. rw e) (λ e. rw e))
 
   no-base : isBase null ≡ false
   unfolding isBase isWord
   no-base = refl
 
-  fits-is : keyTold s f n base low high table kind ≡ keyFits (map entryName cells) j
-  unfolding keyTold keyFits baseNumber
+  fits-is : allowed ≡ keyFits (map entryName cells) j
+  unfolding keyAllowed keyFits baseNumber
   fits-is =
       sym
       (both (k .listed)
-      (both (must-null k 0 (omega arith) isBase no-base ∙ base-told (slotTree s (slot 0)))
-      (both (limit-told 1 (omega arith) integer 0 refl)
-      (both (limit-told 2 (omega arith) integer 0 refl)
-      (both (limit-told 3 (omega arith) text 2 refl)
-      (both (limit-told 4 (omega arith) text 2 refl)
-      (both (sym (λ i. leZ (low-is i) (high-is i))) (both refer-told (both type-told (both with-told refl))))))))))
+      (both (must-null k 0 (omega arith) isBase no-base ∙ base-allowed (slotTree s (slot 0)))
+      (both (limit-allowed 1 (omega arith) integer 0 refl)
+      (both (limit-allowed 2 (omega arith) integer 0 refl)
+      (both (limit-allowed 3 (omega arith) text 2 refl)
+      (both (limit-allowed 4 (omega arith) text 2 refl)
+      (both (sym (λ i. leZ (low-is i) (high-is i))) (both refer-allowed (both type-allowed (both with-allowed refl))))))))))
 
   -- where a key that fits names a table, it is one of the tables
-  one-told : keyTold s f n base low high table kind ≡ true → eqb (slot 5) 0 ≡ false → isOneOf (map entryName cells) (slotTree s (slot 5)) ≡ true
+  one-allowed : allowed ≡ true → eqb (slot 5) 0 ≡ false → isOneOf (map entryName cells) (slotTree s (slot 5)) ≡ true
   unfolding keyFits
-  one-told h e =
+  one-allowed h e =
       let q : Json → Bool = λ (x : Json). sameBase (keyBase ms) uuid && isOneOf (map entryName cells) x in
       let t = parts (keyTests (map entryName cells) (keyBase ms) ms) (sym fits-is ∙ h) in
       and-r (sameBase (keyBase ms) uuid) _ (or-else (eqb (slot 5) 0) _ (sym (may-slot k 5 (omega arith) q) ∙ t .1 .1 .1 .1 .1 .1 .1 .0) e)
 
-  place-told : keyTold s f n base low high table kind ≡ true → eqb (slot 5) 0 ≡ false → placeByte table ≡ placeOr (textIn (memberValue (ascii "refTable") ms)) (map entryName cells)
+  place-allowed : allowed ≡ true → eqb (slot 5) 0 ≡ false → placeByte table ≡ placeOr (textIn (memberValue (ascii "refTable") ms)) (map entryName cells)
   unfolding tableIn entryNamed
-  place-told h e = rw (tableIn, e, k .value 5 (omega arith)) (place-is (map entryName cells) ids (slotTree s (slot 5)) (one-told h e) (omega (arith, length-map cells entryName)))
+  place-allowed h e = rw (tableIn, e, k .value 5 (omega arith)) (place-is (map entryName cells) ids (slotTree s (slot 5)) (one-allowed h e) (omega (arith, length-map cells entryName)))
 
-  refers-is : keyTold s f n base low high table kind ≡ true → refersFrom (howByte (slot 5) kind) (placeByte table) ≡ refersOf (map entryName cells) ms
+  refers-is : allowed ≡ true → refersFrom (howByte (slot 5) kind) (placeByte table) ≡ refersOf (map entryName cells) ms
   unfolding howByte refersOf
   refers-is h =
       split
@@ -277,18 +271,18 @@ module _ (s : List ℕ) (cells : List (List ℕ)) (j : Json) (f : List ℕ) (k :
       (λ e. rw (howByte, refersOf, k .here 5 (omega arith), e) (refers-none (placeByte table)))
       (λ e.
       rw
-      (howByte, refersOf, k .here 5 (omega arith), e, place-told h e, k .value 6 (omega arith), kind-weak (slotTree s (slot 6)))
+      (howByte, refersOf, k .here 5 (omega arith), e, place-allowed h e, k .value 6 (omega arith), kind-weak (slotTree s (slot 6)))
       (refers-from (eqb kind 1) (placeOr (textIn (memberValue (ascii "refTable") ms)) (map entryName cells))))
 
-  pub key-read : KeyRead (map entryName cells) j made
+  pub key-read : KeyRead (map entryName cells) j (let p = partsIn s cells f in record { fits = keyAllowed s f p; base = p .base; how = howByte (slot 5) (p .kind); target = placeByte (p .table); low = p .low; high = p .high })
+  unfolding partsIn
   key-read = record { fits = fits-is; base = base-of; refers = refers-is; low = low-is; high = high-is }
 
 -- the tests as the code makes them
-module _ (s f : List ℕ) (n base : ℕ) (low high : Whole) (table : Found) (kind : ℕ) where
-  pub key-told : (a b c d o t : Bool) → a ≡ limitTold s (getD f 1 0) (eqb base 0) → b ≡ limitTold s (getD f 2 0) (eqb base 0) → c ≡ limitTold s (getD f 3 0) (eqb base 2) → d ≡ limitTold s (getD f 4 0) (eqb base 2) → o ≡ leZ (wholeInt low) (wholeInt high) → t ≡ isFound table → (eqb (getD f 9 0) 0 && (ltb n 4 && (a && (b && (c && (d && (o && ((eqb (getD f 5 0) 0 || (eqb base 3 && t)) && ((eqb (getD f 6 0) 0 || ltb kind 2) && (not (eqb (getD f 5 0) 0) || eqb (getD f 6 0) 0)))))))))) ≡ keyTold s f n base low high table kind
-  unfolding keyTold
-  key-told a b c d o t ea eb ec ed eo et =
-      rw (ea, eb, ec, ed, eo, et) (sym (last-of (eqb (getD f 9 0) 0) (ltb n 4) (limitTold s (getD f 1 0) (eqb base 0)) (limitTold s (getD f 2 0) (eqb base 0)) (limitTold s (getD f 3 0) (eqb base 2)) (limitTold s (getD f 4 0) (eqb base 2)) (leZ (wholeInt low) (wholeInt high)) (eqb (getD f 5 0) 0 || (eqb base 3 && isFound table)) (eqb (getD f 6 0) 0 || ltb kind 2) (not (eqb (getD f 5 0) 0) || eqb (getD f 6 0) 0)))
-    where
-      last-of : (a b c d e g h i j k : Bool) → (a && (b && (c && (d && (e && (g && (h && (i && (j && (k && true)))))))))) ≡ (a && (b && (c && (d && (e && (g && (h && (i && (j && k)))))))))
-      last-of a b c d e g h i j k = ap (λ (x : Bool). a && (b && (c && (d && (e && (g && (h && (i && (j && x))))))))) (last refl)
+module _ (s f : List ℕ) (k : Parts) where
+  pub key-allowed : (a b c d o t : Bool) → a ≡ limitAllowed s (getD f 1 0) (eqb (k .base) 0) → b ≡ limitAllowed s (getD f 2 0) (eqb (k .base) 0) → c ≡ limitAllowed s (getD f 3 0) (eqb (k .base) 2) → d ≡ limitAllowed s (getD f 4 0) (eqb (k .base) 2) → o ≡ leZ (wholeInt (k .low)) (wholeInt (k .high)) → t ≡ isFound (k .table) → (eqb (getD f 9 0) 0 && (ltb (k .word) 4 && (a && (b && (c && (d && (o && ((eqb (getD f 5 0) 0 || (eqb (k .base) 3 && t)) && ((eqb (getD f 6 0) 0 || ltb (k .kind) 2) && (not (eqb (getD f 5 0) 0) || eqb (getD f 6 0) 0)))))))))) ≡ keyAllowed s f k
+  unfolding keyAllowed
+  key-allowed a b c d o t ea eb ec ed eo et =
+      let z : Bool = not (eqb (getD f 5 0) 0) || eqb (getD f 6 0) 0 in
+      let e : z ≡ (z && true) = sym (last refl) in
+      λ i. eqb (getD f 9 0) 0 && (ltb (k .word) 4 && (ea i && (eb i && (ec i && (ed i && (eo i && ((eqb (getD f 5 0) 0 || (eqb (k .base) 3 && et i)) && ((eqb (getD f 6 0) 0 || ltb (k .kind) 2) && e i))))))))

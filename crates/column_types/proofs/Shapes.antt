@@ -20,21 +20,21 @@ use Rattle.model.proofs.Tests.{split, clash, and-l, and-r}
 use Rattle.members.specs.Fields.{choiceFrom, choice, slotTree, Slots}
 use Rattle.members.proofs.Slotted.{must-slot, may-slot, whole-none}
 use Rattle.column_types.specs.declared.Key.{Key}
-use Rattle.column_types.specs.Types.{KeyRead, KeyIn, maxIn, typeTold, TypeRead}
+use Rattle.column_types.specs.Types.{KeyRead, KeyIn, maxIn, typeAllowed, TypeRead}
 use Rattle.column_types.proofs.Keys.{both, last}
 
 abbrev pub typeWords : List (List ℕ)
 typeWords = ascii "key" ∷ ascii "min" ∷ ascii "max" ∷ []
 
-word-told : (w : List ℕ) (j : Json) → isWord w j ≡ eqb (choice (w ∷ []) j) 0
+word-allowed : (w : List ℕ) (j : Json) → isWord w j ≡ eqb (choice (w ∷ []) j) 0
 unfolding choice choiceFrom
-word-told w j = split (isWord w j) (λ e. rw (choice, choiceFrom, e)) (λ e. rw (choice, choiceFrom, e))
+word-allowed w j = split (isWord w j) (λ e. rw (choice, choiceFrom, e)) (λ e. rw (choice, choiceFrom, e))
 
 size-other : (d : ℕ) → sizeOr d Other ≡ d
 unfolding sizeOr
 size-other d = refl
 
-module _ (s : List ℕ) (tables : List (List ℕ)) (j : Json) (f : List ℕ) (k : Slots s typeWords (typeMembers j) f) (key : Key) (told : KeyIn s tables (getD f 0 0) key) where
+module _ (s : List ℕ) (tables : List (List ℕ)) (j : Json) (f : List ℕ) (k : Slots s typeWords (typeMembers j) f) (key : Key) (allowed : KeyIn s tables (getD f 0 0) key) where
   abbrev ts : List Named
   ts = typeMembers j
 
@@ -47,14 +47,14 @@ module _ (s : List ℕ) (tables : List (List ℕ)) (j : Json) (f : List ℕ) (k 
   abbrev most : Whole
   most = wholeOf (slotTree s (slot 2))
 
-  key-told : must (ascii "key") (keyFits tables) ts ≡ key .fits
-  key-told =
+  key-allowed : must (ascii "key") (keyFits tables) ts ≡ key .fits
+  key-allowed =
       must-slot k 0 (omega arith) (keyFits tables)
-      ∙ split (eqb (slot 0) 0) (λ e. rw e (sym (told .none e))) (λ e. rw e (sym (told .some e .fits)))
+      ∙ split (eqb (slot 0) 0) (λ e. rw e (sym (allowed .none e))) (λ e. rw e (sym (allowed .some e .fits)))
 
-  max-told : may (ascii "max") isMax ts ≡ (eqb (slot 2) 0 || (isWithin 1 mostElements most || eqb (choice (ascii "unlimited" ∷ []) (slotTree s (slot 2))) 0))
+  max-allowed : may (ascii "max") isMax ts ≡ (eqb (slot 2) 0 || (isWithin 1 mostElements most || eqb (choice (ascii "unlimited" ∷ []) (slotTree s (slot 2))) 0))
   unfolding isMax
-  max-told = may-slot k 2 (omega arith) isMax ∙ ap (λ (b : Bool). eqb (slot 2) 0 || (isWithin 1 mostElements most || b)) (word-told (ascii "unlimited") (slotTree s (slot 2)))
+  max-allowed = may-slot k 2 (omega arith) isMax ∙ ap (λ (b : Bool). eqb (slot 2) 0 || (isWithin 1 mostElements most || b)) (word-allowed (ascii "unlimited") (slotTree s (slot 2)))
 
   min-is : sizeOr 1 least ≡ minOf ts
   min-is =
@@ -71,30 +71,30 @@ module _ (s : List ℕ) (tables : List (List ℕ)) (j : Json) (f : List ℕ) (k 
       (λ e. rw (maxIn, maxOf, k .here 2 (omega arith), e))
       (λ e. rw (maxIn, maxOf, k .here 2 (omega arith), e) (ap (λ (x : Json). sizeOr mostElements (wholeOf x)) (sym (k .value 2 (omega arith)))))
 
-  fits-is : typeTold s f (key .fits) least most ≡ typeFits tables j
-  unfolding typeTold typeFits
+  fits-is : typeAllowed s f (key .fits) least most ≡ typeFits tables j
+  unfolding typeAllowed typeFits
   fits-is =
       sym
       (both (k .listed)
-      (both key-told
-      (both (may-slot k 1 (omega arith) (λ (x : Json). isWithin 0 1 (wholeOf x))) (both max-told (both (sym (λ i. leb (min-is i) (max-is i))) refl)))))
+      (both key-allowed
+      (both (may-slot k 1 (omega arith) (λ (x : Json). isWithin 0 1 (wholeOf x))) (both max-allowed (both (sym (λ i. leb (min-is i) (max-is i))) refl)))))
 
-  key-is : typeTold s f (key .fits) least most ≡ true → KeyRead tables (memberValue (ascii "key") ts) key
-  unfolding typeTold
+  key-is : typeAllowed s f (key .fits) least most ≡ true → KeyRead tables (memberValue (ascii "key") ts) key
+  unfolding typeAllowed
   key-is h =
       let g : key .fits ≡ true = and-l (key .fits) _ (and-r (eqb (slot 9) 0) _ h) in
       split
       (eqb (slot 0) 0)
-      (λ e. absurd (clash (key .fits) g (told .none e)))
-      (λ e. subst (λ (x : Json). KeyRead tables x key) (sym (k .value 0 (omega arith))) (told .some e))
+      (λ e. absurd (clash (key .fits) g (allowed .none e)))
+      (λ e. subst (λ (x : Json). KeyRead tables x key) (sym (k .value 0 (omega arith))) (allowed .some e))
 
-  pub type-read : TypeRead tables j (record { fits = typeTold s f (key .fits) least most; key = key; min = sizeOr 1 least; max = maxIn (slot 2) most })
+  pub type-read : TypeRead tables j (record { fits = typeAllowed s f (key .fits) least most; key = key; min = sizeOr 1 least; max = maxIn (slot 2) most })
   type-read = record { fits = fits-is; key = key-is; min = min-is; max = max-is }
 
 -- the tests as the code makes them
-pub type-told : (s f : List ℕ) (k : Bool) (least most : Whole) (a b : Bool) (u n m : ℕ) → a ≡ isWithin 0 1 least → b ≡ isWithin 1 4 most → u ≡ choice (ascii "unlimited" ∷ []) (slotTree s (getD f 2 0)) → n ≡ sizeOr 1 least → m ≡ maxIn (getD f 2 0) most → (eqb (getD f 9 0) 0 && (k && ((eqb (getD f 1 0) 0 || a) && ((eqb (getD f 2 0) 0 || (b || eqb u 0)) && leb n m)))) ≡ typeTold s f k least most
-unfolding typeTold
-type-told s f k least most a b u n m ea eb eu en em =
+pub type-allowed : (s f : List ℕ) (k : Bool) (least most : Whole) (a b : Bool) (u n m : ℕ) → a ≡ isWithin 0 1 least → b ≡ isWithin 1 4 most → u ≡ choice (ascii "unlimited" ∷ []) (slotTree s (getD f 2 0)) → n ≡ sizeOr 1 least → m ≡ maxIn (getD f 2 0) most → (eqb (getD f 9 0) 0 && (k && ((eqb (getD f 1 0) 0 || a) && ((eqb (getD f 2 0) 0 || (b || eqb u 0)) && leb n m)))) ≡ typeAllowed s f k least most
+unfolding typeAllowed
+type-allowed s f k least most a b u n m ea eb eu en em =
     rw (ea, eb, eu, en, em)
     (ap
     (λ (x : Bool). eqb (getD f 9 0) 0 && (k && ((eqb (getD f 1 0) 0 || isWithin 0 1 least) && ((eqb (getD f 2 0) 0 || (isWithin 1 4 most || eqb (choice (ascii "unlimited" ∷ []) (slotTree s (getD f 2 0))) 0)) && x))))

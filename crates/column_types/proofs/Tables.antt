@@ -3,7 +3,7 @@ use mathlib.Core.Path.{_≡_, refl, sym, ap, _∙_}
 use mathlib.Core.List.{List, [], _∷_}
 use mathlib.Core.Bool.{true, false, not}
 use mathlib.Core.Option.{Option, none, some}
-use Prim.Native.Nat.{ℕ, suc, _-_, _<_, _≤_}
+use Prim.Native.Nat.{ℕ, _<_, _≤_}
 use native.Mathlib.Omega.{arith}
 use borrow.Author.Tests.{lt-ltb, leb-false}
 use lib.Dec.{leb}
@@ -11,7 +11,7 @@ use lib.ListN.{length}
 use Rattle.model.specs.Octets.{eqBytes}
 use Rattle.model.specs.Base.{all, member, placeOf}
 use Rattle.model.specs.Json.{Json, null, bool, num, str, arr, obj}
-use Rattle.model.specs.Nav.{kindOf, isText, textIn}
+use Rattle.model.specs.Nav.{kindOf, textIn}
 use Rattle.inner.specs.Positions.{wordIn}
 use Rattle.model.specs.Value.{textOf}
 use Rattle.model.specs.SchemaText.{isOneOf, isId, placeOr}
@@ -19,9 +19,10 @@ use Rattle.model.proofs.Tests.{split, clash, and-l, and-r, bytes-same}
 use Rattle.model.proofs.Atoms.{textOf-textAtom}
 use Rattle.model.proofs.SchemaLaws.{place-below}
 use Rattle.names.specs.Names.{shortCell, nameCell}
-use Rattle.catalog.specs.Entries.{foundAt}
+use Rattle.catalog.specs.Entries.{foundAt, isFound}
 use Rattle.catalog.proofs.Ids.{id-none, id-long}
-use Rattle.column_types.specs.Types.{isFound, placeByte}
+use Rattle.catalog.proofs.Lookups.{found-member}
+use Rattle.column_types.specs.Types.{placeByte}
 
 -- what is no id is not among ids
 not-id : (w : List ℕ) (ws : List (List ℕ)) → all isId ws ≡ true → isId w ≡ false → member w ws ≡ false
@@ -32,17 +33,7 @@ not-id w (x ∷ ws) h e =
     (λ q. absurd (let r : w ≡ x = bytes-same w x q in clash (isId x) (and-l (isId x) _ h) (rw r at e)))
     (λ q. rw q (not-id w ws (and-r (isId x) _ h) e))
 
--- a place is found exactly of what is there
-found-member : (w : List ℕ) (ws : List (List ℕ)) → isFound (foundAt (placeOf w ws)) ≡ member w ws
-unfolding isFound foundAt
-found-member w [] = refl
-found-member w (x ∷ ws) =
-    split (eqBytes w x) (λ e. rw (placeOf, e)) (λ e. rw (placeOf, e) (later (placeOf w ws) ∙ found-member w ws))
-  where
-    later : (o : Option ℕ) → isFound (foundAt (elim o [ none ↦ none | some k ↦ some (suc k) ])) ≡ isFound (foundAt o)
-    later none = refl
-    later (some k) = refl
-
+-- what is not there has no place
 none-there : (w : List ℕ) (ws : List (List ℕ)) → member w ws ≡ false → placeOf w ws ≡ none
 none-there w [] h = refl
 none-there w (x ∷ ws) h =

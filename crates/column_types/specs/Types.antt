@@ -9,9 +9,10 @@ use lib.Signed.{leZ}
 use Rattle.model.specs.declared.Found.{Found}
 use Rattle.model.specs.declared.Found.the-variants.{At, Nothing}
 use Rattle.model.specs.declared.Whole.{Whole}
+use Rattle.model.specs.declared.Whole.the-variants.{Plus, Minus}
 use Rattle.model.specs.Base.{ascii, every}
 use Rattle.model.specs.Limits.{mostElements}
-use Rattle.model.specs.Json.{Json, Named}
+use Rattle.model.specs.Json.{Json}
 use Rattle.model.specs.Members.{memberValue}
 use Rattle.model.specs.Whole.{wholeOf, wholeInt}
 use Rattle.model.specs.Value.{textOf}
@@ -20,8 +21,9 @@ use Rattle.model.specs.Catalog.{refersFrom}
 use Rattle.model.specs.SchemaText.{isInteger, isWithin, sizeOr, keyMembers, keyBase, keyFits, refersOf, lowOf, highOf, typeMembers, typeFits, minOf, maxOf}
 use Rattle.members.specs.Fields.{mostWords, choice, slotTree}
 use Rattle.names.specs.Names.{nameCell}
-use Rattle.catalog.specs.Entries.{entryNamed}
+use Rattle.catalog.specs.Entries.{isFound, entryNamed}
 use Rattle.column_types.specs.declared.Key.{Key}
+use Rattle.column_types.specs.declared.Parts.{Parts}
 use Rattle.column_types.specs.declared.Shape.{Shape}
 
 -- the limit in a slot, d where there is none
@@ -36,10 +38,6 @@ boundIn s base p q d = elim (eqb base 0) [ true ↦ limitIn s p d | false ↦ el
 unfoldable pub tableIn : List ℕ → List (List ℕ) → ℕ → Found
 tableIn s tables p = elim (eqb p 0) [ true ↦ Nothing | false ↦ entryNamed tables (textOf (nameCell (slotTree s p))) ]
 
-unfoldable pub isFound : Found → Bool
-isFound (At k) = true
-isFound Nothing = false
-
 -- a place as a byte, 0 where there is none
 unfoldable pub placeByte : Found → ℕ
 placeByte (At k) = elim (ltb k 256) [ true ↦ k | false ↦ 0 ]
@@ -53,22 +51,41 @@ baseByte k = elim (eqb k 0) [ true ↦ 0 | false ↦ elim (eqb k 1) [ true ↦ 1
 unfoldable pub howByte : ℕ → ℕ → ℕ
 howByte p kind = elim (eqb p 0) [ true ↦ 0 | false ↦ elim (eqb kind 1) [ true ↦ 2 | false ↦ 1 ] ]
 
--- the tests of a key by its slots
-abbrev pub limitTold : List ℕ → ℕ → Bool → Bool
-limitTold s p right = eqb p 0 || (right && isInteger (slotTree s p))
+-- what a key says by its slots: the words of its type and its refType by their numbers, its base and limits, and its table
+abbrev pub baseWords : List (List ℕ)
+baseWords = ascii "integer" ∷ ascii "boolean" ∷ ascii "string" ∷ ascii "uuid" ∷ []
 
-unfoldable pub keyTold : List ℕ → List ℕ → ℕ → ℕ → Whole → Whole → Found → ℕ → Bool
-keyTold s f n base low high table kind =
+abbrev pub refWords : List (List ℕ)
+refWords = ascii "strong" ∷ ascii "weak" ∷ []
+
+unfoldable pub partsIn : List ℕ → List (List ℕ) → List ℕ → Parts
+partsIn s tables f =
+    let n = choice baseWords (slotTree s (getD f 0 0)) in
+    record {
+      word = n;
+      base = baseByte n;
+      low = boundIn s (baseByte n) (getD f 1 0) (getD f 3 0) (Minus 9223372036854775808);
+      high = boundIn s (baseByte n) (getD f 2 0) (getD f 4 0) (Plus 9223372036854775807);
+      table = tableIn s tables (getD f 5 0);
+      kind = choice refWords (slotTree s (getD f 6 0));
+    }
+
+-- the tests of a key by its slots
+abbrev pub limitAllowed : List ℕ → ℕ → Bool → Bool
+limitAllowed s p right = eqb p 0 || (right && isInteger (slotTree s p))
+
+unfoldable pub keyAllowed : List ℕ → List ℕ → Parts → Bool
+keyAllowed s f k =
     every
     (eqb (getD f mostWords 0) 0
-    ∷ ltb n 4
-    ∷ limitTold s (getD f 1 0) (eqb base 0)
-    ∷ limitTold s (getD f 2 0) (eqb base 0)
-    ∷ limitTold s (getD f 3 0) (eqb base 2)
-    ∷ limitTold s (getD f 4 0) (eqb base 2)
-    ∷ leZ (wholeInt low) (wholeInt high)
-    ∷ (eqb (getD f 5 0) 0 || (eqb base 3 && isFound table))
-    ∷ (eqb (getD f 6 0) 0 || ltb kind 2)
+    ∷ ltb (k .word) 4
+    ∷ limitAllowed s (getD f 1 0) (eqb (k .base) 0)
+    ∷ limitAllowed s (getD f 2 0) (eqb (k .base) 0)
+    ∷ limitAllowed s (getD f 3 0) (eqb (k .base) 2)
+    ∷ limitAllowed s (getD f 4 0) (eqb (k .base) 2)
+    ∷ leZ (wholeInt (k .low)) (wholeInt (k .high))
+    ∷ (eqb (getD f 5 0) 0 || (eqb (k .base) 3 && isFound (k .table)))
+    ∷ (eqb (getD f 6 0) 0 || ltb (k .kind) 2)
     ∷ (not (eqb (getD f 5 0) 0) || eqb (getD f 6 0) 0)
     ∷ [])
 
@@ -90,8 +107,8 @@ unfoldable pub maxIn : ℕ → Whole → ℕ
 maxIn p w = elim (eqb p 0) [ true ↦ 1 | false ↦ sizeOr mostElements w ]
 
 -- the tests of a type by its slots
-unfoldable pub typeTold : List ℕ → List ℕ → Bool → Whole → Whole → Bool
-typeTold s f key least most =
+unfoldable pub typeAllowed : List ℕ → List ℕ → Bool → Whole → Whole → Bool
+typeAllowed s f key least most =
     every
     (eqb (getD f mostWords 0) 0
     ∷ key

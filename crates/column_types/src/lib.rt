@@ -17,9 +17,9 @@ ghost use Rattle.model.specs.Base.{all};
 ghost use Rattle.inner.specs.Positions.{Says, wellAt, treeAt};
 ghost use Rattle.model.specs.Whole.{wholeInt, isWhole};
 ghost use Rattle.model.specs.Catalog.{entryName};
-ghost use Rattle.model.specs.SchemaText.{isId, isInteger, isWithin, sizeOr, isMax};
+ghost use Rattle.model.specs.SchemaText.{isId, isInteger, isWithin, sizeOr};
 ghost use Rattle.members.specs.Fields.{slotTree};
-ghost use Rattle.column_types.specs.Types.{limitIn, boundIn, tableIn, isFound, placeByte, baseByte, howByte, keyTold, KeyRead, KeyIn, maxIn, typeTold, TypeRead};
+ghost use Rattle.column_types.specs.Types.{limitIn, boundIn, tableIn, placeByte, baseByte, howByte, partsIn, keyAllowed, KeyRead, KeyIn, maxIn, typeAllowed, TypeRead};
 
 // Elements of a set, at most.
 const MOST: u64 = ELEMENTS as u64;
@@ -40,6 +40,16 @@ pub struct Shape {
     pub key: Key,
     pub min: u64,
     pub max: u64,
+}
+
+// What a key says by its slots.
+struct Parts {
+    word: usize,
+    base: u8,
+    low: Whole,
+    high: Whole,
+    table: Found,
+    kind: usize,
 }
 
 fn is_whole(w: Whole) -> bool
@@ -166,15 +176,6 @@ fn table_in(text: &[u8], tables: &[Entry], p: usize) -> Found
     catalog::named(tables, t)
 }
 
-fn is_found(f: Found) -> bool
-    ensures { λ r. ⌜ r ≡ isFound f ⌝ }
-{
-    match f {
-        Found::At(_) => true,
-        Found::Nothing => false,
-    }
-}
-
 fn place_byte(f: Found) -> u8
     ensures { λ r. ⌜ r ≡ placeByte f ⌝ }
 {
@@ -217,33 +218,45 @@ fn how_byte(p: usize, kind: usize) -> u8
     1
 }
 
-// Whether a key fits: f has its slots, n is the number of its type's word.
-fn key_fits(
-    text: &[u8],
-    ends: &[u16],
-    f: Places,
-    n: usize,
-    base: u8,
-    low: Whole,
-    high: Whole,
-    table: Found,
-    kind: usize,
-) -> bool
+// What a key says by its slots f: the number of its type's word, its base, its limits, its table and the number of its refType's word.
+fn parts_in(text: &[u8], ends: &[u16], tables: &[Entry], f: Places) -> Parts
     requires { ⌜ Says (now text) (now ends) ⌝ }
-    ensures { λ r. ⌜ r ≡ keyTold (now (text .entry)) f n base low high table kind ⌝ }
+    ensures { λ r. ⌜ r ≡ partsIn (now (text .entry)) (now (tables .entry)) f ⌝ }
 {
-    let a = limit_fits(text, ends, f[1], base == 0);
-    let b = limit_fits(text, ends, f[2], base == 0);
-    let c = limit_fits(text, ends, f[3], base == 2);
-    let d = limit_fits(text, ends, f[4], base == 2);
+    let word = members::choice_in(text, f[0], b"\x07integer\x07boolean\x06string\x04uuid");
+    let base = base_byte(word);
+    let least = Whole::Minus(9223372036854775808);
+    let most = Whole::Plus(9223372036854775807);
+    let low = bound_in(text, ends, base, f[1], f[3], least);
+    let high = bound_in(text, ends, base, f[2], f[4], most);
+    Parts {
+        word,
+        base,
+        low,
+        high,
+        table: table_in(text, tables, f[5]),
+        kind: members::choice_in(text, f[6], b"\x06strong\x04weak"),
+    }
+}
+
+// Whether a key fits: f has its slots, and k is what it says by them.
+fn key_fits(text: &[u8], ends: &[u16], f: Places, k: Parts) -> bool
+    requires { ⌜ Says (now text) (now ends) ⌝ }
+    ensures { λ r. ⌜ r ≡ keyAllowed (now (text .entry)) f k ⌝ }
+{
+    let a = limit_fits(text, ends, f[1], k.base == 0);
+    let b = limit_fits(text, ends, f[2], k.base == 0);
+    let c = limit_fits(text, ends, f[3], k.base == 2);
+    let d = limit_fits(text, ends, f[4], k.base == 2);
+    let low = k.low;
+    let high = k.high;
+    let table = k.table;
     let o = at_most(low, high);
-    let t = is_found(table);
-    let p = f[5] == 0;
+    let t = catalog::is_found(table);
     let q = f[6] == 0;
-    let r = p | ((base == 3) & t);
-    let k = q | (kind < 2);
+    let r = (f[5] == 0) | ((k.base == 3) & t);
     let z = (f[5] != 0) | q;
-    (f[WORDS] == 0) & ((n < 4) & (a & (b & (c & (d & (o & (r & (k & z))))))))
+    (f[WORDS] == 0) & ((k.word < 4) & (a & (b & (c & (d & (o & (r & ((q | (k.kind < 2)) & z))))))))
 }
 
 // The key at `at`.
@@ -261,31 +274,14 @@ pub fn read_key(text: &[u8], ends: &[u16], tables: &[Entry], at: usize) -> Key
         at,
         b"\x04type\x0aminInteger\x0amaxInteger\x09minLength\x09maxLength\x08refTable\x07refType",
     );
-    let n = members::choice_in(text, f[0], b"\x07integer\x07boolean\x06string\x04uuid");
-    let base = base_byte(n);
-    let low = bound_in(
-        text,
-        ends,
-        base,
-        f[1],
-        f[3],
-        Whole::Minus(9223372036854775808),
-    );
-    let high = bound_in(
-        text,
-        ends,
-        base,
-        f[2],
-        f[4],
-        Whole::Plus(9223372036854775807),
-    );
-    let table = table_in(text, tables, f[5]);
-    let kind = members::choice_in(text, f[6], b"\x06strong\x04weak");
-    let fits = key_fits(text, ends, f, n, base, low, high, table, kind);
+    let k = parts_in(text, ends, tables, f);
+    let low = k.low;
+    let high = k.high;
+    let table = k.table;
     Key {
-        fits,
-        base,
-        how: how_byte(f[5], kind),
+        fits: key_fits(text, ends, f, k),
+        base: k.base,
+        how: how_byte(f[5], k.kind),
         target: place_byte(table),
         low,
         high,
@@ -332,7 +328,7 @@ fn max_in(p: usize, w: Whole) -> u64
 
 // Whether min and max fit: f has a type's slots, least and most are their integers, and k whether its key fits.
 fn type_fits(text: &[u8], f: Places, k: bool, least: Whole, most: Whole) -> bool
-    ensures { λ r. ⌜ r ≡ typeTold (now (text .entry)) f k least most ⌝ }
+    ensures { λ r. ⌜ r ≡ typeAllowed (now (text .entry)) f k least most ⌝ }
 {
     let a = is_within(0, 1, least);
     let b = is_within(1, MOST, most);

@@ -32,7 +32,7 @@ use Rattle.column_types.specs.Types.{KeyRead, TypeRead}
 use Rattle.column_types.proofs.Keys.{both}
 use Rattle.catalog.specs.Writing.{limitBytes}
 use Rattle.columns.specs.Parts.{memberOf}
-use Rattle.columns.specs.Columns.{small, shapeBytes, TypeIn, truthTold, columnTold, ColumnRead}
+use Rattle.columns.specs.Columns.{small, shapeBytes, TypeIn, truthAllowed, columnAllowed, ColumnRead}
 use Rattle.columns.proofs.Gathering.{cell-id, cell-short}
 use Rattle.columns.proofs.Sizes.{low-back, high-back, sizes-few}
 
@@ -101,7 +101,7 @@ name-read (x ∷ xs) rest l h = take-append-le x xs rest (omega arith)
 abbrev pub columnWords : List (List ℕ)
 columnWords = ascii "type" ∷ ascii "ephemeral" ∷ ascii "mutable" ∷ []
 
-module _ (s : List ℕ) (tables : List (List ℕ)) (c : Named) (f : List ℕ) (k : Slots s columnWords (membersIn (c .value)) f) (t : Shape) (told : TypeIn s tables (getD f 0 0) t) where
+module _ (s : List ℕ) (tables : List (List ℕ)) (c : Named) (f : List ℕ) (k : Slots s columnWords (membersIn (c .value)) f) (t : Shape) (allowed : TypeIn s tables (getD f 0 0) t) where
   abbrev ms : List Named
   ms = membersIn (c .value)
 
@@ -111,26 +111,26 @@ module _ (s : List ℕ) (tables : List (List ℕ)) (c : Named) (f : List ℕ) (k
   abbrev j : Json
   j = memberValue (ascii "type") ms
 
-  type-told : must (ascii "type") (typeFits tables) ms ≡ t .fits
-  type-told =
+  type-allowed : must (ascii "type") (typeFits tables) ms ≡ t .fits
+  type-allowed =
       must-slot k 0 (omega arith) (typeFits tables)
-      ∙ split (eqb (slot 0) 0) (λ e. rw e (sym (told .none e))) (λ e. rw e (sym (told .some e .fits)))
+      ∙ split (eqb (slot 0) 0) (λ e. rw e (sym (allowed .none e))) (λ e. rw e (sym (allowed .some e .fits)))
 
-  fits-is : columnTold s f (t .fits) ≡ columnFits tables (c .value)
-  unfolding columnTold columnFits
-  fits-is = sym (both (k .listed) (both type-told (both (may-slot k 1 (omega arith) isBool) (both (may-slot k 2 (omega arith) isBool) refl))))
+  fits-is : columnAllowed s f (t .fits) ≡ columnFits tables (c .value)
+  unfolding columnAllowed columnFits
+  fits-is = sym (both (k .listed) (both type-allowed (both (may-slot k 1 (omega arith) isBool) (both (may-slot k 2 (omega arith) isBool) refl))))
 
-  module _ (fits : columnTold s f (t .fits) ≡ true) where
+  module _ (fits : columnAllowed s f (t .fits) ≡ true) where
     typed : t .fits ≡ true
-    unfolding columnTold
+    unfolding columnAllowed
     typed = and-l (t .fits) _ (and-r (eqb (slot 9) 0) _ fits)
 
     type-is : TypeRead tables j t
     type-is =
         split
         (eqb (slot 0) 0)
-        (λ e. absurd (clash (t .fits) typed (told .none e)))
-        (λ e. subst (λ (x : Json). TypeRead tables x t) (sym (k .value 0 (omega arith))) (told .some e))
+        (λ e. absurd (clash (t .fits) typed (allowed .none e)))
+        (λ e. subst (λ (x : Json). TypeRead tables x t) (sym (k .value 0 (omega arith))) (allowed .some e))
 
     abbrev ts : List Named
     ts = typeMembers j
@@ -167,7 +167,7 @@ module _ (s : List ℕ) (tables : List (List ℕ)) (c : Named) (f : List ℕ) (k
         let p7 : isSet cell 30 ≡ truthOr true (memberValue (ascii "mutable") ms) = ap (λ (x : ℕ). eqb x 1) (mutable-at name size t m rest) ∙ bit-is m ∙ ap (truthOr true) (sym (k .value 2 (omega arith))) in
         λ i. record { name = p0 i; base = p1 i; refers = p2 i; min = p3 i; max = p4 i; low = p5 i; high = p6 i; mutable = p7 i }
 
-  pub column-read : (name rest : List ℕ) → length name ≡ 25 → getD name 0 0 ≤ 24 → (isId (c .name) ≡ true → textOf name ≡ c .name) → ColumnRead tables c (record { fits = columnTold s f (t .fits); cell = (name ++ shapeBytes t (truthOr true (slotTree s (slot 2)))) ++ rest })
+  pub column-read : (name rest : List ℕ) → length name ≡ 25 → getD name 0 0 ≤ 24 → (isId (c .name) ≡ true → textOf name ≡ c .name) → ColumnRead tables c (record { fits = columnAllowed s f (t .fits); cell = (name ++ shapeBytes t (truthOr true (slotTree s (slot 2)))) ++ rest })
   column-read name rest size short is = record { fits = fits-is; column = λ i e. column-is e name rest size short (is i) }
 
 -- a name in the cell of a member
@@ -203,10 +203,10 @@ module _ (s : List ℕ) (p : ℕ) (well : isRead (memberAt (valueAt 12 s) s p .r
   member-value = let m = member-well s p well in rw (m .1) (ap (λ (x : Named). x .value) (member-is s p (m .0) (m .1)), m .2)
 
 -- the tests as the code makes them
-pub column-told : (s f : List ℕ) (typed e m : Bool) → e ≡ truthTold s (getD f 1 0) → m ≡ truthTold s (getD f 2 0) → (eqb (getD f 9 0) 0 && (typed && (e && m))) ≡ columnTold s f typed
-unfolding columnTold
-column-told s f typed e m p q =
-    rw (p, q) (ap (λ (x : Bool). eqb (getD f 9 0) 0 && (typed && (truthTold s (getD f 1 0) && x))) (sym (and-one (truthTold s (getD f 2 0)))))
+pub column-allowed : (s f : List ℕ) (typed e m : Bool) → e ≡ truthAllowed s (getD f 1 0) → m ≡ truthAllowed s (getD f 2 0) → (eqb (getD f 9 0) 0 && (typed && (e && m))) ≡ columnAllowed s f typed
+unfolding columnAllowed
+column-allowed s f typed e m p q =
+    rw (p, q) (ap (λ (x : Bool). eqb (getD f 9 0) 0 && (typed && (truthAllowed s (getD f 1 0) && x))) (sym (and-one (truthAllowed s (getD f 2 0)))))
   where
     and-one : (b : Bool) → (b && true) ≡ b
     and-one true = refl

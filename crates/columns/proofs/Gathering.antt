@@ -29,6 +29,7 @@ use Rattle.columns.specs.Parts.{memberOf, partsFew, Collected}
 
 -- places gathered so far: n of them, of members that count before g
 pub record Gathered (s : List ℕ) (most : ℕ) (j : Json) (n : ℕ) (places : List ℕ) (g : Found) : Type 0 where
+  pub object : isObject (kindOf j) ≡ true
   pub few : n ≤ most
   pub size : length places ≡ 6
   pub fine : membersFine s g ≡ true
@@ -77,39 +78,37 @@ below-six {n} {m} h k f = let l = below n m h f in omega arith
 below-next : (i n : ℕ) → i < n + 1 → (i ≡ n → ⊥) → i < n
 below-next i n h f = below i n (omega arith) f
 
-module _ (s : List ℕ) (most : ℕ) (small : most ≤ 6) (at : ℕ) where
-  abbrev j : Json
-  j = treeAt s at
+pub gather-start : (s : List ℕ) (most at : ℕ) → isObject (kindOf (treeAt s at)) ≡ true → (places : List ℕ) → length places ≡ 6 → wellAt s at ≡ true → Gathered s most (treeAt s at) 0 places (firstOf s 123 125 at)
+gather-start s most at o places l w =
+    let q = members-in s at w in
+    record {
+      object = o;
+      few = omega arith;
+      size = l;
+      fine = q .1;
+      ids = ap (λ (ms : List Named). all isId (names ms)) (q .0);
+      are = ap counting (q .0);
+      well = λ i h. absurd (omega arith);
+    }
 
-  nine : leb 9 most ≡ false
-  nine = lt-leb 9 most (omega arith)
+nine : {most : ℕ} → most ≤ 6 → leb 9 most ≡ false
+nine {most} small = lt-leb 9 most (omega arith)
 
+module _ {s : List ℕ} {most : ℕ} {j : Json} (small : most ≤ 6) where
   -- where it is refused
   refused : (places : List ℕ) → partsFew most j ≡ false → Collected s most j 9 places
   refused places h =
       record {
-        few = nine ∙ sym h;
-        are = λ e. absurd (clash (leb 9 most) e nine);
-        well = λ e. absurd (clash (leb 9 most) e nine);
+        few = nine small ∙ sym h;
+        are = λ e. absurd (clash (leb 9 most) e (nine small));
+        well = λ e. absurd (clash (leb 9 most) e (nine small));
       }
 
   pub not-object : (places : List ℕ) → isObject (kindOf j) ≡ false → Collected s most j 9 places
   unfolding partsFew
   not-object places h = refused places (rw h)
 
-  pub gather-start : (places : List ℕ) → length places ≡ 6 → wellAt s at ≡ true → Gathered s most j 0 places (firstOf s 123 125 at)
-  gather-start places l w =
-      let q = members-in s at w in
-      record {
-        few = omega arith;
-        size = l;
-        fine = q .1;
-        ids = ap (λ (ms : List Named). all isId (names ms)) (q .0);
-        are = ap counting (q .0);
-        well = λ i h. absurd (omega arith);
-      }
-
-  module _ (o : isObject (kindOf j) ≡ true) {n : ℕ} {places : List ℕ} {g : Found} (k : Gathered s most j n places g) where
+  module _ {n : ℕ} {places : List ℕ} {g : Found} (k : Gathered s most j n places g) where
     pub gather-end : g ≡ Nothing → Collected s most j n places
     unfolding partsFew counting
     gather-end e =
@@ -119,7 +118,7 @@ module _ (s : List ℕ) (most : ℕ) (small : most ≤ 6) (at : ℕ) where
         let i : all isId (names (membersIn j)) ≡ true = k .ids ∙ ap (λ (ms : List Named). all isId (names ms)) none in
         let t : length (take n places) ≡ n = length-take-le n places (let z = k .few in let y = k .size in omega arith) in
         let l : length (counting (membersIn j)) ≡ n = ap length c ∙ length-map (take n places) (memberOf s) ∙ t in
-        record { few = rw (o, i, l); are = λ h. sym c; well = λ h. k .well }
+        record { few = rw (k .object, i, l); are = λ h. sym c; well = λ h. k .well }
 
     module _ {p : ℕ} (e : g ≡ At p) where
       m : Named
@@ -149,7 +148,7 @@ module _ (s : List ℕ) (most : ℕ) (small : most ≤ 6) (at : ℕ) where
       name-bad h =
           let b : all isId (names (membersIn j)) ≡ false =
           k .ids ∙ ap (λ (ms : List Named). all isId (names ms)) (pass-rest s e) ∙ rw (sym id-is ∙ h) in
-          refused places (rw (o, b))
+          refused places (rw (k .object, b))
 
       -- the members from here on, past an id
       ids-next : isId w ≡ true → all isId (names (membersIn j)) ≡ all isId (names (membersFrom s (nextMember s p)))
@@ -161,6 +160,7 @@ module _ (s : List ℕ) (most : ℕ) (small : most ≤ 6) (at : ℕ) where
       pub gather-again : isId w ≡ true → hasMember w (membersFrom s (nextMember s p)) ≡ true → Gathered s most j n places (nextMember s p)
       gather-again h a =
           record {
+            object = k .object;
             few = k .few;
             size = k .size;
             fine = pass-fine s e (k .fine);
@@ -187,7 +187,7 @@ module _ (s : List ℕ) (most : ℕ) (small : most ≤ 6) (at : ℕ) where
           ∙ length-append (map (memberOf s) (take n places) ++ (memberOf s p ∷ [])) (counting (membersFrom s (nextMember s p)))
           ∙ ap (λ (x : ℕ). x + length (counting (membersFrom s (nextMember s p)))) (length-append (map (memberOf s) (take n places)) (memberOf s p ∷ []) ∙ ap (λ (x : ℕ). x + 1) (length-map (take n places) (memberOf s) ∙ t)) in
           let b : leb (length (counting (membersIn j))) most ≡ false = lt-leb (length (counting (membersIn j))) most (omega arith) in
-          refused places (rw (o, b) (and-none (all isId (names (membersIn j)))))
+          refused places (rw (k .object, b) (and-none (all isId (names (membersIn j)))))
 
       pub gather-more : isId w ≡ true → hasMember w (membersFrom s (nextMember s p)) ≡ false → (n ≡ most → ⊥) → Gathered s most j (n + 1) (set places n p) (nextMember s p)
       gather-more h a f =
@@ -195,6 +195,7 @@ module _ (s : List ℕ) (most : ℕ) (small : most ≤ 6) (at : ℕ) where
           let in6 : n < length places = (let y = k .size in omega arith) in
           let tk : take (n + 1) (set places n p) ≡ take n places ++ (p ∷ []) = rw add-one (take-suc-set places n p in6) in
           record {
+            object = k .object;
             few = omega arith;
             size = length-set places n p ∙ k .size;
             fine = pass-fine s e (k .fine);

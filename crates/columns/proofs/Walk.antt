@@ -19,12 +19,12 @@ module _ (s w : List ℕ) {g : Found} where
   has-end h = ap (hasMember w) (pass-end s h)
 
   module _ {p : ℕ} (h : g ≡ At p) (fine : membersFine s g ≡ true) where
-    name-told : isWord w (treeAt s p) ≡ eqBytes (memberOf s p .name) w
+    name-allowed : isWord w (treeAt s p) ≡ eqBytes (memberOf s p .name) w
     unfolding isWord
-    name-told = ap (isWord w) (pass-name s h fine)
+    name-allowed = ap (isWord w) (pass-name s h fine)
 
     first : hasMember w (membersFrom s g) ≡ (isWord w (treeAt s p) || hasMember w (membersFrom s (nextMember s p)))
-    first = ap (hasMember w) (pass-rest s h) ∙ has-or w (memberOf s p) (membersFrom s (nextMember s p)) ∙ ap (λ (b : Bool). b || hasMember w (membersFrom s (nextMember s p))) (sym name-told)
+    first = ap (hasMember w) (pass-rest s h) ∙ has-or w (memberOf s p) (membersFrom s (nextMember s p)) ∙ ap (λ (b : Bool). b || hasMember w (membersFrom s (nextMember s p))) (sym name-allowed)
 
     pub has-here : isWord w (treeAt s p) ≡ true → hasMember w (membersFrom s g) ≡ true
     has-here e = first ∙ rw e

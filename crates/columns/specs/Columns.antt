@@ -25,7 +25,8 @@ small x = elim (ltb x 256) [ true ↦ x | false ↦ 0 ]
 -- what follows the name in a column's cell
 unfoldable pub shapeBytes : Shape → Bool → List ℕ
 shapeBytes t mutable =
-    columnBytes (t .key .base) (t .key .how) (t .key .target) (small (t .min)) (small (t .max)) (bit mutable) (t .key .low) (t .key .high)
+    let k = t .key in
+    columnBytes (record { base = k .base; how = k .how; target = k .target; min = small (t .min); max = small (t .max); mutable = bit mutable; low = k .low; high = k .high })
 
 -- the type in a slot
 pub record TypeIn (s : List ℕ) (tables : List (List ℕ)) (p : ℕ) (r : Shape) : Type 0 where
@@ -33,11 +34,11 @@ pub record TypeIn (s : List ℕ) (tables : List (List ℕ)) (p : ℕ) (r : Shape
   pub some : eqb p 0 ≡ false → TypeRead tables (slotTree s p) r
 
 -- the tests of a column by its slots
-abbrev pub truthTold : List ℕ → ℕ → Bool
-truthTold s p = eqb p 0 || isBool (slotTree s p)
+abbrev pub truthAllowed : List ℕ → ℕ → Bool
+truthAllowed s p = eqb p 0 || isBool (slotTree s p)
 
-unfoldable pub columnTold : List ℕ → List ℕ → Bool → Bool
-columnTold s f typed = every (eqb (getD f mostWords 0) 0 ∷ typed ∷ truthTold s (getD f 1 0) ∷ truthTold s (getD f 2 0) ∷ [])
+unfoldable pub columnAllowed : List ℕ → List ℕ → Bool → Bool
+columnAllowed s f typed = every (eqb (getD f mostWords 0) 0 ∷ typed ∷ truthAllowed s (getD f 1 0) ∷ truthAllowed s (getD f 2 0) ∷ [])
 
 -- what was read of the column m
 pub record ColumnRead (tables : List (List ℕ)) (m : Named) (r : Read) : Type 0 where

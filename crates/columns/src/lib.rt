@@ -26,7 +26,7 @@ ghost use Rattle.model.specs.Catalog.{entryName};
 ghost use Rattle.catalog.specs.Writing.{columnEnd};
 ghost use Rattle.model.specs.SchemaText.{isId};
 ghost use Rattle.columns.specs.Parts.{memberOf, Collected};
-ghost use Rattle.columns.specs.Columns.{small, shapeBytes, TypeIn, truthTold, columnTold, ColumnRead, ColumnsPut, ColumnsRead};
+ghost use Rattle.columns.specs.Columns.{small, shapeBytes, TypeIn, truthAllowed, columnAllowed, ColumnRead, ColumnsPut, ColumnsRead};
 
 // A column: whether it fits, and its cell.
 pub struct Read {
@@ -51,18 +51,17 @@ fn put_column(out: &mut [u8], name: &Atom, t: Shape, mutable: bool)
     let k = t.key;
     let low = k.low;
     let high = k.high;
-    catalog::put_column(
-        out,
-        name,
-        k.base,
-        k.how,
-        k.target,
-        small(t.min),
-        small(t.max),
-        leaf::bit(mutable),
+    let s = catalog::Shape {
+        base: k.base,
+        how: k.how,
+        target: k.target,
+        min: small(t.min),
+        max: small(t.max),
+        mutable: leaf::bit(mutable),
         low,
         high,
-    );
+    };
+    catalog::put_column(out, name, s);
 }
 
 // No type.
@@ -100,7 +99,7 @@ fn type_in(text: &[u8], ends: &[u16], tables: &[Entry], p: usize) -> Shape
 
 // Whether a slot is empty, or holds true or false.
 fn truth_fits(text: &[u8], p: usize) -> bool
-    ensures { λ r. ⌜ r ≡ truthTold (now (text .entry)) p ⌝ }
+    ensures { λ r. ⌜ r ≡ truthAllowed (now (text .entry)) p ⌝ }
 {
     let k = members::kind_in(text, p);
     let t = leaf::is_kind(k, Kind::Truth);
@@ -109,7 +108,7 @@ fn truth_fits(text: &[u8], p: usize) -> bool
 
 // Whether a column fits: f has its slots, and typed says whether its type fits.
 fn column_fits(text: &[u8], f: Places, typed: bool) -> bool
-    ensures { λ r. ⌜ r ≡ columnTold (now (text .entry)) f typed ⌝ }
+    ensures { λ r. ⌜ r ≡ columnAllowed (now (text .entry)) f typed ⌝ }
 {
     let e = truth_fits(text, f[1]);
     let m = truth_fits(text, f[2]);

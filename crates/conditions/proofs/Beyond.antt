@@ -27,7 +27,7 @@ use Rattle.model.proofs.FaultLaws.{check-fine}
 use Rattle.element_atoms.specs.declared.Atom.the-variants.{Long}
 use Rattle.element_atoms.specs.Atoms.{cellOf, atomAs, atomsOf, Reads}
 use Rattle.element_atoms.proofs.Reading.{long-other}
-use Rattle.request_values.specs.Weights.{atomsAs}
+use Rattle.request_values.specs.Values.{atomsAs}
 use Rattle.request_values.proofs.Fits.{fine-judged}
 use Rattle.marks.specs.Marks.{every, met, keptAs, Sized}
 use Rattle.marks.proofs.Meeting.{other-length}

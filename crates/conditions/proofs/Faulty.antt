@@ -5,7 +5,6 @@ use mathlib.Core.List.{List, [], _∷_, map}
 use mathlib.Core.Option.{Option, none, some}
 use Prim.Native.Nat.{ℕ, _<_}
 use native.Mathlib.Omega.{arith}
-use borrow.Author.Tests.{le-leb, lt-leb, leb-true, leb-false}
 use lib.Dec.{eqb, leb}
 use lib.ListN.{length, getD}
 use Rattle.model.specs.declared.Found.{Found}
@@ -23,47 +22,15 @@ use Rattle.model.specs.Written.{Names, stringIn, testFault, written}
 use Rattle.model.specs.Conditions.{Subject, idColumn, isIntegerBase, orders, allowed, noTest, testBy, testOf, subjectNamed, functionNamed, readTests}
 use Rattle.model.specs.Catalog.{columnFrom}
 use Rattle.model.proofs.Tests.{split}
+use Rattle.model.proofs.FaultLaws.{earlier-last, earlier-assoc}
 use Rattle.nav.proofs.Walk.{walk-rest, walk-end}
 use Rattle.uuids.specs.Named.{namesAt}
-use Rattle.lookup.specs.declared.Triple.{Triple}
-use Rattle.lookup.specs.declared.Triple.the-variants as triple
-use Rattle.lookup.specs.Lookup.{Thrice, Triples}
+use Rattle.conditions.specs.declared.lookup.Triple.{Triple}
+use Rattle.conditions.specs.declared.lookup.Triple.the-variants as triple
+use Rattle.conditions.specs.Lookup.{Thrice, Triples}
 use Rattle.conditions.specs.declared.Named.{Named}
 use Rattle.conditions.specs.declared.Named.the-variants as named
 use Rattle.conditions.specs.Tests.{functionIn, About, subjectIn, columnFault, testAs, testAt, testsAt}
-
--- ── the earlier of faults ──
-pub earlier-first : (f : Fault) → earlier Fine f ≡ f
-earlier-first Fine = refl
-earlier-first Syntax = refl
-earlier-first Resources = refl
-earlier-first Duplicate = refl
-earlier-first Constraint = refl
-earlier-first Domain = refl
-earlier-first Range = refl
-earlier-first Aborted = refl
-earlier-first Integrity = refl
-
-pub earlier-last : (f : Fault) → earlier f Fine ≡ f
-earlier-last Fine = refl
-earlier-last Syntax = refl
-earlier-last Resources = refl
-earlier-last Duplicate = refl
-earlier-last Constraint = refl
-earlier-last Domain = refl
-earlier-last Range = refl
-earlier-last Aborted = refl
-earlier-last Integrity = refl
-
-pub earlier-assoc : (f g h : Fault) → earlier f (earlier g h) ≡ earlier (earlier f g) h
-earlier-assoc f g h =
-    split (leb (rank f) (rank g))
-    (λ a. split (leb (rank g) (rank h))
-    (λ b. let c : leb (rank f) (rank h) ≡ true = le-leb (rank f) (rank h) (omega (arith, leb-true (rank f) (rank g) a, leb-true (rank g) (rank h) b)) in rw (a, b) (rw (a, c) refl))
-    (λ b. rw (a, b)))
-    (λ a. split (leb (rank g) (rank h))
-    (λ b. rw (a, b) (rw a refl))
-    (λ b. let c : leb (rank f) (rank h) ≡ false = lt-leb (rank f) (rank h) (omega (arith, leb-false (rank f) (rank g) a, leb-false (rank g) (rank h) b)) in rw (a, b) (rw c refl)))
 
 -- ── what a column takes ──
 base-integer : (k : ℕ) → isIntegerBase (baseNumbered k) ≡ eqb k 0

@@ -30,7 +30,7 @@ use Rattle.model.proofs.Octets.{octet, big-value}
 use Rattle.model.proofs.FaultLaws.{earlier-fine}
 use Rattle.inner.proofs.Columns.{column-value}
 use Rattle.inner.proofs.Working.{row-table, row-id}
-use Rattle.request_values.specs.Weights.{atomsAs}
+use Rattle.request_values.specs.Values.{atomsAs}
 use Rattle.request_values.proofs.Fits.{fine-typed, fine-got}
 use Rattle.conditions.specs.declared.Named.{Named}
 use Rattle.conditions.specs.declared.Named.the-variants as named

@@ -1,5 +1,8 @@
+pub mod Columns
+pub mod Items
+pub mod Tables
 pub mod Faulty
 pub mod Naming
 pub mod Holding
 pub mod Beyond
-pub mod Told
+pub mod Narrowing

@@ -19,7 +19,7 @@ use Rattle.model.specs.Catalog.{columnFrom}
 use Rattle.model.proofs.Tests.{split}
 use Rattle.members.specs.Fields.{wordsFrom, wordsOf, choiceFrom, choice}
 use Rattle.catalog.specs.Entries.{foundAt}
-use Rattle.lookup.specs.Lookup.{columnIn}
+use Rattle.conditions.specs.Lookup.{columnIn}
 use Rattle.conditions.specs.declared.Named.the-variants as named
 use Rattle.conditions.specs.Tests.{chosen, functionBy, functionIn, About, subjectIn}
 

@@ -24,7 +24,7 @@ use Rattle.model.specs.declared.Fault.the-variants.{Syntax}
 use Rattle.model.specs.declared.Function.{Function}
 use Rattle.model.specs.declared.Function.the-variants.{Less, AtMost, Equal, Unequal, AtLeast, Greater, Includes, Excludes}
 use Rattle.uuids.specs.Named.{namesAt}
-use Rattle.request_values.specs.Weights.{atomsAs}
+use Rattle.request_values.specs.Values.{atomsAs}
 use Rattle.marks.specs.declared.Place.{Place}
 use Rattle.marks.specs.Marks.{keptAs, atomsAt, OfTable, Narrowed, MarkedRows}
 use Rattle.conditions.specs.declared.Choice.{Choice}
@@ -101,18 +101,18 @@ pub record Beyond (names : Names) (k : Base) (f : Function) (j : Json) : Type 0 
   pub unfit : fits k (atomsAs names k j) ≡ false
 
 -- what a condition on a column comes to: its fault r; where that is none the marks are narrowed by it, and else they stay
-pub record ValueTold (names : Names) (c : Column) (place : Place) (f : Function) (j : Json) (r : Fault) (rows : List (List (List ℕ))) (before after : List Bool) : Type 0 where
+pub record ValueNarrowed (names : Names) (c : Column) (place : Place) (f : Function) (j : Json) (r : Fault) (rows : List (List (List ℕ))) (before after : List Bool) : Type 0 where
   pub fault : r ≡ columnFault names c f j
   pub marks : isFine (columnFault names c f j) ≡ true → Narrowed (λ row. compare f (c .base) (atomsAt place row) (atomsAs names (c .base) j)) rows before after
   pub still : isFine (columnFault names c f j) ≡ false → after ≡ before
 
 -- the same of a condition that is read; a row is asked as one of a table with the columns cs
-pub record TestTold (cs : List Column) (t : Judged Test) (r : Fault) (rows : List (List (List ℕ))) (before after : List Bool) : Type 0 where
+pub record TestNarrowed (cs : List Column) (t : Judged Test) (r : Fault) (rows : List (List (List ℕ))) (before after : List Bool) : Type 0 where
   pub fault : r ≡ t .fault
   pub marks : isFine (t .fault) ≡ true → (q : List (List ℕ) → Bool) × Narrowed q rows before after × ((s : Schema) (row : List (List ℕ)) → columnsOf s (tableIn row) ≡ cs → q row ≡ holds (rowFrom s row) (t .got))
   pub still : isFine (t .fault) ≡ false → after ≡ before
 
 -- what all conditions come to: their fault r; where that is none, marks of a table's rows become those of its rows that meet them; else they are free
-pub record TestsTold (cs : List Column) (ts : Judged (List Test)) (r : Fault) (rows : List (List (List ℕ))) (before after : List Bool) : Type 0 where
+pub record TestsNarrowed (cs : List Column) (ts : Judged (List Test)) (r : Fault) (rows : List (List (List ℕ))) (before after : List Bool) : Type 0 where
   pub fault : r ≡ ts .fault
   pub marks : isFine (ts .fault) ≡ true → (table : ℕ) → OfTable table rows before → MarkedRows cs (ts .got) table (length rows) rows after

@@ -1,4 +1,6 @@
 // Conditions, [column, function, value]: each is read once, and narrows the marks of the rows that meet those before it.
+pub mod lookup;
+
 use lookup::Triple;
 use marks::Place;
 use model::ATOM;
@@ -21,9 +23,9 @@ ghost use Rattle.model.specs.Catalog.{baseNumbered, columnFrom};
 ghost use Rattle.model.specs.Conditions.{orders, allowed, compare};
 ghost use Rattle.uuids.specs.Named.{namesAt, Running};
 ghost use Rattle.element_atoms.specs.Atoms.{atomAs};
-ghost use Rattle.request_values.specs.Weights.{atomsAs};
+ghost use Rattle.request_values.specs.Values.{atomsAs};
 ghost use Rattle.marks.specs.Marks.{every, InRow, atomsAt, Narrowed};
-ghost use Rattle.conditions.specs.Tests.{chosen, functionBy, functionIn, About, subjectIn, testAt, testsAt, KeptAs, storing, Beyond, ValueTold, TestTold, TestsTold};
+ghost use Rattle.conditions.specs.Tests.{chosen, functionBy, functionIn, About, subjectIn, testAt, testsAt, KeptAs, storing, Beyond, ValueNarrowed, TestNarrowed, TestsNarrowed};
 
 // The base type of an id, by its number.
 const UUID: u8 = 3;
@@ -268,7 +270,7 @@ fn narrow_value(
     requires { ⌜ wellAt (now text) at ≡ true ⌝ }
     requires { ⌜ InRow (test .place) × (length (now rows) ≤ mostRows) ⌝ }
     requires { ⌜ baseNumbered (test .kind) ≡ columnFrom (now column) .base ⌝ }
-    ensures { λ r. ⌜ ValueTold (namesAt (now (text .entry)) (now (names .entry))) (columnFrom (now (column .entry))) (test .place) (test .function) (treeAt (now (text .entry)) at) r (now (rows .entry)) (now (marks .entry)) (now (marks .exit)) ⌝ }
+    ensures { λ r. ⌜ ValueNarrowed (namesAt (now (text .entry)) (now (names .entry))) (columnFrom (now (column .entry))) (test .place) (test .function) (treeAt (now (text .entry)) at) r (now (rows .entry)) (now (marks .entry)) (now (marks .exit)) ⌝ }
 {
     let place = test.place;
     let f = test.function;
@@ -305,7 +307,7 @@ fn narrow_by(
     requires { ⌜ Running (now text) (now ends) (now names) ⌝ }
     requires { ⌜ wellAt (now text) at ≡ true ⌝ }
     requires { ⌜ (length (now columns) ≤ mostColumns) × (length (now rows) ≤ mostRows) ⌝ }
-    ensures { λ r. ⌜ TestTold (map columnFrom (now (columns .entry))) (testAt (now (text .entry)) (now (names .entry)) (now (columns .entry)) at) r (now (rows .entry)) (now (marks .entry)) (now (marks .exit)) ⌝ }
+    ensures { λ r. ⌜ TestNarrowed (map columnFrom (now (columns .entry))) (testAt (now (text .entry)) (now (names .entry)) (now (columns .entry)) at) r (now (rows .entry)) (now (marks .entry)) (now (marks .exit)) ⌝ }
 {
     let t = lookup::triple_at(text, ends, at);
     let Triple::Of(a, b, v) = t else {
@@ -352,7 +354,7 @@ pub fn mark_rows(
     requires { ⌜ Running (now text) (now ends) (now names) ⌝ }
     requires { ⌜ itemsFine (now text) f ≡ true ⌝ }
     requires { ⌜ (length (now columns) ≤ mostColumns) × (length (now rows) ≤ mostRows) ⌝ }
-    ensures { λ r. ⌜ TestsTold (map columnFrom (now (columns .entry))) (testsAt (now (text .entry)) (now (names .entry)) (now (columns .entry)) f) r (now (rows .entry)) (now (marks .entry)) (now (marks .exit)) ⌝ }
+    ensures { λ r. ⌜ TestsNarrowed (map columnFrom (now (columns .entry))) (testsAt (now (text .entry)) (now (names .entry)) (now (columns .entry)) f) r (now (rows .entry)) (now (marks .entry)) (now (marks .exit)) ⌝ }
 {
     let mut g = f;
     let mut w = Fault::Fine;

@@ -23,12 +23,13 @@ use Rattle.model.specs.Written.{Names, stringIn, boolIn, atomIn, longAtom}
 use Rattle.model.proofs.Tests.{split, clash, bytes-same, bytes-self}
 use Rattle.model.proofs.Atoms.{textOf-textAtom}
 use Rattle.octets.proofs.Orders.{eq-length}
-use Rattle.uuids.specs.Named.{answered}
+use Rattle.uuids.specs.Named.{Answered}
+use Rattle.uuids.proofs.Atoms.{answered-some, answered-none}
 use Rattle.uuids.proofs.Names.{some-string}
 use Rattle.uuids.proofs.Decoded.{no-string}
 use Rattle.element_atoms.specs.declared.Atom.{Atom}
 use Rattle.element_atoms.specs.declared.Atom.the-variants.{Wrong, Long, Fits}
-use Rattle.element_atoms.specs.Atoms.{integerIn, booleanIn, TextReads, cellOf, atomAs, Reads, Told}
+use Rattle.element_atoms.specs.Atoms.{integerIn, booleanIn, TextReads, cellOf, atomAs, Reads, FitsIf}
 
 -- ── integers and truth values ──
 module _ (j : Json) {w : Whole} (e : w ≡ wholeOf j) where
@@ -107,14 +108,14 @@ short-blank uuid = refl
 
 module _ (names : Names) (j : Json) where
   module _ (k : Base) (cell out : List ℕ) (r : Atom) where
-    pub reads-wrong : atomIn names k j ≡ none → Told false cell r out → Reads names k j r out
-    unfolding Reads Told
+    pub reads-wrong : atomIn names k j ≡ none → FitsIf false cell r out → Reads names k j r out
+    unfolding Reads FitsIf
     reads-wrong e p = subst (λ x. Reads names k j x out) (sym (p .0)) (e, p .1)
 
-    pub reads-told : ((a : List ℕ) → longAtom k a ≡ false) → (ok : Bool) → atomIn names k j ≡ answered ok cell → Told ok cell r out → Reads names k j r out
-    unfolding Reads Told answered
-    reads-told s true e p = subst (λ x. Reads names k j x out) (sym (p .0)) (e ∙ ap some (sym (p .1)), s out)
-    reads-told s false e p = reads-wrong e p
+    pub reads-fits-if : ((a : List ℕ) → longAtom k a ≡ false) → {before : List ℕ} (ok : Bool) → Answered (atomIn names k j) before ok cell → FitsIf ok cell r out → Reads names k j r out
+    unfolding Reads FitsIf
+    reads-fits-if s true e p = subst (λ x. Reads names k j x out) (sym (p .0)) (answered-some (atomIn names k j) e ∙ ap some (sym (p .1)), s out)
+    reads-fits-if s false e p = reads-wrong (answered-none (atomIn names k j) e) p
 
   module _ (out : List ℕ) where
     pub reads-text : (r : Atom) → TextReads j r out → Reads names text j r out

@@ -48,6 +48,6 @@ Reads names k j Fits out = (atomIn names k j ≡ some out) × (longAtom k out �
 Reads names k j Long out = (k ≡ text) × (isText (kindOf j) ≡ true) × (mostTextBytes < length (wordIn j)) × (out ≡ blank)
 
 -- an atom left as it is where it was read, and a blank one where not
-unfoldable pub Told : Bool → List ℕ → Atom → List ℕ → Type 0
-Told true before r out = (r ≡ Fits) × (out ≡ before)
-Told false before r out = (r ≡ Wrong) × (out ≡ blank)
+unfoldable pub FitsIf : Bool → List ℕ → Atom → List ℕ → Type 0
+FitsIf true before r out = (r ≡ Fits) × (out ≡ before)
+FitsIf false before r out = (r ≡ Wrong) × (out ≡ blank)

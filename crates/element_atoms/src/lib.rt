@@ -19,8 +19,8 @@ ghost use Rattle.model.specs.Catalog.{baseNumbered};
 ghost use Rattle.model.specs.Value.{pad, boolAtom, textAtom};
 ghost use Rattle.model.specs.Written.{longAtom};
 ghost use Rattle.elements.specs.Elements.{elementsFrom, elementsFine};
-ghost use Rattle.uuids.specs.Named.{namesAt, answered, Running};
-ghost use Rattle.element_atoms.specs.Atoms.{integerIn, booleanIn, TextReads, Told, atomAs, atomsOf, Reads};
+ghost use Rattle.uuids.specs.Named.{namesAt, Answered, Running};
+ghost use Rattle.element_atoms.specs.Atoms.{integerIn, booleanIn, TextReads, FitsIf, atomAs, atomsOf, Reads};
 
 // What an element is as an atom of a base type: mistyped, a string above 24 bytes, or an atom of 25 bytes.
 pub enum Atom {
@@ -70,10 +70,10 @@ fn put_text(t: &[u8], out: &mut [u8])
     octets::put_bytes(&mut out[1..], t);
 }
 
-// The integer at `at`.
+// The integer at `at`; nothing is written where there is none.
 fn integer_at(text: &[u8], ends: &[u16], at: usize, out: &mut model::Atom) -> bool
     requires { ⌜ Says (now text) (now ends) ⌝ }
-    ensures { λ r. ⌜ integerIn (treeAt (now (text .entry)) at) ≡ answered r (now (out .exit)) ⌝ }
+    ensures { λ r. ⌜ Answered (integerIn (treeAt (now (text .entry)) at)) (now (out .entry)) r (now (out .exit)) ⌝ }
 {
     let w = nav::integer_at(text, ends, at);
     let ok = is_whole(w);
@@ -84,9 +84,9 @@ fn integer_at(text: &[u8], ends: &[u16], at: usize, out: &mut model::Atom) -> bo
     false
 }
 
-// The truth value at `at`.
+// The truth value at `at`; nothing is written where there is none.
 fn boolean_at(text: &[u8], at: usize, out: &mut model::Atom) -> bool
-    ensures { λ r. ⌜ booleanIn (treeAt (now (text .entry)) at) ≡ answered r (now (out .exit)) ⌝ }
+    ensures { λ r. ⌜ Answered (booleanIn (treeAt (now (text .entry)) at)) (now (out .entry)) r (now (out .exit)) ⌝ }
 {
     let k = nav::kind_at(text, at);
     let t = leaf::is_kind(k, Kind::Truth);
@@ -121,8 +121,8 @@ fn text_at(text: &[u8], at: usize, out: &mut model::Atom) -> Atom
 }
 
 // That an element fits, if so; else that it is mistyped, and a blank atom.
-fn told(ok: bool, out: &mut model::Atom) -> Atom
-    ensures { λ r. ⌜ Told ok (now (out .entry)) r (now (out .exit)) ⌝ }
+fn fits_if(ok: bool, out: &mut model::Atom) -> Atom
+    ensures { λ r. ⌜ FitsIf ok (now (out .entry)) r (now (out .exit)) ⌝ }
 {
     if ok {
         return Atom::Fits;
@@ -146,17 +146,17 @@ pub fn atom_at(
 {
     if kind == 0 {
         let ok = integer_at(text, ends, at, out);
-        return told(ok, out);
+        return fits_if(ok, out);
     }
     if kind == 1 {
         let ok = boolean_at(text, at, out);
-        return told(ok, out);
+        return fits_if(ok, out);
     }
     if kind == 2 {
         return text_at(text, at, out);
     }
     let ok = uuids::uuid_at(text, ends, names, at, out);
-    told(ok, out)
+    fits_if(ok, out)
 }
 
 // Whether the element at `at` is the atom x, which no string above 24 bytes is.

@@ -29,10 +29,6 @@ unfolding atomsOf
 same-length names k [] = refl
 same-length names k (j ∷ js) = ap suc (same-length names k js)
 
-no-rest : {A : Type 0} (l m : List A) → length (l ++ m) ≤ length l → m ≡ []
-no-rest l [] h = refl
-no-rest l (a ∷ m) h = absurd (omega (arith, length-append l (a ∷ m)))
-
 -- what was gathered before the place g
 pub record Gathered (names : Names) (k : Base) (s : List ℕ) (set : Bool) (f g : Found) (atoms : List (List ℕ)) (n : ℕ) : Type 0 where
   pub done : List (List ℕ)
@@ -46,28 +42,22 @@ module _ (names : Names) (k : Base) (s : List ℕ) (set : Bool) where
   gathered-start h = record { done = []; held = refl; count = refl; rest = refl; fine = h }
 
   module _ {f g : Found} {atoms : List (List ℕ)} {n : ℕ} (p : Gathered names k s set f g atoms n) where
-    pub gathered-end : g ≡ Nothing → atoms ≡ padded (atomsOf names k (elementsFrom s set f))
+    gathered-end : g ≡ Nothing → atoms ≡ padded (atomsOf names k (elementsFrom s set f))
     unfolding atomsOf
     gathered-end h = p .held ∙ ap padded (sym (append-nil (p .done)) ∙ sym (ap (λ l. p .done ++ map (atomAs names k) l) (walk-end s set h)) ∙ p .rest)
-
-    pub gathered-full : 4 ≤ n → length (elementsFrom s set f) ≤ 4 → atoms ≡ padded (atomsOf names k (elementsFrom s set f))
-    gathered-full h few =
-        let more = atomsOf names k (elementsFrom s set g) in
-        let e : more ≡ [] = no-rest (p .done) more (omega (arith, ap length (p .rest), same-length names k (elementsFrom s set f), p .count)) in
-        p .held ∙ ap padded (sym (append-nil (p .done)) ∙ ap (λ l. p .done ++ l) (sym e) ∙ p .rest)
 
     module _ {i : ℕ} (h : g ≡ At i) where
       turned : p .done ++ (atomAs names k (treeAt s i) ∷ atomsOf names k (elementsFrom s set (nextElement s set i))) ≡ atomsOf names k (elementsFrom s set f)
       unfolding atomsOf
       turned = sym (ap (λ l. p .done ++ map (atomAs names k) l) (walk-rest s set h)) ∙ p .rest
 
-      pub gathered-short : allShort names k (elementsFrom s set f) ≡ true → longAtom k (atomAs names k (treeAt s i)) ≡ false
+      gathered-short : allShort names k (elementsFrom s set f) ≡ true → longAtom k (atomAs names k (treeAt s i)) ≡ false
       unfolding allShort
       gathered-short a =
           later (longAtom k) (p .done) (atomAs names k (treeAt s i)) (atomsOf names k (elementsFrom s set (nextElement s set i)))
           (ap (any (longAtom k)) turned ∙ not-true (any (longAtom k) (atomsOf names k (elementsFrom s set f))) a)
 
-      pub gathered-on : {x : List ℕ} {next : Found} → n < 4 → x ≡ atomAs names k (treeAt s i) → next ≡ nextElement s set i → Gathered names k s set f next (update atoms n x) (n + 1)
+      gathered-on : {x : List ℕ} {next : Found} → n < 4 → x ≡ atomAs names k (treeAt s i) → next ≡ nextElement s set i → Gathered names k s set f next (update atoms n x) (n + 1)
       gathered-on {x} {next} l e m = record {
         done = p .done ++ (x ∷ []);
         held = set-padded (p .done) atoms n x (p .held) (p .count) (omega (arith, p .count));

@@ -1,4 +1,4 @@
-// The elements of a value as written, all together: of their type, in their limits, different, and gathered.
+// The elements of a value as written, all together: of their type, in their limits, different, and their atoms.
 use element_atoms::Atom;
 use model::ATOM;
 use model::Atoms;
@@ -6,22 +6,18 @@ use model::ELEMENTS;
 use model::Entry;
 use model::Found;
 ghost use mathlib.Core.Path.{_≡_};
-ghost use mathlib.Core.Bool.{true, false};
-ghost use Prim.Native.Nat.{_≤_};
+ghost use mathlib.Core.Bool.{true};
 ghost use lib.IntN.{pos};
 ghost use lib.Signed.{leZ};
-ghost use lib.ListN.{length};
-ghost use Rattle.model.specs.Limits.{mostElements};
 ghost use Rattle.model.specs.Base.{member, distinct};
 ghost use Rattle.inner.specs.Positions.{wellAt, treeAt};
 ghost use Rattle.model.specs.Catalog.{baseNumbered};
-ghost use Rattle.model.specs.Value.{fromTwos, inLimits, atomInLimits, valueOf};
-ghost use Rattle.model.specs.Written.{longAtom};
+ghost use Rattle.model.specs.Value.{fromTwos, inLimits, atomInLimits};
 ghost use Rattle.model.specs.Catalog.{columnFrom};
 ghost use Rattle.elements.specs.Elements.{elementsFrom, elementsFine};
 ghost use Rattle.uuids.specs.Named.{namesAt, Running};
 ghost use Rattle.element_atoms.specs.Atoms.{atomAs, atomsOf};
-ghost use Rattle.element_sets.specs.Tallies.{allShort, Sees, putAtom, Tallied};
+ghost use Rattle.element_sets.specs.Tallies.{Sees, putAtom, Tallied};
 
 // What is seen of one element: that it is of its type, not a string above 24 bytes, and in its column's limits.
 pub struct Seen {
@@ -42,8 +38,8 @@ pub struct Tally {
 fn at_most(x: u64, y: u64) -> bool
     ensures { λ r. ⌜ r ≡ leZ (fromTwos x) (fromTwos y) ⌝ }
 {
-    let a = leaf::turn(x);
-    let b = leaf::turn(y);
+    let a = leaf::biased(x);
+    let b = leaf::biased(y);
     let less = b < a;
     !less
 }
@@ -219,41 +215,4 @@ pub fn distinct_from(text: &[u8], ends: &[u16], names: &[u8], kind: u8, set: boo
             Found::Nothing => return true,
         }
     }
-}
-
-// The atom of the element at `at`, which is not a long string.
-fn cell_at(text: &[u8], ends: &[u16], names: &[u8], kind: u8, at: usize) -> model::Atom
-    requires { ⌜ Running (now text) (now ends) (now names) ⌝ }
-    requires { ⌜ wellAt (now text) at ≡ true ⌝ }
-    requires { ⌜ longAtom (baseNumbered kind) (atomAs (namesAt (now text) (now names)) (baseNumbered kind) (treeAt (now text) at)) ≡ false ⌝ }
-    ensures { λ r. ⌜ r ≡ atomAs (namesAt (now (text .entry)) (now (names .entry))) (baseNumbered kind) (treeAt (now (text .entry)) at) ⌝ }
-{
-    let mut cell = [0u8; ATOM];
-    element_atoms::atom_at(text, ends, names, kind, at, &mut cell);
-    cell
-}
-
-// The atoms of the elements from f on, of which there are at most four.
-pub fn gather(text: &[u8], ends: &[u16], names: &[u8], kind: u8, set: bool, f: Found) -> Atoms
-    requires { ⌜ Running (now text) (now ends) (now names) ⌝ }
-    requires { ⌜ elementsFine (now text) set f ≡ true ⌝ }
-    requires { ⌜ allShort (namesAt (now text) (now names)) (baseNumbered kind) (elementsFrom (now text) set f) ≡ true ⌝ }
-    requires { ⌜ length (elementsFrom (now text) set f) ≤ mostElements ⌝ }
-    ensures { λ r. ⌜ r ≡ valueOf (atomsOf (namesAt (now (text .entry)) (now (names .entry))) (baseNumbered kind) (elementsFrom (now (text .entry)) set f)) .atoms ⌝ }
-{
-    let mut atoms = [[0u8; ATOM]; ELEMENTS];
-    let mut g = f;
-    let mut n = 0;
-    while n < ELEMENTS {
-        match g {
-            Found::At(p) => {
-                let x = cell_at(text, ends, names, kind, p);
-                atoms[n] = x;
-                n += 1;
-                g = elements::next_element(text, ends, p, set);
-            }
-            Found::Nothing => return atoms,
-        }
-    }
-    atoms
 }

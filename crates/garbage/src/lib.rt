@@ -18,7 +18,7 @@ ghost use Rattle.model.specs.Commit.{loose, collect};
 ghost use Rattle.model.specs.Areas.{rowFrom};
 ghost use Rattle.model.specs.Catalog.{packedTables};
 ghost use Rattle.inner.specs.Working.{working, keyIn, Ordered, place};
-ghost use Rattle.references.specs.Links.{told};
+ghost use Rattle.references.specs.Links.{targetTable};
 ghost use Rattle.catalog.specs.Accepted.{Accepted};
 ghost use Rattle.garbage.specs.Loose.{holds, LooseAt, Collected};
 ghost use Rattle.garbage.specs.Weak.{ColumnWeak, RowWeak, Weakened};
@@ -132,7 +132,7 @@ pub fn collect(schema: &Catalog, rows: &mut [Row], n: usize) -> usize
 // The elements of column c that name a row of a table, in their order; another column stays.
 fn weaken_column(row: &mut Row, c: usize, to: Target, rows: &[Row], n: usize)
     requires { ⌜ (c < mostColumns) × Ordered n (now rows) ⌝ }
-    ensures { λ _. ⌜ ColumnWeak (told to) c n (now (rows .entry)) (now (row .entry)) (now (row .exit)) ⌝ }
+    ensures { λ _. ⌜ ColumnWeak (targetTable to) c n (now (rows .entry)) (now (row .entry)) (now (row .exit)) ⌝ }
 {
     match to {
         Target::Table(t) => {

@@ -24,7 +24,7 @@ pub record Passed (s : List ℕ) (p : Json → Bool) (xs : List Json) (n : ℕ) 
   pub rest : all p xs ≡ all p (itemsFrom s g)
   pub fine : itemsFine s g ≡ true
 
-module _ (s : List ℕ) (p : Json → Bool) where
+module _ {s : List ℕ} {p : Json → Bool} where
   pub passed-start : (at : ℕ) → wellAt s at ≡ true → {g : Found} → g ≡ firstOf s 91 93 at → Passed s p (itemsIn (treeAt s at)) 0 g
   passed-start at w {g} e =
       let q = items-in s at w in

@@ -1,5 +1,5 @@
 -- What the proofs of several functions use.
-pub mod Told
+pub mod Levels
 pub mod Mono
 pub mod Empty
 pub mod Whole

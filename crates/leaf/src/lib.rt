@@ -36,7 +36,7 @@ pub fn put_byte(out: &mut [u8], b: u8)
 }
 
 // The halves of 64 bits of two's complement in the order of the integers.
-pub fn turn(x: u64) -> u64
+pub fn biased(x: u64) -> u64
     ensures { λ r. ⌜ r ≡ halves x ⌝ }
 {
     if x < 9223372036854775808 {

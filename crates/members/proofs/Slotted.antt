@@ -77,8 +77,8 @@ module _ (s : List ℕ) (p : ℕ) (d : Bool) where
       none : isTruth (kindOf (slotTree s p)) ≡ isTruth (kindOf null) → isTruth (kindOf (slotTree s p)) ≡ true → ⊥
       none q t = clash _ (sym q ∙ t) no-truth
 
-  pub slot-untold : isTruth (kindOf (slotTree s p)) ≡ false → d ≡ truthOr d (slotTree s p)
-  slot-untold h = truth-not d (slotTree s p) h
+  pub slot-default : isTruth (kindOf (slotTree s p)) ≡ false → d ≡ truthOr d (slotTree s p)
+  slot-default h = truth-not d (slotTree s p) h
 
 -- tests of members, of the slots that say where they are
 module _ {s : List ℕ} {ws : List (List ℕ)} {ms : List Named} {slots : List ℕ} (k : Slots s ws ms slots) (i : ℕ) (h : i < length ws) (p : Json → Bool) where

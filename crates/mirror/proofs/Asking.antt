@@ -16,8 +16,8 @@ use Rattle.inner.specs.Working.{working}
 use Rattle.model.specs.Mirror.{Mirror, level}
 use Rattle.model.specs.Areas.{decodeStore, MirrorState, decodeMirror, mirrorOf}
 use Rattle.model.specs.Calls.{asked, Progress, progressOf, Presence, presenceOf, Contents, noContents, contentsOf, mirrorColumn}
-use Rattle.model.specs.declared.Answer.{Answer}
-use Rattle.model.specs.declared.Answer.the-variants.{Accepted, Disordered, WrongLength}
+use Rattle.model.specs.declared.Status.{Status}
+use Rattle.model.specs.declared.Status.the-variants.{Accepted, Disordered, WrongLength}
 use Rattle.model.proofs.Tests.{clash, or-l, or-r}
 use Rattle.model.proofs.TextUtf8.{by-test}
 use Rattle.area.specs.Writing.{topIn, numberIn}
@@ -37,34 +37,34 @@ numbers-are a =
     let y = sym (getD-drop storeBytes a 5 0) in
     λ j. record { rows = decodeMirror a .mirror .rows; n = numberIn a; top = topIn a; heard = eqb (x j) 1; whole = eqb (y j) 1 }
 
-pub progress-is : (a : List ℕ) (m : Numbers) (l : Bool) → m ≡ numbersIn a → l ≡ levelOf m → progressOf (decodeMirror a .mirror) ≡ record { answer = Accepted; n = m .n; level = l }
+pub progress-is : (a : List ℕ) (m : Numbers) (l : Bool) → m ≡ numbersIn a → l ≡ levelOf m → progressOf (decodeMirror a .mirror) ≡ record { status = Accepted; n = m .n; level = l }
 unfolding levelOf
 progress-is a m l e f =
     let n : m .n ≡ decodeMirror a .mirror .n = ap (λ (x : Numbers). x .n) e ∙ ap (λ (x : Mirror). x .n) (numbers-are a) in
     let v : l ≡ level (decodeMirror a .mirror) = f ∙ ap levelOf e ∙ ap level (numbers-are a) in
-    λ j. record { answer = Accepted; n = sym n j; level = sym v j }
+    λ j. record { status = Accepted; n = sym n j; level = sym v j }
 
 -- the code's results, as the model has them
 abbrev pub progressIn : Standing → Progress
-progressIn r = record { answer = r .answer; n = r .n; level = r .level }
+progressIn r = record { status = r .status; n = r .n; level = r .level }
 
 abbrev pub presenceIn : code.Presence → Presence
-presenceIn r = record { answer = r .answer; there = r .there }
+presenceIn r = record { status = r .status; there = r .there }
 
 -- what the code found of the rows is what the area's mirror has
 module _ {a : List ℕ} {schema : List (List ℕ)} {cells : List (List (List ℕ))} (h : Held a schema cells) (count : ℕ) (e : count ≡ rowCount a) where
   rows-found : working (packed.packedTables schema) count cells ≡ decodeMirror a .mirror .rows
   rows-found = ap (λ (n : ℕ). working (packed.packedTables schema) n cells) e ∙ h .rows
 
-  pub there-is : (t : ℕ) (id : List ℕ) (r : Bool) → r ≡ has (keyOf t (value id)) (working (packed.packedTables schema) count cells) → presenceOf t id (decodeMirror a .mirror) ≡ record { answer = Accepted; there = r }
-  there-is t id r p = ap (λ (b : Bool). record { answer = Accepted; there = b }) (sym (p ∙ ap (has (keyOf t (value id))) rows-found))
+  pub there-is : (t : ℕ) (id : List ℕ) (r : Bool) → r ≡ has (keyOf t (value id)) (working (packed.packedTables schema) count cells) → presenceOf t id (decodeMirror a .mirror) ≡ record { status = Accepted; there = r }
+  there-is t id r p = ap (λ (b : Bool). record { status = Accepted; there = b }) (sym (p ∙ ap (has (keyOf t (value id))) rows-found))
 
-  pub contents-are : (t : ℕ) (id : List ℕ) (c : ℕ) (out : List ℕ) → out ≡ columnOf (working (packed.packedTables schema) count cells) t (value id) c → contentsOf t id c (decodeMirror a .mirror) ≡ record { answer = Accepted; out = out }
+  pub contents-are : (t : ℕ) (id : List ℕ) (c : ℕ) (out : List ℕ) → out ≡ columnOf (working (packed.packedTables schema) count cells) t (value id) c → contentsOf t id c (decodeMirror a .mirror) ≡ record { status = Accepted; out = out }
   unfolding columnOf
-  contents-are t id c out p = ap (λ (l : List ℕ). record { answer = Accepted; out = l }) (sym (p ∙ ap (λ (l : List Row). columnOf l t (value id) c) rows-found))
+  contents-are t id c out p = ap (λ (l : List ℕ). record { status = Accepted; out = l }) (sym (p ∙ ap (λ (l : List Row). columnOf l t (value id) c) rows-found))
 
 -- a question, by what was found
-module _ {A : Type 0} (a : List ℕ) (refuse : Answer → A) (ask : Mirror → A) where
+module _ {A : Type 0} (a : List ℕ) (refuse : Status → A) (ask : Mirror → A) where
   pub ask-other : (length a ≡ mirrorBytes → ⊥) → asked a refuse ask ≡ refuse WrongLength
   ask-other h = by-test (λ (z : A). z ≡ refuse WrongLength) (eqb (length a) mirrorBytes) (λ e. absurd (h (eqb-true (length a) mirrorBytes e))) (λ e. refl)
 
@@ -89,7 +89,7 @@ module _ {A : Type 0} (a : List ℕ) (refuse : Answer → A) (ask : Mirror → A
 
 -- a column's question: an output or an area of another length, and one that is answered
 module _ (a : List ℕ) (t : ℕ) (id : List ℕ) (c : ℕ) (out : List ℕ) where
-  pub column-other : (not (eqb (length out) 101) || not (eqb (length a) mirrorBytes)) ≡ true → mirrorColumn a t id c out ≡ record { answer = WrongLength; out = replicate (length out) 0 }
+  pub column-other : (not (eqb (length out) 101) || not (eqb (length a) mirrorBytes)) ≡ true → mirrorColumn a t id c out ≡ record { status = WrongLength; out = replicate (length out) 0 }
   unfolding mirrorColumn
   column-other h =
       by-test (λ (z : Contents). z ≡ noContents out WrongLength) (eqb (length out) 101)

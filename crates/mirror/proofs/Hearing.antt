@@ -19,7 +19,7 @@ use Rattle.model.specs.Areas.{decodeStore, MirrorState, storePart, encodeMirror
 use Rattle.inner.specs.Working.{working, Tidy}
 use Rattle.model.proofs.Order.{Good}
 use Rattle.model.specs.Calls.{Arrived, mirrorAfter, hearOn, mirrorHear}
-use Rattle.model.specs.declared.Answer.the-variants.{Disordered, WrongLength}
+use Rattle.model.specs.declared.Status.the-variants.{Disordered, WrongLength}
 use Rattle.model.proofs.Tests.{clash, and-l, and-r, whole}
 use Rattle.model.proofs.TextUtf8.{by-test}
 use Rattle.model.proofs.Octets.{octet}
@@ -158,24 +158,24 @@ module _ (a x : List ℕ) (schema : List (List ℕ)) (cells exit : List (List (L
       (λ e. written-all)
 
   -- the arrival's answer and area
-  pub hear-is : mirrorHear a x ≡ record { answer = r .answer; area = rewritten (numbersIn a) (r .numbers) (r .count) exit a }
+  pub hear-is : mirrorHear a x ≡ record { status = r .status; area = rewritten (numbersIn a) (r .numbers) (r .count) exit a }
   hear-is =
-      let p : mirrorHear a x .answer ≡ r .answer =
-      ap (λ (y : List ℕ). mirrorHear y x .answer) (sym encoded) ∙ hear-answer m fine x ∙ sym (st .answer ∙ ap (λ (y : Step). y .answer) step-is) in
+      let p : mirrorHear a x .status ≡ r .status =
+      ap (λ (y : List ℕ). mirrorHear y x .status) (sym encoded) ∙ hear-answer m fine x ∙ sym (st .status ∙ ap (λ (y : Step). y .status) step-is) in
       let q : mirrorHear a x .area ≡ rewritten (numbersIn a) (r .numbers) (r .count) exit a =
       ap (λ (y : List ℕ). mirrorHear y x .area) (sym encoded) ∙ hear-area m fine x ∙ ap (λ (y : Mirror). encodeMirror (withMirror y m)) (sym got-is) ∙ sym written in
-      λ j. record { answer = p j; area = q j }
+      λ j. record { status = p j; area = q j }
 
 -- the same, with what the code read of the area
 pub hear-got : (a x : List ℕ) (schema : List (List ℕ)) (cells exit : List (List (List ℕ))) (r : Outcome) (run : ℕ) (was : Numbers) (count : ℕ) → run ≡ value (part 0 4 a) → was ≡ numbersIn a → count ≡ rowCount a
     → mirrorOf a ≡ some (decodeMirror a) → Held a schema cells → Stepped schema run was x count cells exit r → all octet x ≡ true → 32 ≤ length exit
-    → (after : List ℕ) → after ≡ rewritten was (r .numbers) (r .count) exit a → mirrorHear a x ≡ record { answer = r .answer; area = after }
+    → (after : List ℕ) → after ≡ rewritten was (r .numbers) (r .count) exit a → mirrorHear a x ≡ record { status = r .status; area = after }
 hear-got a x schema cells exit r run was count u w k state h st bytes room after e =
     let s : Stepped schema (value (part 0 4 a)) (numbersIn a) x (rowCount a) cells exit r =
     subst (λ (n : ℕ). Stepped schema (value (part 0 4 a)) (numbersIn a) x n cells exit r) k
     (subst (λ (m : Numbers). Stepped schema (value (part 0 4 a)) m x count cells exit r) w (subst (λ (n : ℕ). Stepped schema n was x count cells exit r) u st)) in
     hear-is a x schema cells exit r state h s bytes room
-    ∙ ap (λ (l : List ℕ). record { answer = r .answer; area = l }) (sym (e ∙ ap (λ (m : Numbers). rewritten m (r .numbers) (r .count) exit a) w))
+    ∙ ap (λ (l : List ℕ). record { status = r .status; area = l }) (sym (e ∙ ap (λ (m : Numbers). rewritten m (r .numbers) (r .count) exit a) w))
 
 -- ── what is written, by the tests that the code makes ──
 module _ (was is : Numbers) (count : ℕ) (cells : List (List (List ℕ))) (a : List ℕ) where
@@ -203,10 +203,10 @@ module _ (was is : Numbers) (count : ℕ) (cells : List (List (List ℕ))) (a : 
 
 -- ── an area that is refused ──
 module _ (a x : List ℕ) where
-  pub hear-other : (length a ≡ mirrorBytes → ⊥) → mirrorHear a x ≡ record { answer = WrongLength; area = a }
+  pub hear-other : (length a ≡ mirrorBytes → ⊥) → mirrorHear a x ≡ record { status = WrongLength; area = a }
   unfolding mirrorHear
-  hear-other h = by-test (λ (z : Arrived). z ≡ record { answer = WrongLength; area = a }) (eqb (length a) mirrorBytes) (λ e. absurd (h (eqb-true (length a) mirrorBytes e))) (λ e. refl)
+  hear-other h = by-test (λ (z : Arrived). z ≡ record { status = WrongLength; area = a }) (eqb (length a) mirrorBytes) (λ e. absurd (h (eqb-true (length a) mirrorBytes e))) (λ e. refl)
 
-  pub hear-bad : length a ≡ mirrorBytes → mirrorOf a ≡ none → mirrorHear a x ≡ record { answer = Disordered; area = a }
+  pub hear-bad : length a ≡ mirrorBytes → mirrorOf a ≡ none → mirrorHear a x ≡ record { status = Disordered; area = a }
   unfolding mirrorHear
-  hear-bad h n = by-test (λ (z : Arrived). z ≡ record { answer = Disordered; area = a }) (eqb (length a) mirrorBytes) (λ e. ap (hearOn a x) n) (λ e. absurd (eqb-false (length a) mirrorBytes e h))
+  hear-bad h n = by-test (λ (z : Arrived). z ≡ record { status = Disordered; area = a }) (eqb (length a) mirrorBytes) (λ e. ap (hearOn a x) n) (λ e. absurd (eqb-false (length a) mirrorBytes e h))

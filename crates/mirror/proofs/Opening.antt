@@ -15,9 +15,10 @@ use Rattle.model.proofs.Tests.{clash}
 use Rattle.model.proofs.Octets.{octet}
 use Rattle.catalog.specs.Accepted.{Accepted, isAccepted}
 use Rattle.catalog.proofs.Laws.{accepted-of}
-use Rattle.area.specs.Layout.{rowCount, partGood, Judged}
+use Rattle.area.specs.Layout.{rowCount, partGood, PartRead}
 use Rattle.area.specs.Writing.{tailGood, when}
 use Rattle.area.proofs.Copies.{chunks-length}
+use Rattle.area.proofs.Schemas.{read-front}
 use Rattle.area.proofs.States.{part-passed, mirror-is, mirror-refused}
 use Rattle.mirror.specs.Held.{Held, Opened}
 
@@ -54,14 +55,14 @@ module _ (a : List ℕ) (size : length a ≡ mirrorBytes) (schema : List (List �
     open-bad h = record { state = state false (tailGood a) h refl; held = λ e. absurd (clash false e refl) }
 
     -- a part in good order: the mirror's own bytes decide
-    pub open-good : (p : Bool) → p ≡ true → Judged a schema cells p → (r : Bool) → r ≡ tailGood a → Opened a schema cells r
+    pub open-good : (before : List (List (List ℕ))) (p : Bool) → p ≡ true → PartRead a schema before cells p → (r : Bool) → r ≡ tailGood a → Opened a schema cells r
     unfolding working decodeMirror decodeStore
-    open-good p b j r e = record { state = state true r (sym b ∙ j .good) e; held = λ _. held }
+    open-good before p b j r e = record { state = state true r (sym b ∙ j .good) e; held = λ _. held }
       where
         held : Held a schema cells
         held =
             let h = part-passed schema a (omega arith) bytes there ok (sym (j .good) ∙ b) in
-            let q = j .rows b in
+            let q = read-front schema a before j b in
             record {
               accepted = catalog-accepted ok;
               tables = same;

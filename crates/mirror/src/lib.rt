@@ -3,7 +3,6 @@
 // call (Calls.antt): its answer, and its area or output afterwards. Demand 3 (Demands.antt) speaks of those same definitions, so with these equations it speaks of this code.
 use arrival::Numbers;
 use model::ATOM;
-use model::Answer;
 use model::CELLS;
 use model::Catalog;
 use model::ENTRIES;
@@ -13,6 +12,7 @@ use model::ID;
 use model::MIRROR_BYTES;
 use model::ROWS;
 use model::Row;
+use model::Status;
 use model::VALUE_BYTES;
 use model::WHOLE_OFFSET;
 ghost use mathlib.Core.Path.{_≡_};
@@ -27,14 +27,14 @@ ghost use Rattle.mirror.specs.Held.{Opened, numbersIn, rewritten};
 
 // What a mirror tells of itself: n, and whether it is level. A refused question has 0 and false.
 pub struct Standing {
-    pub answer: Answer,
+    pub status: Status,
     pub n: u32,
     pub level: bool,
 }
 
 // Whether a row is there; false where the question is refused.
 pub struct Presence {
-    pub answer: Answer,
+    pub status: Status,
     pub there: bool,
 }
 
@@ -87,51 +87,51 @@ fn rewrite(area: &mut [u8], was: Numbers, is: Numbers, rows: &[Row], count: usiz
 }
 
 // A new mirror of a schema and a run: no rows, and nothing heard.
-pub fn start(area: &mut [u8], schema: &[u8], run: u32) -> Answer
+pub fn start(area: &mut [u8], schema: &[u8], run: u32) -> Status
     ensures { λ r. ⌜ numberOf r ≡ mirrorStartNumber (now (area .entry)) (now (schema .entry)) ⌝ }
-    ensures { λ r. ⌜ mirrorStart (now (area .entry)) (now (schema .entry)) run ≡ record { answer = r; area = now (area .exit) } ⌝ }
+    ensures { λ r. ⌜ mirrorStart (now (area .entry)) (now (schema .entry)) run ≡ record { status = r; area = now (area .exit) } ⌝ }
 {
     if area.len() != MIRROR_BYTES {
-        return Answer::WrongLength;
+        return Status::WrongLength;
     }
     let mut catalog = [[0u8; ENTRY]; ENTRIES];
     if !schema::read(schema, &mut catalog) {
-        return Answer::BadSchema;
+        return Status::BadSchema;
     }
     let rows = [[[0u8; ATOM]; CELLS]; 1];
     area::write_store(area, run, 0, &catalog, &rows, 0);
     area::write_tail(area, 0, false, true);
-    Answer::Accepted
+    Status::Accepted
 }
 
 // One arrival: its bytes are a change record or a mark, or are refused.
-pub fn hear(area: &mut [u8], bytes: &[u8]) -> Answer
+pub fn hear(area: &mut [u8], bytes: &[u8]) -> Status
     ensures { λ r. ⌜ numberOf r ≡ hearNumber (now (area .entry)) (now (bytes .entry)) ⌝ }
-    ensures { λ r. ⌜ mirrorHear (now (area .entry)) (now (bytes .entry)) ≡ record { answer = r; area = now (area .exit) } ⌝ }
+    ensures { λ r. ⌜ mirrorHear (now (area .entry)) (now (bytes .entry)) ≡ record { status = r; area = now (area .exit) } ⌝ }
 {
     if area.len() != MIRROR_BYTES {
-        return Answer::WrongLength;
+        return Status::WrongLength;
     }
     let mut schema = [[0u8; ENTRY]; ENTRIES];
     let mut rows = [[[0u8; ATOM]; CELLS]; ROWS];
     if !opened(area, &mut schema, &mut rows) {
-        return Answer::Disordered;
+        return Status::Disordered;
     }
     let was = numbers_of(area);
     let count = area::row_count(area);
     let run = area::run_of(area);
     let left = arrival::step(&schema, &mut rows, count, was, run, bytes);
-    let answer = left.answer;
+    let status = left.status;
     rewrite(area, was, left.numbers, &rows, left.count);
-    answer
+    status
 }
 
 // A question that is refused.
-fn no_standing(answer: Answer) -> Standing
-    ensures { λ r. ⌜ r ≡ record { answer = answer; n = 0; level = false } ⌝ }
+fn no_standing(status: Status) -> Standing
+    ensures { λ r. ⌜ r ≡ record { status = status; n = 0; level = false } ⌝ }
 {
     Standing {
-        answer,
+        status,
         n: 0,
         level: false,
     }
@@ -139,77 +139,77 @@ fn no_standing(answer: Answer) -> Standing
 
 // How many records made the mirror's rows, and whether it is level.
 pub fn progress(area: &[u8]) -> Standing
-    ensures { λ r. ⌜ numberOf (r .answer) ≡ askNumber (now (area .entry)) ⌝ }
-    ensures { λ r. ⌜ mirrorProgress (now (area .entry)) ≡ record { answer = r .answer; n = r .n; level = r .level } ⌝ }
+    ensures { λ r. ⌜ numberOf (r .status) ≡ askNumber (now (area .entry)) ⌝ }
+    ensures { λ r. ⌜ mirrorProgress (now (area .entry)) ≡ record { status = r .status; n = r .n; level = r .level } ⌝ }
 {
     if area.len() != MIRROR_BYTES {
-        return no_standing(Answer::WrongLength);
+        return no_standing(Status::WrongLength);
     }
     let mut schema = [[0u8; ENTRY]; ENTRIES];
     let mut rows = [[[0u8; ATOM]; CELLS]; ROWS];
     if !opened(area, &mut schema, &mut rows) {
-        return no_standing(Answer::Disordered);
+        return no_standing(Status::Disordered);
     }
     let m = numbers_of(area);
     Standing {
-        answer: Answer::Accepted,
+        status: Status::Accepted,
         n: m.n,
         level: arrival::level(m),
     }
 }
 
 // A question that is refused.
-fn no_presence(answer: Answer) -> Presence
-    ensures { λ r. ⌜ r ≡ record { answer = answer; there = false } ⌝ }
+fn no_presence(status: Status) -> Presence
+    ensures { λ r. ⌜ r ≡ record { status = status; there = false } ⌝ }
 {
     Presence {
-        answer,
+        status,
         there: false,
     }
 }
 
 // Whether a row is there, by table and id.
 pub fn has_row(area: &[u8], table: u8, id: &[u8; ID]) -> Presence
-    ensures { λ r. ⌜ numberOf (r .answer) ≡ askNumber (now (area .entry)) ⌝ }
-    ensures { λ r. ⌜ mirrorHasRow (now (area .entry)) table (now (id .entry)) ≡ record { answer = r .answer; there = r .there } ⌝ }
+    ensures { λ r. ⌜ numberOf (r .status) ≡ askNumber (now (area .entry)) ⌝ }
+    ensures { λ r. ⌜ mirrorHasRow (now (area .entry)) table (now (id .entry)) ≡ record { status = r .status; there = r .there } ⌝ }
 {
     if area.len() != MIRROR_BYTES {
-        return no_presence(Answer::WrongLength);
+        return no_presence(Status::WrongLength);
     }
     let mut schema = [[0u8; ENTRY]; ENTRIES];
     let mut rows = [[[0u8; ATOM]; CELLS]; ROWS];
     if !opened(area, &mut schema, &mut rows) {
-        return no_presence(Answer::Disordered);
+        return no_presence(Status::Disordered);
     }
     let count = area::row_count(area);
     Presence {
-        answer: Answer::Accepted,
+        status: Status::Accepted,
         there: rows::has_row(&rows, count, table, id),
     }
 }
 
 // A question that is refused: its output is all zero.
-fn no_contents(out: &mut [u8], answer: Answer) -> Answer
-    ensures { λ r. ⌜ (r ≡ answer) × (now (out .exit) ≡ zeroed (now (out .entry))) ⌝ }
+fn no_contents(out: &mut [u8], status: Status) -> Status
+    ensures { λ r. ⌜ (r ≡ status) × (now (out .exit) ≡ zeroed (now (out .entry))) ⌝ }
 {
     octets::clear(out);
-    answer
+    status
 }
 
 // The count and the atoms of a column, by table, id and column, as a column record has them, all zero where the row or the column is missing or the question is refused.
-pub fn column(area: &[u8], table: u8, id: &[u8; ID], column: u8, out: &mut [u8]) -> Answer
+pub fn column(area: &[u8], table: u8, id: &[u8; ID], column: u8, out: &mut [u8]) -> Status
     ensures { λ r. ⌜ numberOf r ≡ columnNumber (now (area .entry)) (now (out .entry)) ⌝ }
-    ensures { λ r. ⌜ mirrorColumn (now (area .entry)) table (now (id .entry)) column (now (out .entry)) ≡ record { answer = r; out = now (out .exit) } ⌝ }
+    ensures { λ r. ⌜ mirrorColumn (now (area .entry)) table (now (id .entry)) column (now (out .entry)) ≡ record { status = r; out = now (out .exit) } ⌝ }
 {
     if (out.len() != VALUE_BYTES) | (area.len() != MIRROR_BYTES) {
-        return no_contents(out, Answer::WrongLength);
+        return no_contents(out, Status::WrongLength);
     }
     let mut schema = [[0u8; ENTRY]; ENTRIES];
     let mut rows = [[[0u8; ATOM]; CELLS]; ROWS];
     if !opened(area, &mut schema, &mut rows) {
-        return no_contents(out, Answer::Disordered);
+        return no_contents(out, Status::Disordered);
     }
     let count = area::row_count(area);
     arrival::column(&schema, &rows, count, table, id, column, out);
-    Answer::Accepted
+    Status::Accepted
 }

@@ -16,7 +16,7 @@ use Rattle.model.specs.SchemaText.{readSchema}
 use Rattle.model.specs.Sane.{sane}
 use Rattle.model.specs.Refusals.{numberOf, isRefusal}
 use Rattle.model.specs.Rows.{Row}
-use Rattle.model.specs.Replies.{Reply, refused, reply, replyTo, named, freshly, told, changesOf}
+use Rattle.model.specs.Replies.{Reply, refused, reply, replyTo, named, freshly, concluded, changesOf}
 use Rattle.model.specs.Replies as Replies
 use Rattle.model.specs.Transact.{Request, Transaction, transactRows, freshIds, idsGood, readRequest}
 use Rattle.model.specs.Records.{Change, mark, encode, diff, numberFrom}
@@ -27,8 +27,8 @@ use Rattle.model.specs.Calls as Calls
 use Rattle.model.specs.Laid.{storeOr, mirrorOr, requestOr, held, tables, succeeds, rowsLaid, changesLaid, recordsLaid, textLaid, storeLaid}
 use Rattle.model.specs.FirstRefusal.{given, askConditions, askNumber, columnNumber}
 use Rattle.model.specs.Demands.{Ends, TransactEnds, MarkEnds, ProgressEnds, HasRowEnds, ColumnEnds, Demand1}
-use Rattle.model.specs.declared.Answer.{Answer}
-use Rattle.model.specs.declared.Answer.the-variants.{Accepted, Disordered, WrongLength, BadRequest, OtherDatabase, BadFreshIds, AnswerTooLong, NumbersSpent}
+use Rattle.model.specs.declared.Status.{Status}
+use Rattle.model.specs.declared.Status.the-variants.{Accepted, Disordered, WrongLength, BadRequest, OtherDatabase, BadFreshIds, AnswerTooLong, NumbersSpent}
 use Rattle.model.proofs.Tests.{split, clash, and-l, parts, Trues}
 use Rattle.model.proofs.Octets.{octet}
 use Rattle.model.proofs.Accepted.{narrow, sane-kept}
@@ -79,15 +79,15 @@ pub record Room (number : ℕ) (room : ℕ) (r : Reply) : Type 0 where
   pub last : number + length (r .changes) ≤ lastNumber
 
 module _ (number : ℕ) (room : ℕ) (few : number ≤ lastNumber) where
-  no-more : (a : Answer) (rows : List Row) → Room number room (refused a rows)
+  no-more : (a : Status) (rows : List Row) → Room number room (refused a rows)
   no-more a rows = record { text = omega arith; last = omega arith }
 
-  told-room : (s : Schema) (rows : List Row) (t : Transaction) → Room number room (told s number rows room t)
-  told-room s rows t = split (leb (length (t .text)) room)
+  concluded-room : (s : Schema) (rows : List Row) (t : Transaction) → Room number room (concluded s number rows room t)
+  concluded-room s rows t = split (leb (length (t .text)) room)
       (λ e. split (leb (number + length (changesOf s rows t)) lastNumber)
-      (λ f. rw (told, e, Replies.numbered, f) (record { text = leb-true (length (t .text)) room e; last = leb-true (number + length (changesOf s rows t)) lastNumber f }))
-      (λ f. rw (told, e, Replies.numbered, f) (no-more NumbersSpent rows)))
-      (λ e. rw (told, e) (no-more AnswerTooLong rows))
+      (λ f. rw (concluded, e, Replies.numbered, f) (record { text = leb-true (length (t .text)) room e; last = leb-true (number + length (changesOf s rows t)) lastNumber f }))
+      (λ f. rw (concluded, e, Replies.numbered, f) (no-more NumbersSpent rows)))
+      (λ e. rw (concluded, e) (no-more AnswerTooLong rows))
 
   pub reply-room : (d : Database) (rows : List Row) (request fresh : List ℕ) → Room number room (reply d number rows request fresh room)
   reply-room d rows request fresh = go (readRequest request)
@@ -96,7 +96,7 @@ module _ (number : ℕ) (room : ℕ) (few : number ≤ lastNumber) where
       go none = no-more BadRequest rows
       go (some q) = split (eqBytes (q .name) (d .name))
           (λ e. split (idsGood (freshIds fresh) rows)
-          (λ f. rw (named, e, freshly, f) (told-room (d .tables) rows (transactRows (d .tables) (freshIds fresh) rows (q .operations))))
+          (λ f. rw (named, e, freshly, f) (concluded-room (d .tables) rows (transactRows (d .tables) (freshIds fresh) rows (q .operations))))
           (λ f. rw (named, e, freshly, f) (no-more BadFreshIds rows)))
           (λ e. rw (named, e) (no-more OtherDatabase rows))
 
@@ -136,14 +136,14 @@ module _ (area request fresh records text : List ℕ) where
   abbrev lengths : List Bool
   lengths = eqb (length area) storeBytes ∷ eqb (length fresh) freshBytes ∷ leb leastRecords (length records) ∷ leb leastAnswer (length text) ∷ []
 
-  given-of : lengthsGood area fresh records text ≡ true → storeOf area ≡ some st → isRefusal (r .answer) ≡ false → Given
+  given-of : lengthsGood area fresh records text ≡ true → storeOf area ≡ some st → isRefusal (r .status) ≡ false → Given
   given-of h here a =
       let p = parts lengths h in
       let laid = replied-laid (reply-as (st .database) (st .number) (st .rows) request fresh (length text)) a in
       let rows : r .rows ≡ rowsLaid area request fresh = laid .0 ∙ laid-rows area request fresh in
       let changes : r .changes ≡ changesLaid area request fresh = laid .1 ∙ laid-changes area request fresh in
       let words : r .text ≡ textLaid area request fresh = laid .2 ∙ laid-text area request fresh in
-      let e : storeTransact area request fresh records text ≡ record { answer = r .answer; area = encodeStore (storeAfter st r); records = filled (length records) (recordsAfter st r); text = filled (length text) (r .text) } =
+      let e : storeTransact area request fresh records text ≡ record { status = r .status; area = encodeStore (storeAfter st r); records = filled (length records) (recordsAfter st r); text = filled (length text) (r .text) } =
       transact-there area request fresh records text st h here ∙ rw (transactReplied, a) in
       record {
         here = here;
@@ -157,19 +157,19 @@ module _ (area request fresh records text : List ℕ) where
         textFits = subst (λ (w : List ℕ). length w ≤ length text) words (reply-room (st .number) (length text) (omega (arith, fine-at area st here .number)) (st .database) (st .rows) request fresh .text);
       }
 
-  pub given-is : isRefusal (storeTransact area request fresh records text .answer) ≡ false → Given
+  pub given-is : isRefusal (storeTransact area request fresh records text .status) ≡ false → Given
   unfolding storeTransact
   given-is = split (lengthsGood area fresh records text)
       (λ h. split (isSome (storeOf area))
       (λ s. let here = there-is (storeOf area) s in
-      λ a. given-of h here (sym (ap isRefusal (answer-there st (replyOf st request fresh (length text)))) ∙ sym (ap (λ (t : Calls.Transacted). isRefusal (t .answer)) (transact-there area request fresh records text st h here)) ∙ a))
-      (λ s a. absurd (clash (isRefusal (storeTransact area request fresh records text .answer)) (gone h (storeOf area) refl s) a)))
-      (λ h a. absurd (clash (isRefusal (storeTransact area request fresh records text .answer)) (rw (storeTransact, h)) a))
+      λ a. given-of h here (sym (ap isRefusal (answer-there st (replyOf st request fresh (length text)))) ∙ sym (ap (λ (t : Calls.Transacted). isRefusal (t .status)) (transact-there area request fresh records text st h here)) ∙ a))
+      (λ s a. absurd (clash (isRefusal (storeTransact area request fresh records text .status)) (gone h (storeOf area) refl s) a)))
+      (λ h a. absurd (clash (isRefusal (storeTransact area request fresh records text .status)) (rw (storeTransact, h)) a))
     where
-      answer-there : (x : Store) (y : Reply) → transactReplied area records text x y .answer ≡ y .answer
-      answer-there x y = split (isRefusal (y .answer)) (λ e. rw (transactReplied, e)) (λ e. rw (transactReplied, e))
+      answer-there : (x : Store) (y : Reply) → transactReplied area records text x y .status ≡ y .status
+      answer-there x y = split (isRefusal (y .status)) (λ e. rw (transactReplied, e)) (λ e. rw (transactReplied, e))
 
-      gone : lengthsGood area fresh records text ≡ true → (o : Option Store) → storeOf area ≡ o → isSome o ≡ false → isRefusal (storeTransact area request fresh records text .answer) ≡ true
+      gone : lengthsGood area fresh records text ≡ true → (o : Option Store) → storeOf area ≡ o → isSome o ≡ false → isRefusal (storeTransact area request fresh records text .status) ≡ true
       gone h none e s = rw (storeTransact, h, e)
       gone h (some x) e s = absurd (clash true refl s)
 
@@ -191,7 +191,7 @@ module _ (area request fresh records text : List ℕ) where
   }
 
 -- ── a mark ──
-mark-accepted : (area out : List ℕ) → isRefusal (storeMark area out .answer) ≡ false
+mark-accepted : (area out : List ℕ) → isRefusal (storeMark area out .status) ≡ false
     → let st = storeOr (storeOf area) in
     (9 ≤ length out) × (storeMark area out .mark ≡ encode (mark (st .run) (st .number)) ++ replicate (length out - 9) 0)
 unfolding storeMark
@@ -199,7 +199,7 @@ mark-accepted area out = split (every (eqb (length area) storeBytes ∷ leb leas
     (λ e. rw (storeMark, e) (go (parts (eqb (length area) storeBytes ∷ leb leastMark (length out) ∷ []) e) (storeOf area)))
     (λ e. rw (storeMark, e) (λ h. absurd (clash true refl h)))
   where
-    go : Trues (eqb (length area) storeBytes ∷ leb leastMark (length out) ∷ []) → (o : Option Store) → isRefusal (markOn out o .answer) ≡ false
+    go : Trues (eqb (length area) storeBytes ∷ leb leastMark (length out) ∷ []) → (o : Option Store) → isRefusal (markOn out o .status) ≡ false
         → (9 ≤ length out) × (markOn out o .mark ≡ encode (mark (storeOr o .run) (storeOr o .number)) ++ replicate (length out - 9) 0)
     go p none h = absurd (clash true refl h)
     go p (some st) h = let l = leb-true leastMark (length out) (p .1 .0) in (l, filled-is (length out) (encode (mark (st .run) (st .number))) l)
@@ -212,71 +212,71 @@ mark-ends area out = record {
 }
 
 -- ── the questions ──
-module _ {A : Type 0} (area : List ℕ) (refuse : Answer → A) (ask : Mirror → A) where
-  asked-first : (answer : A → Answer) → ((a : Answer) → answer (refuse a) ≡ a) → ((m : Mirror) → answer (ask m) ≡ Accepted) → numberOf (answer (asked area refuse ask)) ≡ given (askConditions true area) 0
+module _ {A : Type 0} (area : List ℕ) (refuse : Status → A) (ask : Mirror → A) where
+  asked-first : (answer : A → Status) → ((a : Status) → answer (refuse a) ≡ a) → ((m : Mirror) → answer (ask m) ≡ Accepted) → numberOf (answer (asked area refuse ask)) ≡ given (askConditions true area) 0
   asked-first answer p q = split (eqb (length area) mirrorBytes)
       (λ e. look (mirrorOf area) (λ o. rw (asked, e, o) (ap numberOf (p Disordered))) (λ m o. rw (asked, e, o) (ap numberOf (q (m .mirror)))))
       (λ e. rw (asked, e) (ap numberOf (p WrongLength)))
 
   -- what a question that is refused gives
-  asked-refused : (P : A → Type 0) (answer : A → Answer) → ((m : Mirror) → answer (ask m) ≡ Accepted) → ((a : Answer) → P (refuse a)) → isRefusal (answer (asked area refuse ask)) ≡ true → P (asked area refuse ask)
+  asked-refused : (P : A → Type 0) (answer : A → Status) → ((m : Mirror) → answer (ask m) ≡ Accepted) → ((a : Status) → P (refuse a)) → isRefusal (answer (asked area refuse ask)) ≡ true → P (asked area refuse ask)
   asked-refused P answer q p = split (eqb (length area) mirrorBytes)
       (λ e. look (mirrorOf area) (λ o. rw (asked, e, o) (λ h. p Disordered)) (λ m o. rw (asked, e, o) (λ h. absurd (clash (isRefusal (answer (ask (m .mirror)))) h (rw (q (m .mirror)))))))
       (λ e. rw (asked, e) (λ h. p WrongLength))
 
   -- and one that is not refused is asked of the mirror that the area holds
-  asked-accepted : (P : Mirror → A → Type 0) (answer : A → Answer) → ((a : Answer) → answer (refuse a) ≡ a) → ((m : MirrorState) → mirrorOf area ≡ some m → P (m .mirror) (ask (m .mirror)))
+  asked-accepted : (P : Mirror → A → Type 0) (answer : A → Status) → ((a : Status) → answer (refuse a) ≡ a) → ((m : MirrorState) → mirrorOf area ≡ some m → P (m .mirror) (ask (m .mirror)))
       → isRefusal (answer (asked area refuse ask)) ≡ false → P (mirrorOr (mirrorOf area) .mirror) (asked area refuse ask)
   asked-accepted P answer q p = split (eqb (length area) mirrorBytes)
       (λ e. look (mirrorOf area) (λ o. rw (asked, e, o) (λ h. absurd (clash (isRefusal (answer (refuse Disordered))) (rw (q Disordered)) h))) (λ m o. rw (asked, e, o) (λ h. p m o)))
       (λ e. rw (asked, e) (λ h. absurd (clash (isRefusal (answer (refuse WrongLength))) (rw (q WrongLength)) h)))
 
-pub progress-first : (area : List ℕ) → numberOf (mirrorProgress area .answer) ≡ askNumber area
+pub progress-first : (area : List ℕ) → numberOf (mirrorProgress area .status) ≡ askNumber area
 unfolding mirrorProgress askNumber
-progress-first area = asked-first area noProgress progressOf (λ (p : Progress). p .answer) (λ a. refl) (λ m. refl)
+progress-first area = asked-first area noProgress progressOf (λ (p : Progress). p .status) (λ a. refl) (λ m. refl)
 
 progress-ends : (area : List ℕ) → ProgressEnds area
 unfolding mirrorProgress
 progress-ends area = (
   record { first = progress-first area; refused = λ h. (refl, tt); accepted = λ h. tt },
-  asked-refused area noProgress progressOf (λ (p : Progress). (p .n ≡ 0) × (p .level ≡ false)) (λ (p : Progress). p .answer) (λ m. refl) (λ a. (refl, refl)),
+  asked-refused area noProgress progressOf (λ (p : Progress). (p .n ≡ 0) × (p .level ≡ false)) (λ (p : Progress). p .status) (λ m. refl) (λ a. (refl, refl)),
 )
 
-pub has-row-first : (area : List ℕ) (t : ℕ) (id : List ℕ) → numberOf (mirrorHasRow area t id .answer) ≡ askNumber area
+pub has-row-first : (area : List ℕ) (t : ℕ) (id : List ℕ) → numberOf (mirrorHasRow area t id .status) ≡ askNumber area
 unfolding mirrorHasRow askNumber
-has-row-first area t id = asked-first area noPresence (presenceOf t id) (λ (p : Presence). p .answer) (λ a. refl) (λ m. refl)
+has-row-first area t id = asked-first area noPresence (presenceOf t id) (λ (p : Presence). p .status) (λ a. refl) (λ m. refl)
 
 has-row-ends : (area : List ℕ) (t : ℕ) (id : List ℕ) → HasRowEnds area t id
 unfolding mirrorHasRow
 has-row-ends area t id = (
   record { first = has-row-first area t id; refused = λ h. (refl, tt); accepted = λ h. tt },
-  asked-refused area noPresence (presenceOf t id) (λ (p : Presence). p .there ≡ false) (λ (p : Presence). p .answer) (λ m. refl) (λ a. refl),
+  asked-refused area noPresence (presenceOf t id) (λ (p : Presence). p .there ≡ false) (λ (p : Presence). p .status) (λ m. refl) (λ a. refl),
 )
 
 pub short-first : (b c : Bool) → given (record { number = 2; applies = not (b && false) } ∷ record { number = 1; applies = c } ∷ []) 0 ≡ 2
 short-first true c = refl
 short-first false c = refl
 
-pub column-first : (area : List ℕ) (t : ℕ) (id : List ℕ) (c : ℕ) (out : List ℕ) → numberOf (mirrorColumn area t id c out .answer) ≡ columnNumber area out
+pub column-first : (area : List ℕ) (t : ℕ) (id : List ℕ) (c : ℕ) (out : List ℕ) → numberOf (mirrorColumn area t id c out .status) ≡ columnNumber area out
 unfolding mirrorColumn columnNumber
 column-first area t id c out = split (eqb (length out) columnBytes)
-    (λ f. rw (mirrorColumn, f) (asked-first area (noContents out) (contentsOf t id c) (λ (p : Contents). p .answer) (λ a. refl) (λ m. refl)))
+    (λ f. rw (mirrorColumn, f) (asked-first area (noContents out) (contentsOf t id c) (λ (p : Contents). p .status) (λ a. refl) (λ m. refl)))
     (λ f. rw (mirrorColumn, f) (sym (short-first (eqb (length area) mirrorBytes) (not (isSome (mirrorOf area))))))
 
-column-refused : (area : List ℕ) (t : ℕ) (id : List ℕ) (c : ℕ) (out : List ℕ) → isRefusal (mirrorColumn area t id c out .answer) ≡ true → mirrorColumn area t id c out .out ≡ zeroed out
+column-refused : (area : List ℕ) (t : ℕ) (id : List ℕ) (c : ℕ) (out : List ℕ) → isRefusal (mirrorColumn area t id c out .status) ≡ true → mirrorColumn area t id c out .out ≡ zeroed out
 unfolding mirrorColumn
 column-refused area t id c out = split (eqb (length out) columnBytes)
-    (λ f. rw (mirrorColumn, f) (asked-refused area (noContents out) (contentsOf t id c) (λ (p : Contents). p .out ≡ zeroed out) (λ (p : Contents). p .answer) (λ m. refl) (λ a. refl)))
+    (λ f. rw (mirrorColumn, f) (asked-refused area (noContents out) (contentsOf t id c) (λ (p : Contents). p .out ≡ zeroed out) (λ (p : Contents). p .status) (λ m. refl) (λ a. refl)))
     (λ f. rw (mirrorColumn, f) (λ h. refl))
 
 -- an output of its length holds just the answer
-column-accepted : (area : List ℕ) (t : ℕ) (id : List ℕ) (c : ℕ) (out : List ℕ) → isRefusal (mirrorColumn area t id c out .answer) ≡ false
+column-accepted : (area : List ℕ) (t : ℕ) (id : List ℕ) (c : ℕ) (out : List ℕ) → isRefusal (mirrorColumn area t id c out .status) ≡ false
     → let w = columnAnswer (mirrorOr (mirrorOf area) .mirror) t (value id) c in
     (length w ≡ length out) × (mirrorColumn area t id c out .out ≡ w)
 unfolding mirrorColumn
 column-accepted area t id c out = split (eqb (length out) columnBytes)
     (λ f. rw (mirrorColumn, f)
-    (asked-accepted area (noContents out) (contentsOf t id c) (λ (m : Mirror) (p : Contents). (length (columnAnswer m t (value id) c) ≡ length out) × (p .out ≡ columnAnswer m t (value id) c)) (λ (p : Contents). p .answer) (λ a. refl)
+    (asked-accepted area (noContents out) (contentsOf t id c) (λ (m : Mirror) (p : Contents). (length (columnAnswer m t (value id) c) ≡ length out) × (p .out ≡ columnAnswer m t (value id) c)) (λ (p : Contents). p .status) (λ a. refl)
     (λ m e. (column-answer-length (m .database .tables) (m .mirror) t (value id) c (mirror-parts m (mirror-of-is area m e .1) .rows) ∙ sym (eqb-true (length out) columnBytes f), refl))))
     (λ f. rw (mirrorColumn, f) (λ h. absurd (clash true refl h)))
 

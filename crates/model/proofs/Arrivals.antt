@@ -14,7 +14,7 @@ use Rattle.model.specs.Rows.{Row}
 use Rattle.model.specs.Records.{Change, born, gone, column, end, acts, fits, known, allows, sound, Record, numbered, mark}
 use Rattle.model.specs.Mirror.{Mirror, fresh, Step, hears, applies, bad, onRead, numberCarried}
 use Rattle.model.specs.Refusals.{isRefusal}
-use Rattle.model.specs.declared.Answer.the-variants.{BadRecord, OtherRun, Repeat, Behind, Heard, Applied}
+use Rattle.model.specs.declared.Status.the-variants.{BadRecord, OtherRun, Repeat, Behind, Heard, Applied}
 use Rattle.model.proofs.StateDemand.{endsAt}
 use Rattle.model.proofs.Tests.{split, clash, parts, and-l, and-r, or-l, or-r}
 use Rattle.model.proofs.Chain.{Chain}
@@ -36,14 +36,14 @@ sound-fits s end h = tt
 
 -- the mirror's choice, by its cases
 pub data Said (s : Schema) (run : ℕ) (m : Mirror) : Option Record → Step → Type 0 where
-  unread : Said s run m none (record { answer = BadRecord; next = m })
-  strangeMark : (u k : ℕ) → eqb u run ≡ false → Said s run m (some (mark u k)) (record { answer = OtherRun; next = m })
-  marked : (u k : ℕ) → u ≡ run → Said s run m (some (mark u k)) (record { answer = Heard; next = hears m k })
-  unfit : (u k : ℕ) (e : Change) → bad s m k e ≡ true → Said s run m (some (numbered u k e)) (record { answer = BadRecord; next = m })
-  strange : (u k : ℕ) (e : Change) → eqb u run ≡ false → Said s run m (some (numbered u k e)) (record { answer = OtherRun; next = m })
-  again : (u k : ℕ) (e : Change) → u ≡ run → 0 < k → k ≤ m .n → Said s run m (some (numbered u k e)) (record { answer = Repeat; next = m })
-  next : (u k : ℕ) (e : Change) → bad s m k e ≡ false → u ≡ run → k ≡ suc (m .n) → Said s run m (some (numbered u k e)) (record { answer = Applied; next = applies s m e })
-  early : (u k : ℕ) (e : Change) → u ≡ run → suc (m .n) < k → Said s run m (some (numbered u k e)) (record { answer = Behind; next = hears m k })
+  unread : Said s run m none (record { status = BadRecord; next = m })
+  strangeMark : (u k : ℕ) → eqb u run ≡ false → Said s run m (some (mark u k)) (record { status = OtherRun; next = m })
+  marked : (u k : ℕ) → u ≡ run → Said s run m (some (mark u k)) (record { status = Heard; next = hears m k })
+  unfit : (u k : ℕ) (e : Change) → bad s m k e ≡ true → Said s run m (some (numbered u k e)) (record { status = BadRecord; next = m })
+  strange : (u k : ℕ) (e : Change) → eqb u run ≡ false → Said s run m (some (numbered u k e)) (record { status = OtherRun; next = m })
+  again : (u k : ℕ) (e : Change) → u ≡ run → 0 < k → k ≤ m .n → Said s run m (some (numbered u k e)) (record { status = Repeat; next = m })
+  next : (u k : ℕ) (e : Change) → bad s m k e ≡ false → u ≡ run → k ≡ suc (m .n) → Said s run m (some (numbered u k e)) (record { status = Applied; next = applies s m e })
+  early : (u k : ℕ) (e : Change) → u ≡ run → suc (m .n) < k → Said s run m (some (numbered u k e)) (record { status = Behind; next = hears m k })
 
 pub said : (s : Schema) (run : ℕ) (m : Mirror) (o : Option Record) → Said s run m o (onRead s run m o)
 said s run m none = unread
@@ -60,7 +60,7 @@ said s run m (some (numbered u k e)) = split (bad s m k e) (λ p. rw p (unfit u 
     (λ q. rw (p, q) (strange u k e q)))
 
 module _ {s : Schema} {run : ℕ} {m : Mirror} where
-  pub refused-same : {o : Option Record} {x : Step} → Said s run m o x → isRefusal (x .answer) ≡ true → x .next ≡ m
+  pub refused-same : {o : Option Record} {x : Step} → Said s run m o x → isRefusal (x .status) ≡ true → x .next ≡ m
   refused-same unread h = refl
   refused-same (strangeMark u k p) h = refl
   refused-same (marked u k r) h = absurd (clash false h refl)
@@ -101,7 +101,7 @@ module _ (s : Schema) (run : ℕ) (es : List Change) (final : List Row) (chain :
   held-hears : {m : Mirror} (k : ℕ) → Held m → Held (hears m k)
   held-hears {m} k h = record { within = h .within; made = h .made; ends = h .ends; topped = omega (arith, h .topped); loud = λ _. refl }
 
-  pub held-said : {m : Mirror} {l : Record} {x : Step} → Held m → Tells run es l → Said s run m (some l) x → Held (x .next) × (isRefusal (x .answer) ≡ false)
+  pub held-said : {m : Mirror} {l : Record} {x : Step} → Held m → Tells run es l → Said s run m (some l) x → Held (x .next) × (isRefusal (x .status) ≡ false)
   held-said h t (strangeMark u k p) = absurd (eqb-false u run p (t .0))
   held-said h t (marked u k r) = (held-hears k h, refl)
   held-said {m} h t (unfit u k e p) = absurd (clash (bad s m k e) p (rw (t .1 .2, t .1 .3) (fit m h (t .1 .0) (t .1 .1))))
@@ -123,10 +123,10 @@ module _ (s : Schema) (run : ℕ) (es : List Change) (final : List Row) (chain :
   held-said h t (early u k e r p) = (held-hears k h, refl)
 
   -- record n+1 moves n by one
-  pub moves-said : {m : Mirror} {e : Change} {x : Step} → Held m → m .n < length es → e ≡ getD es (m .n) end → Said s run m (some (numbered run (suc (m .n)) e)) x → (x .answer ≡ Applied) × (x .next .n ≡ suc (m .n))
+  pub moves-said : {m : Mirror} {e : Change} {x : Step} → Held m → m .n < length es → e ≡ getD es (m .n) end → Said s run m (some (numbered run (suc (m .n)) e)) x → (x .status ≡ Applied) × (x .next .n ≡ suc (m .n))
   moves-said {m} {e} h l q v = go v refl
     where
-      go : {k : ℕ} {x : Step} → Said s run m (some (numbered run k e)) x → k ≡ suc (m .n) → (x .answer ≡ Applied) × (x .next .n ≡ suc (m .n))
+      go : {k : ℕ} {x : Step} → Said s run m (some (numbered run k e)) x → k ≡ suc (m .n) → (x .status ≡ Applied) × (x .next .n ≡ suc (m .n))
       go (unfit u k e p) z = absurd (clash (bad s m k e) p (rw (z, q) (fit m h (m .n) l)))
       go (strange u k e p) z = absurd (eqb-false u run p refl)
       go (again u k e r a b) z = absurd (omega arith)
@@ -134,7 +134,7 @@ module _ (s : Schema) (run : ℕ) (es : List Change) (final : List Row) (chain :
       go (early u k e r p) z = absurd (omega arith)
 
   -- what was heard
-  pub heard-said : {m : Mirror} {o : Option Record} {x : Step} → Held m → Said s run m o x → isRefusal (x .answer) ≡ false → (x .next .top ≡ max (m .top) (numberCarried o)) × (x .next .heard ≡ true)
+  pub heard-said : {m : Mirror} {o : Option Record} {x : Step} → Held m → Said s run m o x → isRefusal (x .status) ≡ false → (x .next .top ≡ max (m .top) (numberCarried o)) × (x .next .heard ≡ true)
   heard-said h unread q = absurd (clash true refl q)
   heard-said h (strangeMark u k p) q = absurd (clash true refl q)
   heard-said h (marked u k r) q = (refl, refl)

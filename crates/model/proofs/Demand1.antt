@@ -16,7 +16,7 @@ use Rattle.model.specs.SchemaText.{readSchema}
 use Rattle.model.specs.Rows.{Row}
 use Rattle.model.specs.Transact.{Request, readRequest, freshIds, idsGood, transactRows}
 use Rattle.model.specs.Refusals.{numberOf, isRefusal}
-use Rattle.model.specs.Replies.{Reply, reply, changesOf, refused, replyTo, named, freshly, told}
+use Rattle.model.specs.Replies.{Reply, reply, changesOf, refused, replyTo, named, freshly, concluded}
 use Rattle.model.specs.Replies as Replies
 use Rattle.model.specs.Records.{Change, Record, numbered, mark, decode}
 use Rattle.model.specs.Mirror.{Mirror, bad, Step, onRead, step, columnBytes}
@@ -27,8 +27,8 @@ use Rattle.model.specs.Calls.{Started, Transacted, transactRefused, Mark
 use Rattle.model.specs.Laid.{storeOr, requestOr, mirrorOr, held, tables, asks, changesLaid, textLaid}
 use Rattle.model.specs.FirstRefusal.{Condition, given, startConditions, storeStartNumber, mirrorStartNumber, transactConditions, transactNumber, markConditions, markNumber, badRecord, runIn, recordConditions, hearConditions, heardAs, hearNumber}
 use Rattle.model.specs.Demands.{StoreStartEnds, MirrorStartEnds, HearEnds}
-use Rattle.model.specs.declared.Answer.{Answer}
-use Rattle.model.specs.declared.Answer.the-variants.{Accepted, Disordered, WrongLength, BadSchema, BadRequest, OtherDatabase, BadFreshIds, AnswerTooLong, BadRecord, OtherRun, NumbersSpent, Repeat, Behind, Heard, Applied}
+use Rattle.model.specs.declared.Status.{Status}
+use Rattle.model.specs.declared.Status.the-variants.{Accepted, Disordered, WrongLength, BadSchema, BadRequest, OtherDatabase, BadFreshIds, AnswerTooLong, BadRecord, OtherRun, NumbersSpent, Repeat, Behind, Heard, Applied}
 use Rattle.model.proofs.Tests.{split, clash, and-l, and-r, parts}
 use Rattle.model.proofs.Areas.{store-of-is}
 use Rattle.model.proofs.Laid.{laid-text, laid-changes}
@@ -50,17 +50,17 @@ chosen number d true k cs x y p q = q
 chosen number d false k cs x y p q = p
 
 -- ── starting ──
-starts : (bytes : ℕ) (area schema : List ℕ) (made : Database → List ℕ) → numberOf (startAs bytes area schema made .answer) ≡ given (startConditions bytes area schema) 0
+starts : (bytes : ℕ) (area schema : List ℕ) (made : Database → List ℕ) → numberOf (startAs bytes area schema made .status) ≡ given (startConditions bytes area schema) 0
 starts bytes area schema made = split (eqb (length area) bytes)
     (λ e. look (readSchema schema) (λ f. rw (startAs, e, f)) (λ d f. rw (startAs, e, f)))
     (λ e. rw (startAs, e))
 
-starts-refused : (bytes : ℕ) (area schema : List ℕ) (made : Database → List ℕ) → isRefusal (startAs bytes area schema made .answer) ≡ true → startAs bytes area schema made .area ≡ area
+starts-refused : (bytes : ℕ) (area schema : List ℕ) (made : Database → List ℕ) → isRefusal (startAs bytes area schema made .status) ≡ true → startAs bytes area schema made .area ≡ area
 starts-refused bytes area schema made = split (eqb (length area) bytes)
     (λ e. look (readSchema schema) (λ f. rw (startAs, e, f) (λ h. refl)) (λ d f. rw (startAs, e, f) (λ h. absurd (clash false h refl))))
     (λ e. rw (startAs, e) (λ h. refl))
 
-pub starts-accepted : (bytes : ℕ) (area schema : List ℕ) (made : Database → List ℕ) → isRefusal (startAs bytes area schema made .answer) ≡ false
+pub starts-accepted : (bytes : ℕ) (area schema : List ℕ) (made : Database → List ℕ) → isRefusal (startAs bytes area schema made .status) ≡ false
     → (d : Database) × (readSchema schema ≡ some d) × (startAs bytes area schema made .area ≡ made d)
 starts-accepted bytes area schema made h = split (eqb (length area) bytes)
     (λ e. look (readSchema schema)
@@ -68,7 +68,7 @@ starts-accepted bytes area schema made h = split (eqb (length area) bytes)
     (λ d f. (d, f, rw (startAs, e, f))))
     (λ e. absurd (clash true refl (rw (startAs, e) at h)))
 
-pub store-start-first : (area schema : List ℕ) (run : ℕ) → numberOf (storeStart area schema run .answer) ≡ storeStartNumber area schema
+pub store-start-first : (area schema : List ℕ) (run : ℕ) → numberOf (storeStart area schema run .status) ≡ storeStartNumber area schema
 unfolding storeStart storeStartNumber
 store-start-first area schema run = starts storeBytes area schema _
 
@@ -79,7 +79,7 @@ store-start-ends area schema run = (
   λ h. starts-accepted storeBytes area schema _ h,
 )
 
-pub mirror-start-first : (area schema : List ℕ) (run : ℕ) → numberOf (mirrorStart area schema run .answer) ≡ mirrorStartNumber area schema
+pub mirror-start-first : (area schema : List ℕ) (run : ℕ) → numberOf (mirrorStart area schema run .status) ≡ mirrorStartNumber area schema
 unfolding mirrorStart mirrorStartNumber
 mirror-start-first area schema run = starts mirrorBytes area schema _
 
@@ -113,41 +113,41 @@ replyConditions d number rows ids room q text es =
     ∷ []
 
 replyNumber : Reply → ℕ
-replyNumber r = numberOf (r .answer)
+replyNumber r = numberOf (r .status)
 
 named-first : (d : Database) (number : ℕ) (rows : List Row) (ids : List ℕ) (room : ℕ) (q : Request)
     → let t = transactRows (d .tables) ids rows (q .operations) in
-    numberOf (named d number rows ids room q .answer) ≡ first 0 (replyConditions d number rows ids room q (t .text) (changesOf (d .tables) rows t))
+    numberOf (named d number rows ids room q .status) ≡ first 0 (replyConditions d number rows ids room q (t .text) (changesOf (d .tables) rows t))
 unfolding replyNumber
 named-first d number rows ids room q =
     let t = transactRows (d .tables) ids rows (q .operations) in
     let es = changesOf (d .tables) rows t in
     let cs = replyConditions d number rows ids room q (t .text) es in
     chosen replyNumber 0 (eqBytes (q .name) (d .name)) 5 (behind cs) (refused OtherDatabase rows) (freshly (d .tables) number rows ids room q) refl
-    (chosen replyNumber 0 (idsGood ids rows) 6 (behind (behind cs)) (refused BadFreshIds rows) (told (d .tables) number rows room t) refl
+    (chosen replyNumber 0 (idsGood ids rows) 6 (behind (behind cs)) (refused BadFreshIds rows) (concluded (d .tables) number rows room t) refl
     (chosen replyNumber 0 (leb (length (t .text)) room) 7 (behind (behind (behind cs))) (refused AnswerTooLong rows) (Replies.numbered number rows t es) refl
-    (chosen replyNumber 0 (leb (number + length es) lastNumber) 10 [] (refused NumbersSpent rows) (record { answer = Accepted; rows = t .rows; changes = es; text = t .text }) refl refl)))
+    (chosen replyNumber 0 (leb (number + length es) lastNumber) 10 [] (refused NumbersSpent rows) (record { status = Accepted; rows = t .rows; changes = es; text = t .text }) refl refl)))
 
 reply-first : (d : Database) (number : ℕ) (rows : List Row) (request fresh : List ℕ) (room : ℕ)
     → let q = requestOr (readRequest request) in
     let t = transactRows (d .tables) (freshIds fresh) rows (q .operations) in
-    numberOf (reply d number rows request fresh room .answer)
+    numberOf (reply d number rows request fresh room .status)
     ≡ first 0 (record { number = 4; applies = not (isSome (readRequest request)) } ∷ replyConditions d number rows (freshIds fresh) room q (t .text) (changesOf (d .tables) rows t))
 reply-first d number rows request fresh room = go (readRequest request)
   where
     go : (o : Option Request)
         → let q = requestOr o in
         let t = transactRows (d .tables) (freshIds fresh) rows (q .operations) in
-        numberOf (replyTo d number rows (freshIds fresh) room o .answer)
+        numberOf (replyTo d number rows (freshIds fresh) room o .status)
         ≡ first 0 (record { number = 4; applies = not (isSome o) } ∷ replyConditions d number rows (freshIds fresh) room q (t .text) (changesOf (d .tables) rows t))
     go none = refl
     go (some q) = named-first d number rows (freshIds fresh) room q
 
-replied : (area records text : List ℕ) (st : Store) (r : Reply) → transactReplied area records text st r .answer ≡ r .answer
-replied area records text st r = split (isRefusal (r .answer)) (λ e. rw (transactReplied, e)) (λ e. rw (transactReplied, e))
+replied : (area records text : List ℕ) (st : Store) (r : Reply) → transactReplied area records text st r .status ≡ r .status
+replied area records text st r = split (isRefusal (r .status)) (λ e. rw (transactReplied, e)) (λ e. rw (transactReplied, e))
 
 transactAs : Transacted → ℕ
-transactAs t = numberOf (t .answer)
+transactAs t = numberOf (t .status)
 
 -- what comes once the lengths are right, by the area
 abbrev storeConditions : List ℕ → List ℕ → ℕ → Option Store → List ℕ → List Change → List Condition
@@ -162,13 +162,13 @@ on-first : (area request fresh records text : List ℕ) (o : Option Store) → s
     → let st = storeOr o in
     let d = st .database in
     let t = transactRows (d .tables) (freshIds fresh) (st .rows) (requestOr (readRequest request) .operations) in
-    numberOf (transactOn area request fresh records text o .answer) ≡ first 0 (storeConditions request fresh (length text) o (t .text) (changesOf (d .tables) (st .rows) t))
+    numberOf (transactOn area request fresh records text o .status) ≡ first 0 (storeConditions request fresh (length text) o (t .text) (changesOf (d .tables) (st .rows) t))
 on-first area request fresh records text none e = refl
 on-first area request fresh records text (some st) e =
     rw (holds-schema area st e) (ap numberOf (replied area records text st (replyOf st request fresh (length text))) ∙ reply-first (st .database) (st .number) (st .rows) request fresh (length text))
 
 pub transact-first : (area request fresh records text : List ℕ)
-    → numberOf (storeTransact area request fresh records text .answer) ≡ transactNumber area request fresh records text
+    → numberOf (storeTransact area request fresh records text .status) ≡ transactNumber area request fresh records text
 unfolding storeTransact transactAs transactNumber
 transact-first area request fresh records text =
     let cs = transactConditions area request fresh records text in
@@ -180,49 +180,49 @@ transact-first area request fresh records text =
 abbrev Untouched : List ℕ → List ℕ → List ℕ → Transacted → Type 0
 Untouched area records text t = (t .area ≡ area) × (t .records ≡ zeroed records) × (t .text ≡ zeroed text)
 
-pub transact-refused : (area request fresh records text : List ℕ) → isRefusal (storeTransact area request fresh records text .answer) ≡ true
+pub transact-refused : (area request fresh records text : List ℕ) → isRefusal (storeTransact area request fresh records text .status) ≡ true
     → Untouched area records text (storeTransact area request fresh records text)
 unfolding storeTransact
 transact-refused area request fresh records text = split (lengthsGood area fresh records text)
     (λ e. rw (storeTransact, e) (go (storeOf area)))
     (λ e. rw (storeTransact, e) (λ h. (refl, refl, refl)))
   where
-    on : (st : Store) (r : Reply) → isRefusal (transactReplied area records text st r .answer) ≡ true → Untouched area records text (transactReplied area records text st r)
-    on st r = split (isRefusal (r .answer))
+    on : (st : Store) (r : Reply) → isRefusal (transactReplied area records text st r .status) ≡ true → Untouched area records text (transactReplied area records text st r)
+    on st r = split (isRefusal (r .status))
         (λ e. rw (transactReplied, e) (λ h. (refl, refl, refl)))
-        (λ e. rw (transactReplied, e) (λ h. absurd (clash (isRefusal (r .answer)) h e)))
+        (λ e. rw (transactReplied, e) (λ h. absurd (clash (isRefusal (r .status)) h e)))
 
-    go : (o : Option Store) → isRefusal (transactOn area request fresh records text o .answer) ≡ true → Untouched area records text (transactOn area request fresh records text o)
+    go : (o : Option Store) → isRefusal (transactOn area request fresh records text o .status) ≡ true → Untouched area records text (transactOn area request fresh records text o)
     go none h = (refl, refl, refl)
     go (some st) h = on st (replyOf st request fresh (length text)) h
 
 -- ── mark ──
 markAs : Marked → ℕ
-markAs m = numberOf (m .answer)
+markAs m = numberOf (m .status)
 
-pub mark-first : (area out : List ℕ) → numberOf (storeMark area out .answer) ≡ markNumber area out
+pub mark-first : (area out : List ℕ) → numberOf (storeMark area out .status) ≡ markNumber area out
 unfolding storeMark markAs markNumber
 mark-first area out =
-    chosen markAs 0 (every (eqb (length area) storeBytes ∷ leb leastMark (length out) ∷ [])) 2 (behind (markConditions area out)) (record { answer = WrongLength; mark = zeroed out }) (markOn out (storeOf area)) refl
+    chosen markAs 0 (every (eqb (length area) storeBytes ∷ leb leastMark (length out) ∷ [])) 2 (behind (markConditions area out)) (record { status = WrongLength; mark = zeroed out }) (markOn out (storeOf area)) refl
     (go (storeOf area))
   where
-    go : (o : Option Store) → numberOf (markOn out o .answer) ≡ first 0 (record { number = 1; applies = not (isSome o) } ∷ [])
+    go : (o : Option Store) → numberOf (markOn out o .status) ≡ first 0 (record { number = 1; applies = not (isSome o) } ∷ [])
     go none = refl
     go (some st) = refl
 
-pub mark-refused : (area out : List ℕ) → isRefusal (storeMark area out .answer) ≡ true → storeMark area out .mark ≡ zeroed out
+pub mark-refused : (area out : List ℕ) → isRefusal (storeMark area out .status) ≡ true → storeMark area out .mark ≡ zeroed out
 unfolding storeMark
 mark-refused area out = split (every (eqb (length area) storeBytes ∷ leb leastMark (length out) ∷ []))
     (λ e. rw (storeMark, e) (go (storeOf area)))
     (λ e. rw (storeMark, e) (λ h. refl))
   where
-    go : (o : Option Store) → isRefusal (markOn out o .answer) ≡ true → markOn out o .mark ≡ zeroed out
+    go : (o : Option Store) → isRefusal (markOn out o .status) ≡ true → markOn out o .mark ≡ zeroed out
     go none h = refl
     go (some st) h = absurd (clash false h refl)
 
 -- ── arrivals ──
 pub step-first : (s : Schema) (run : ℕ) (m : Mirror) (o : Option Record)
-    → numberOf (onRead s run m o .answer) ≡ given (recordConditions s run m o) (heardAs (m .n) o)
+    → numberOf (onRead s run m o .status) ≡ given (recordConditions s run m o) (heardAs (m .n) o)
 step-first s run m none = refl
 step-first s run m (some (mark u k)) = split (eqb u run) (λ e. rw e) (λ e. rw e)
 step-first s run m (some (numbered u k e)) = split (bad s m k e)
@@ -231,37 +231,37 @@ step-first s run m (some (numbered u k e)) = split (bad s m k e)
     (λ q. split (leb k (m .n)) (λ x. rw (p, q, x)) (λ x. split (eqb k (suc (m .n))) (λ y. rw (p, q, x, y)) (λ y. rw (p, q, x, y))))
     (λ q. rw (p, q)))
 
-heard-answer : (area : List ℕ) (m : MirrorState) (x : Step) → hearStep area m x .answer ≡ x .answer
-heard-answer area m x = split (isRefusal (x .answer)) (λ e. rw (hearStep, e)) (λ e. rw (hearStep, e))
+heard-answer : (area : List ℕ) (m : MirrorState) (x : Step) → hearStep area m x .status ≡ x .status
+heard-answer area m x = split (isRefusal (x .status)) (λ e. rw (hearStep, e)) (λ e. rw (hearStep, e))
 
 hearAs : Arrived → ℕ
-hearAs a = numberOf (a .answer)
+hearAs a = numberOf (a .status)
 
-pub hear-first : (area x : List ℕ) → numberOf (mirrorHear area x .answer) ≡ hearNumber area x
+pub hear-first : (area x : List ℕ) → numberOf (mirrorHear area x .status) ≡ hearNumber area x
 unfolding mirrorHear hearAs hearNumber
 hear-first area x =
-    chosen hearAs (heardAs (mirrorOr (mirrorOf area) .mirror .n) (decode x)) (eqb (length area) mirrorBytes) 2 (behind (hearConditions area x)) (record { answer = WrongLength; area = area }) (hearOn area x (mirrorOf area)) refl
+    chosen hearAs (heardAs (mirrorOr (mirrorOf area) .mirror .n) (decode x)) (eqb (length area) mirrorBytes) 2 (behind (hearConditions area x)) (record { status = WrongLength; area = area }) (hearOn area x (mirrorOf area)) refl
     (go (mirrorOf area))
   where
     go : (o : Option MirrorState)
         → let m = mirrorOr o in
-        numberOf (hearOn area x o .answer)
+        numberOf (hearOn area x o .status)
         ≡ first (heardAs (m .mirror .n) (decode x)) (record { number = 1; applies = not (isSome o) } ∷ recordConditions (m .database .tables) (m .run) (m .mirror) (decode x))
     go none = refl
     go (some m) = ap numberOf (heard-answer area m (step (m .database .tables) (m .run) (m .mirror) x)) ∙ step-first (m .database .tables) (m .run) (m .mirror) (decode x)
 
-pub hear-refused : (area x : List ℕ) → isRefusal (mirrorHear area x .answer) ≡ true → mirrorHear area x .area ≡ area
+pub hear-refused : (area x : List ℕ) → isRefusal (mirrorHear area x .status) ≡ true → mirrorHear area x .area ≡ area
 unfolding mirrorHear
 hear-refused area x = split (eqb (length area) mirrorBytes)
     (λ e. rw (mirrorHear, e) (go (mirrorOf area)))
     (λ e. rw (mirrorHear, e) (λ h. refl))
   where
-    on : (m : MirrorState) (y : Step) → isRefusal (hearStep area m y .answer) ≡ true → hearStep area m y .area ≡ area
-    on m y = split (isRefusal (y .answer))
+    on : (m : MirrorState) (y : Step) → isRefusal (hearStep area m y .status) ≡ true → hearStep area m y .area ≡ area
+    on m y = split (isRefusal (y .status))
         (λ e. rw (hearStep, e) (λ h. refl))
-        (λ e. rw (hearStep, e) (λ h. absurd (clash (isRefusal (y .answer)) h e)))
+        (λ e. rw (hearStep, e) (λ h. absurd (clash (isRefusal (y .status)) h e)))
 
-    go : (o : Option MirrorState) → isRefusal (hearOn area x o .answer) ≡ true → hearOn area x o .area ≡ area
+    go : (o : Option MirrorState) → isRefusal (hearOn area x o .status) ≡ true → hearOn area x o .area ≡ area
     go none h = refl
     go (some m) h = on m (step (m .database .tables) (m .run) (m .mirror) x) h
 

@@ -74,11 +74,11 @@ module _ (area request fresh records text : List ℕ) where
       ∙ store-of-is area st (g .here) .0
 
   stay : commits area request fresh records text ≡ false → (it .area ≡ area) × (it .records ≡ zeroed records)
-  stay h = split (isRefusal (it .answer))
+  stay h = split (isRefusal (it .status))
       (λ r. let u = transact-refused area request fresh records text r in (u .0, u .1))
       (λ r.
       let g = given-is area request fresh records text r in
-      let f = failed (other (isRefusal (it .answer)) (succeeds area request fresh) h r) in
+      let f = failed (other (isRefusal (it .status)) (succeeds area request fresh) h r) in
       (same-area g (f .0) (f .1), silent g (f .0)))
 
   module _ (b : all octet fresh ≡ true) (g : G) where
@@ -118,7 +118,7 @@ module _ (area request fresh records text : List ℕ) where
     loud e = silent g (between ∙ ap (diff (tables area request fresh) (st .rows)) e ∙ diff-self (tables area request fresh) (st .rows) (in-order area st (g .here) .good .sorted))
 
   both-ways : all octet fresh ≡ true → (storeOr (storeOf (it .area)) .rows ≡ storeOr (storeOf area) .rows) ↔ (it .records ≡ zeroed records)
-  both-ways b = split (isRefusal (it .answer))
+  both-ways b = split (isRefusal (it .status))
       (λ r. let u = transact-refused area request fresh records text r in ((λ _. u .1), (λ _. ap (λ (a : List ℕ). storeOr (storeOf a) .rows) (u .0))))
       (λ r.
       let g = given-is area request fresh records text r in
@@ -128,7 +128,7 @@ module _ (area request fresh records text : List ℕ) where
   pub transacts : all octet fresh ≡ true → Transacts area request fresh records text
   transacts b = record {
     committed = λ h.
-        let g = given-is area request fresh records text (not-l (isRefusal (it .answer)) (and-l (not (isRefusal (it .answer))) (succeeds area request fresh) h)) in
+        let g = given-is area request fresh records text (not-l (isRefusal (it .status)) (and-l (not (isRefusal (it .status))) (succeeds area request fresh) h)) in
         (g .areaIs, g .recordsAre ∙ filled-is (length records) (recordsLaid area request fresh) (records-fit-laid area request fresh records text g b));
     stays = stay;
     answered = λ r. let g = given-is area request fresh records text r in g .textIs ∙ filled-is (length text) (textLaid area request fresh) (g .textFits);

@@ -22,7 +22,7 @@ use Rattle.model.proofs.Tests.{split, and-r}
 use Rattle.model.proofs.Chain.{Chain}
 use Rattle.model.proofs.Heart.{chain-acts}
 use Rattle.model.proofs.Bytes.{decode-encode}
-use Rattle.model.proofs.Past.{chain-at, past-chain, past-room, Told, tellMark, tell, told, unmap}
+use Rattle.model.proofs.Past.{chain-at, past-chain, past-room, Issued, tellMark, tell, issued, unmap}
 use Rattle.model.proofs.Arrivals.{sound-fits, said, refused-same, Tells, Held, held-fresh, held-said, moves-said, heard-said}
 use Rattle.model.proofs.Commits.{commit-at, changes-take, last-is, keeps-take}
 
@@ -51,22 +51,22 @@ module _ (s : Schema) (run : ℕ) (short : run < 256 ^ 4) (calls : List Call) (k
   Holds m = Held s run R F chain m
 
   -- what is sent is read back as what the history wrote
-  tells : (l : Record) → Told run 0 R l → Tells run R l × (decode (encode l) ≡ some l)
+  tells : (l : Record) → Issued run 0 R l → Tells run R l × (decode (encode l) ≡ some l)
   tells l (tellMark k h) = ((refl, omega arith), decode-encode (mark run k) (short, omega (arith, room)))
   tells l (tell j k e h p q) =
       let c : sound s e ≡ true = rw q (chain-at s R [] F chain j h .0) in
       ((refl, (j, h, omega arith, q)), decode-encode (numbered run k e) (short, omega (arith, room), sound-fits s e c))
 
   -- one arrival of what was sent
-  of-record : (m : Mirror) (l : Record) (x : List ℕ) → Holds m → x ≡ encode l → Tells run R l → decode (encode l) ≡ some l → Holds (step s run m x .next) × (isRefusal (step s run m x .answer) ≡ false)
+  of-record : (m : Mirror) (l : Record) (x : List ℕ) → Holds m → x ≡ encode l → Tells run R l → decode (encode l) ≡ some l → Holds (step s run m x .next) × (isRefusal (step s run m x .status) ≡ false)
   unfolding Holds
   of-record m l x h p t d = rw (p, d) (held-said s run R F chain h t (said s run m (some l)))
 
-  of-sent : (m : Mirror) (x : List ℕ) → Holds m → List·Memᴰ x sent → Holds (step s run m x .next) × (isRefusal (step s run m x .answer) ≡ false)
+  of-sent : (m : Mirror) (x : List ℕ) → Holds m → List·Memᴰ x sent → Holds (step s run m x .next) × (isRefusal (step s run m x .status) ≡ false)
   unfolding sent R
   of-sent m x h b =
       let u = unmap (records s run empty calls) x b in
-      let t = tells (u .0) (told s run empty calls (u .0) (u .1)) in
+      let t = tells (u .0) (issued s run empty calls (u .0) (u .1)) in
       of-record m (u .0) x h (u .2) (t .0) (t .1)
 
   -- all arrivals
@@ -77,7 +77,7 @@ module _ (s : Schema) (run : ℕ) (short : run < 256 ^ 4) (calls : List Call) (k
 
   ran-next : (m : Mirror) (x : List ℕ) (xs : List (List ℕ)) → Holds m → Ran (step s run m x .next) xs → Ran m (x ∷ xs)
   unfolding Holds
-  ran-next m x xs h r = split (isRefusal (step s run m x .answer))
+  ran-next m x xs h r = split (isRefusal (step s run m x .status))
       (λ q.
       let e = refused-same (said s run m (decode x)) q in
       record {
@@ -97,7 +97,7 @@ module _ (s : Schema) (run : ℕ) (short : run < 256 ^ 4) (calls : List Call) (k
   ran m [] h a = record { held = h; top = omega arith; heard = sym (or-false (m .heard)) }
   ran m (x ∷ xs) h a = ran-next m x xs h (ran (step s run m x .next) xs (go (a .0)) (a .1))
     where
-      go : List·Memᴰ x sent ⊎ (isRefusal (step s run m x .answer) ≡ true) → Holds (step s run m x .next)
+      go : List·Memᴰ x sent ⊎ (isRefusal (step s run m x .status) ≡ true) → Holds (step s run m x .next)
       go (inl b) = of-sent m x h b .0
       go (inr q) = rw (refused-same (said s run m (decode x)) q) h
 

@@ -26,13 +26,13 @@ use Rattle.model.proofs.StateDemand as OnStates
 use Rattle.model.specs.FirstRefusal.{given, recordConditions, heardAs}
 use Rattle.model.specs.Demands as claimed
 use Rattle.model.specs.Demands.{leftBy, Follows, Keeps, Demand3}
-use Rattle.model.specs.declared.Answer.{Answer}
-use Rattle.model.specs.declared.Answer.the-variants.{Accepted, Applied}
+use Rattle.model.specs.declared.Status.{Status}
+use Rattle.model.specs.declared.Status.the-variants.{Accepted, Applied}
 use Rattle.model.proofs.Tests.{clash}
 use Rattle.model.proofs.Lists.{all-take}
 use Rattle.model.proofs.TextUtf8.{by-test}
 use Rattle.model.proofs.Bytes.{Fits, Wide, decode-encode}
-use Rattle.model.proofs.Past.{past-chain, past-room, Told, tellMark, tell, told, unmap}
+use Rattle.model.proofs.Past.{past-chain, past-room, Issued, tellMark, tell, issued, unmap}
 use Rattle.model.proofs.Commits.{last-is}
 use Rattle.model.proofs.Demand3 as OfStates
 use Rattle.model.proofs.Demand3.{good-empty}
@@ -47,22 +47,22 @@ use Rattle.model.proofs.StoreHistory.{Lifted, lifted, said-changes, sai
 use Rattle.model.proofs.MirrorArrivals.{mirrorAt, progress-is, has-row-is, column-is, arrivals-take, answer-at, area-at, good-at, came}
 
 -- ── a started store and a started mirror ──
-not-refused : (a : Answer) → a ≡ Accepted → isRefusal a ≡ false
+not-refused : (a : Status) → a ≡ Accepted → isRefusal a ≡ false
 not-refused a e = ap isRefusal e
 
 same-some : {A : Type 0} (x y : A) (o : Option A) → o ≡ some x → o ≡ some y → x ≡ y
 same-some x y o p q = cc
 
-start-is : (bytes : ℕ) (area schema : List ℕ) (made : Database → List ℕ) (d : Database) → readSchema schema ≡ some d → startAs bytes area schema made .answer ≡ Accepted → startAs bytes area schema made .area ≡ made d
+start-is : (bytes : ℕ) (area schema : List ℕ) (made : Database → List ℕ) (d : Database) → readSchema schema ≡ some d → startAs bytes area schema made .status ≡ Accepted → startAs bytes area schema made .area ≡ made d
 start-is bytes area schema made d e h =
-    let r = starts-accepted bytes area schema made (not-refused (startAs bytes area schema made .answer) h) in
+    let r = starts-accepted bytes area schema made (not-refused (startAs bytes area schema made .status) h) in
     r .2 ∙ ap made (same-some (r .0) d (readSchema schema) (r .1) e)
 
-store-start : (old schema : List ℕ) (run : ℕ) (d : Database) → readSchema schema ≡ some d → storeStart old schema run .answer ≡ Accepted → storeStart old schema run .area ≡ encodeStore (storeAt d run empty)
+store-start : (old schema : List ℕ) (run : ℕ) (d : Database) → readSchema schema ≡ some d → storeStart old schema run .status ≡ Accepted → storeStart old schema run .area ≡ encodeStore (storeAt d run empty)
 unfolding storeStart
 store-start old schema run d e h = start-is storeBytes old schema (λ (x : Database). encodeStore (storeAt x run empty)) d e h
 
-mirror-start : (old schema : List ℕ) (run : ℕ) (d : Database) → readSchema schema ≡ some d → mirrorStart old schema run .answer ≡ Accepted → mirrorStart old schema run .area ≡ encodeMirror (mirrorAt d run fresh)
+mirror-start : (old schema : List ℕ) (run : ℕ) (d : Database) → readSchema schema ≡ some d → mirrorStart old schema run .status ≡ Accepted → mirrorStart old schema run .area ≡ encodeMirror (mirrorAt d run fresh)
 unfolding mirrorStart
 mirror-start old schema run d e h = start-is mirrorBytes old schema (λ (x : Database). encodeMirror (mirrorAt x run fresh)) d e h
 
@@ -75,10 +75,10 @@ carried : (l : Record) → Wide l → numberCarried (some l) < 256 ^ 4 → numbe
 carried l w h = rw (decode-encode l w) h
 
 -- a step leaves what its answer's number says
-left-by : (s : Schema) (run : ℕ) (m : Mirror) (o : Option Record) → onRead s run m o .next ≡ leftBy s (numberOf (onRead s run m o .answer)) m o
+left-by : (s : Schema) (run : ℕ) (m : Mirror) (o : Option Record) → onRead s run m o .next ≡ leftBy s (numberOf (onRead s run m o .status)) m o
 left-by s run m o = go (said s run m o)
   where
-    go : {o : Option Record} {x : Step} → Said s run m o x → x .next ≡ leftBy s (numberOf (x .answer)) m o
+    go : {o : Option Record} {x : Step} → Said s run m o x → x .next ≡ leftBy s (numberOf (x .status)) m o
     go unread = refl
     go (strangeMark u k p) = refl
     go (marked u k r) = refl
@@ -155,9 +155,9 @@ module _ (d : Database) (run : ℕ) (sound : sane d ≡ true) (short : run < 256
   }
 
   -- ── what is sent carries numbers of their width ──
-  told-wide : (l : Record) → Told run 0 R l → numberCarried (decode (encode l)) < 256 ^ 4
-  told-wide l (tellMark k h) = let n : k < 256 ^ 4 = omega (arith, few) in carried (mark run k) (short, n) n
-  told-wide l (tell j k e h p q) =
+  issued-wide : (l : Record) → Issued run 0 R l → numberCarried (decode (encode l)) < 256 ^ 4
+  issued-wide l (tellMark k h) = let n : k < 256 ^ 4 = omega (arith, few) in carried (mark run k) (short, n) n
+  issued-wide l (tell j k e h p q) =
       let n : k < 256 ^ 4 = omega (arith, few) in
       let f : Fits e = rw q (fit-at R j all-fit h) in
       carried (numbered run k e) (short, n, f) n
@@ -165,7 +165,7 @@ module _ (d : Database) (run : ℕ) (sound : sane d ≡ true) (short : run < 256
   sent-wide : (x : List ℕ) → List·Memᴰ x (sentOf area calls) → numberCarried (decode x) < 256 ^ 4
   sent-wide x b =
       let u = unmap (records s run empty history) x (rw (all-calls .sent) at b) in
-      rw (u .2) (told-wide (u .0) (told s run empty history (u .0) (u .1)))
+      rw (u .2) (issued-wide (u .0) (issued s run empty history (u .0) (u .1)))
 
   -- ── a mirror that follows the state's history follows the area's ──
   module _ (m : Mirror) (ks : List ℕ) (g : MirrorFine (mirrorAt d run m)) (f : OnStates.Follows s run history m ks) where
@@ -182,7 +182,7 @@ module _ (d : Database) (run : ℕ) (sound : sane d ≡ true) (short : run < 256
         subst (λ (x : List ℕ). numberCarried (decode x) < 256 ^ 4) (sym (next-is h)) (carried (numbered run (suc (m .n)) (getD R (m .n) end)) (short, n, fit-at R (m .n) all-fit l) n)
 
     next-moves : (h : m .n < length recs)
-        → (step s run m (getD recs (m .n) []) .answer ≡ Applied) × (step s run m (getD recs (m .n) []) .next .n ≡ suc (m .n))
+        → (step s run m (getD recs (m .n) []) .status ≡ Applied) × (step s run m (getD recs (m .n) []) .next .n ≡ suc (m .n))
     next-moves h = f .moves (getD recs (m .n) []) (omega (arith, count)) (next-is h)
 
     rows-made : made s (take (m .n) recs) ≡ acts s (take (m .n) R) []
@@ -198,10 +198,10 @@ module _ (d : Database) (run : ℕ) (sound : sane d ≡ true) (short : run < 256
     mirror-is : m ≡ M
     mirror-is i = record { rows = (f .rows ∙ sym rows-made) i; n = m .n; top = f .top i; heard = f .loud i; whole = ends-are i }
 
-    answer-is : (x : List ℕ) → numberOf (mirrorHear shown x .answer) ≡ numberOf (step s run m x .answer)
+    answer-is : (x : List ℕ) → numberOf (mirrorHear shown x .status) ≡ numberOf (step s run m x .status)
     answer-is x = ap numberOf (hear-answer (mirrorAt d run m) g x)
 
-    left-is : (x : List ℕ) → mirrorHear shown x .area ≡ encodeMirror (mirrorAt d run (leftBy s (numberOf (mirrorHear shown x .answer)) M (decode x)))
+    left-is : (x : List ℕ) → mirrorHear shown x .area ≡ encodeMirror (mirrorAt d run (leftBy s (numberOf (mirrorHear shown x .status)) M (decode x)))
     left-is x =
         hear-area (mirrorAt d run m) g x
         ∙ ap (λ (y : Mirror). encodeMirror (mirrorAt d run y)) (left-by s run m (decode x) ∙ (λ i. leftBy s (sym (answer-is x) i) (mirror-is i) (decode x)))
@@ -212,9 +212,9 @@ module _ (d : Database) (run : ℕ) (sound : sane d ≡ true) (short : run < 256
       within = omega (arith, count, f .within);
       bytes = ap (λ (y : Mirror). encodeMirror (mirrorAt d run y)) mirror-is;
       state = mirror-of-encode (mirrorAt d run m) (mirror-whole (mirrorAt d run m) g) ∙ ap (λ (y : Mirror). some (mirrorAt d run y)) mirror-is;
-      tells = progress-is (mirrorAt d run m) g ∙ ap (λ (y : Mirror). record { answer = Accepted; n = m .n; level = level y }) mirror-is;
-      tellsRow = λ t id. has-row-is (mirrorAt d run m) g t id ∙ ap (λ (y : Mirror). record { answer = Accepted; there = has (keyOf t (value id)) (y .rows) }) mirror-is;
-      tellsColumn = λ t id c out l. column-is (mirrorAt d run m) g t id c out l ∙ ap (λ (y : Mirror). record { answer = Accepted; out = columnAnswer y t (value id) c }) mirror-is;
+      tells = progress-is (mirrorAt d run m) g ∙ ap (λ (y : Mirror). record { status = Accepted; n = m .n; level = level y }) mirror-is;
+      tellsRow = λ t id. has-row-is (mirrorAt d run m) g t id ∙ ap (λ (y : Mirror). record { status = Accepted; there = has (keyOf t (value id)) (y .rows) }) mirror-is;
+      tellsColumn = λ t id c out l. column-is (mirrorAt d run m) g t id c out l ∙ ap (λ (y : Mirror). record { status = Accepted; out = columnAnswer y t (value id) c }) mirror-is;
       answers = λ x. answer-is x ∙ step-first s run m (decode x) ∙ ap (λ (y : Mirror). given (recordConditions s run y (decode x)) (heardAs (m .n) (decode x))) mirror-is;
       leaves = left-is;
       moved = λ h. answer-at d run m g (getD recs (m .n) []) ∙ next-moves h .0;
@@ -225,14 +225,14 @@ module _ (d : Database) (run : ℕ) (sound : sane d ≡ true) (short : run < 256
       refusesNone = λ x b. ap isRefusal (answer-at d run m g x) ∙ f .refusesNone x (rw (all-calls .sent) at b);
       store = λ v j st e q.
           let p : storeAt d run (after j) ≡ st = same-some (storeAt d run (after j)) st (storeOf (areaAfterAll area (take j calls))) (store-after j) e in
-          ap (λ (y : Mirror). y .rows) (sym mirror-is) ∙ f .store (sym level-told ∙ v) j (ap (λ (z : State). z .last) (after-is j) ∙ ap (λ (z : Store). z .number) p ∙ q) ∙ ap (λ (z : State). z .rows) (after-is j) ∙ ap (λ (z : Store). z .rows) p;
+          ap (λ (y : Mirror). y .rows) (sym mirror-is) ∙ f .store (sym level-shown ∙ v) j (ap (λ (z : State). z .last) (after-is j) ∙ ap (λ (z : Store). z .number) p ∙ q) ∙ ap (λ (z : State). z .rows) (after-is j) ∙ ap (λ (z : Store). z .rows) p;
       commit = λ v.
-          let c = f .commit (sym level-told ∙ v) in
+          let c = f .commit (sym level-shown ∙ v) in
           (c .0, storeAt d run (after (c .0)), omega (arith, c .1, length-map calls (callOf d)), store-after (c .0), sym (ap (λ (z : State). z .last) (after-is (c .0))) ∙ c .2);
     }
       where
-        level-told : mirrorProgress shown .level ≡ level m
-        level-told = ap (λ (p : Progress). p .level) (progress-is (mirrorAt d run m) g)
+        level-shown : mirrorProgress shown .level ≡ level m
+        level-shown = ap (λ (p : Progress). p .level) (progress-is (mirrorAt d run m) g)
 
   -- ── the claim, of areas as they were started ──
   abbrev begun : List ℕ

@@ -1,10 +1,10 @@
 -- What is fine is fine in all its parts: of two faults, of a list of them, of checks in order. Assumes nothing.
-use mathlib.Core.Path.{_≡_, refl}
+use mathlib.Core.Path.{_≡_, refl, sym, ap}
 use mathlib.Core.Bool.{Bool, true, false}
 use mathlib.Core.List.{List, [], _∷_}
 use Prim.Native.Nat.{_≤_}
 use native.Mathlib.Omega.{arith}
-use borrow.Author.Tests.{leb-true, leb-false}
+use borrow.Author.Tests.{le-leb, lt-leb, leb-true, leb-false}
 use lib.Dec.{leb}
 use Rattle.model.specs.Faults.{isFine, rank, earlier, worst, check}
 use Rattle.model.specs.declared.Fault.{Fault}
@@ -78,3 +78,20 @@ check-fine false f g n h = absurd (clash (isFine f) h n)
 -- a check that is followed by none
 pub check-true : (b : Bool) (f : Fault) → isFine f ≡ false → isFine (check b f Fine) ≡ true → b ≡ true
 check-true b f n h = check-fine b f Fine n h .0
+
+-- none comes after every fault, and which of three is the earliest does not depend on how they are grouped
+pub earlier-first : (f : Fault) → earlier Fine f ≡ f
+earlier-first f = split (leb 8 (rank f)) (λ e. rw e (sym (fine-is f (rank-fine f (leb-true 8 (rank f) e))))) (λ e. rw e)
+
+pub earlier-last : (f : Fault) → earlier f Fine ≡ f
+earlier-last f = rw (le-leb (rank f) 8 (rank-most f))
+
+pub earlier-assoc : (f g h : Fault) → earlier f (earlier g h) ≡ earlier (earlier f g) h
+earlier-assoc f g h =
+    split (leb (rank f) (rank g))
+    (λ a. split (leb (rank g) (rank h))
+    (λ b. let c : leb (rank f) (rank h) ≡ true = le-leb (rank f) (rank h) (omega (arith, leb-true (rank f) (rank g) a, leb-true (rank g) (rank h) b)) in rw (a, b) (rw (a, c) refl))
+    (λ b. rw (a, b)))
+    (λ a. split (leb (rank g) (rank h))
+    (λ b. rw (a, b) (rw a refl))
+    (λ b. let c : leb (rank f) (rank h) ≡ false = lt-leb (rank f) (rank h) (omega (arith, leb-false (rank f) (rank g) a, leb-false (rank g) (rank h) b)) in rw (a, b) (rw c refl)))

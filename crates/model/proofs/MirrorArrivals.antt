@@ -20,8 +20,8 @@ use Rattle.model.specs.Limits.{mirrorBytes}
 use Rattle.model.specs.Calls.{mirrorHear, asked, noProgress, progressOf, mirrorProgress, noPresence, presenceOf, mirrorHasRow, noContents, contentsOf, mirrorColumn}
 use Rattle.model.specs.Histories.{heardAll, Arrivals, heardNumbers}
 use Rattle.model.proofs.StateDemand.{Arrive}
-use Rattle.model.specs.declared.Answer.{Answer}
-use Rattle.model.specs.declared.Answer.the-variants.{Accepted, Disordered}
+use Rattle.model.specs.declared.Status.{Status}
+use Rattle.model.specs.declared.Status.the-variants.{Accepted, Disordered}
 use Rattle.model.proofs.TextUtf8.{by-test}
 use Rattle.model.proofs.Arrivals.{said, refused-same}
 use Rattle.model.proofs.Areas.{mirror-of-encode, mirror-of-length}
@@ -32,22 +32,22 @@ abbrev pub mirrorAt : Database → ℕ → Mirror → MirrorState
 mirrorAt d run m = record { run = run; database = d; mirror = m }
 
 -- a question to it is answered by it
-pub asked-there : {A : Type 0} (m : MirrorState) → MirrorFine m → (refuse : Answer → A) (ask : Mirror → A) → asked (encodeMirror m) refuse ask ≡ ask (m .mirror)
+pub asked-there : {A : Type 0} (m : MirrorState) → MirrorFine m → (refuse : Status → A) (ask : Mirror → A) → asked (encodeMirror m) refuse ask ≡ ask (m .mirror)
 asked-there m f refuse ask =
     let there : mirrorOf (encodeMirror m) ≡ some m = mirror-of-encode m (mirror-whole m f) in
     let size : eqb (length (encodeMirror m)) mirrorBytes ≡ true = eq-eqb (length (encodeMirror m)) mirrorBytes (mirror-of-length (encodeMirror m) m there) in
     rw (asked, size) (ap (λ (o : Option MirrorState). elim o [ none ↦ refuse Disordered | some y ↦ ask (y .mirror) ]) there)
 
-pub progress-is : (m : MirrorState) → MirrorFine m → mirrorProgress (encodeMirror m) ≡ record { answer = Accepted; n = m .mirror .n; level = level (m .mirror) }
+pub progress-is : (m : MirrorState) → MirrorFine m → mirrorProgress (encodeMirror m) ≡ record { status = Accepted; n = m .mirror .n; level = level (m .mirror) }
 unfolding mirrorProgress
 progress-is m f = asked-there m f noProgress progressOf
 
-pub has-row-is : (m : MirrorState) → MirrorFine m → (t : ℕ) (id : List ℕ) → mirrorHasRow (encodeMirror m) t id ≡ record { answer = Accepted; there = has (keyOf t (value id)) (m .mirror .rows) }
+pub has-row-is : (m : MirrorState) → MirrorFine m → (t : ℕ) (id : List ℕ) → mirrorHasRow (encodeMirror m) t id ≡ record { status = Accepted; there = has (keyOf t (value id)) (m .mirror .rows) }
 unfolding mirrorHasRow
 has-row-is m f t id = asked-there m f noPresence (presenceOf t id)
 
 pub column-is : (m : MirrorState) → MirrorFine m → (t : ℕ) (id : List ℕ) (c : ℕ) (out : List ℕ) → length out ≡ columnBytes
-    → mirrorColumn (encodeMirror m) t id c out ≡ record { answer = Accepted; out = columnAnswer (m .mirror) t (value id) c }
+    → mirrorColumn (encodeMirror m) t id c out ≡ record { status = Accepted; out = columnAnswer (m .mirror) t (value id) c }
 unfolding mirrorColumn
 column-is m f t id c out l = rw (mirrorColumn, eq-eqb (length out) columnBytes l) (asked-there m f (noContents out) (contentsOf t id c))
 
@@ -63,7 +63,7 @@ module _ (d : Database) (run : ℕ) where
   s = d .tables
 
   -- one arrival
-  pub answer-at : (m : Mirror) → MirrorFine (mirrorAt d run m) → (x : List ℕ) → mirrorHear (encodeMirror (mirrorAt d run m)) x .answer ≡ step s run m x .answer
+  pub answer-at : (m : Mirror) → MirrorFine (mirrorAt d run m) → (x : List ℕ) → mirrorHear (encodeMirror (mirrorAt d run m)) x .status ≡ step s run m x .status
   answer-at m g x = hear-answer (mirrorAt d run m) g x
 
   pub area-at : (m : Mirror) → MirrorFine (mirrorAt d run m) → (x : List ℕ)
@@ -92,19 +92,19 @@ module _ (d : Database) (run : ℕ) where
           arrive = (now (a .0), c .arrive);
         }
       where
-        now : List·Memᴰ x sent ⊎ (isRefusal (mirrorHear (encodeMirror (mirrorAt d run m)) x .answer) ≡ true) → List·Memᴰ x sent ⊎ (isRefusal (step s run m x .answer) ≡ true)
+        now : List·Memᴰ x sent ⊎ (isRefusal (mirrorHear (encodeMirror (mirrorAt d run m)) x .status) ≡ true) → List·Memᴰ x sent ⊎ (isRefusal (step s run m x .status) ≡ true)
         now (inl h) = inl h
         now (inr h) = inr (ap isRefusal (sym (answer-at m g x)) ∙ h)
 
-        good : List·Memᴰ x sent ⊎ (isRefusal (step s run m x .answer) ≡ true) → MirrorFine (mirrorAt d run (step s run m x .next))
+        good : List·Memᴰ x sent ⊎ (isRefusal (step s run m x .status) ≡ true) → MirrorFine (mirrorAt d run (step s run m x .next))
         good (inl h) = good-at m g x (wide x h)
         good (inr h) = rw (refused-same (said s run m (decode x)) h) g
 
         numbers : heardNumbers (encodeMirror (mirrorAt d run (step s run m x .next))) xs ≡ heardOf s run (step s run m x .next) xs → heardNumbers (encodeMirror (mirrorAt d run m)) (x ∷ xs) ≡ heardOf s run m (x ∷ xs)
         numbers e =
             let a : List ℕ = encodeMirror (mirrorAt d run m) in
-            let p : isRefusal (mirrorHear a x .answer) ≡ isRefusal (step s run m x .answer) = ap isRefusal (answer-at m g x) in
+            let p : isRefusal (mirrorHear a x .status) ≡ isRefusal (step s run m x .status) = ap isRefusal (answer-at m g x) in
             let rest : heardNumbers (mirrorHear a x .area) xs ≡ heardOf s run (step s run m x .next) xs = ap (λ (y : List ℕ). heardNumbers y xs) (area-at m g x) ∙ e in
-            by-test (λ (l : List ℕ). l ≡ heardOf s run m (x ∷ xs)) (isRefusal (mirrorHear a x .answer))
-            (λ h. let q : isRefusal (step s run m x .answer) ≡ true = sym p ∙ h in rw q rest)
-            (λ h. let q : isRefusal (step s run m x .answer) ≡ false = sym p ∙ h in rw q (ap (λ (l : List ℕ). numberCarried (decode x) ∷ l) rest))
+            by-test (λ (l : List ℕ). l ≡ heardOf s run m (x ∷ xs)) (isRefusal (mirrorHear a x .status))
+            (λ h. let q : isRefusal (step s run m x .status) ≡ true = sym p ∙ h in rw q rest)
+            (λ h. let q : isRefusal (step s run m x .status) ≡ false = sym p ∙ h in rw q (ap (λ (l : List ℕ). numberCarried (decode x) ∷ l) rest))

@@ -62,43 +62,43 @@ module _ (s : Schema) (run : ℕ) where
       simp length-append (omega arith)
 
 -- what a history writes, where `base` records went before it
-pub data Told (run base : ℕ) (es : List Change) : Record → Type 0 where
-  tellMark : (k : ℕ) → k ≤ base + length es → Told run base es (mark run k)
-  tell : (j k : ℕ) (e : Change) → j < length es → k ≡ suc (base + j) → e ≡ getD es j end → Told run base es (numbered run k e)
+pub data Issued (run base : ℕ) (es : List Change) : Record → Type 0 where
+  tellMark : (k : ℕ) → k ≤ base + length es → Issued run base es (mark run k)
+  tell : (j k : ℕ) (e : Change) → j < length es → k ≡ suc (base + j) → e ≡ getD es j end → Issued run base es (numbered run k e)
 
-told-left : (run base : ℕ) (es fs : List Change) {l : Record} → Told run base es l → Told run base (es ++ fs) l
-told-left run base es fs (tellMark k h) = tellMark k (simp length-append (omega arith))
-told-left run base es fs (tell j k e h p q) = tell j k e (simp length-append (omega arith)) p (q ∙ sym (List·getD-append es fs end j h))
+issued-left : (run base : ℕ) (es fs : List Change) {l : Record} → Issued run base es l → Issued run base (es ++ fs) l
+issued-left run base es fs (tellMark k h) = tellMark k (simp length-append (omega arith))
+issued-left run base es fs (tell j k e h p q) = tell j k e (simp length-append (omega arith)) p (q ∙ sym (List·getD-append es fs end j h))
 
-told-right : (run base : ℕ) (es fs : List Change) {l : Record} → Told run (base + length es) fs l → Told run base (es ++ fs) l
-told-right run base es fs (tellMark k h) = tellMark k (simp length-append (omega arith))
-told-right run base es fs (tell j k e h p q) = tell (length es + j) k e (simp length-append (omega arith)) (omega arith) (q ∙ sym (getD-append-add es fs j end))
+issued-right : (run base : ℕ) (es fs : List Change) {l : Record} → Issued run (base + length es) fs l → Issued run base (es ++ fs) l
+issued-right run base es fs (tellMark k h) = tellMark k (simp length-append (omega arith))
+issued-right run base es fs (tell j k e h p q) = tell (length es + j) k e (simp length-append (omega arith)) (omega arith) (q ∙ sym (getD-append-add es fs j end))
 
-told-number : (run base : ℕ) (es : List Change) (l : Record) → List·Memᴰ l (numberFrom run base es) → Told run base es l
-told-number run base [] l m = absurd (List·Memᴰ·not-nil m)
-told-number run base (e ∷ es) l m = go (told-number run (suc base) es l) (List·Memᴰ·cases-cons m)
+issued-number : (run base : ℕ) (es : List Change) (l : Record) → List·Memᴰ l (numberFrom run base es) → Issued run base es l
+issued-number run base [] l m = absurd (List·Memᴰ·not-nil m)
+issued-number run base (e ∷ es) l m = go (issued-number run (suc base) es l) (List·Memᴰ·cases-cons m)
   where
-    behind : {l′ : Record} → Told run (suc base) es l′ → Told run base (e ∷ es) l′
+    behind : {l′ : Record} → Issued run (suc base) es l′ → Issued run base (e ∷ es) l′
     behind (tellMark k h) = tellMark k (omega arith)
     behind (tell j k x h p q) = tell (suc j) k x (omega arith) (omega arith) q
 
-    go : (List·Memᴰ l (numberFrom run (suc base) es) → Told run (suc base) es l) → (l ≡ numbered run (suc base) e) ⊎ List·Memᴰ l (numberFrom run (suc base) es) → Told run base (e ∷ es) l
+    go : (List·Memᴰ l (numberFrom run (suc base) es) → Issued run (suc base) es l) → (l ≡ numbered run (suc base) e) ⊎ List·Memᴰ l (numberFrom run (suc base) es) → Issued run base (e ∷ es) l
     go ih (inl p) = rw p (tell 0 (suc base) e (omega arith) (omega arith) refl)
     go ih (inr h) = behind (ih h)
 
 module _ (s : Schema) (run : ℕ) where
-  told-call : (st : State) (c : Call) (l : Record) → List·Memᴰ l (recordsOf s run st c) → Told run (st .last) (changesOf s run st c) l
-  told-call st (transact f) l m = told-number run (st .last) (changesOf s run st (transact f)) l m
-  told-call st askMark l m = rw (List·Memᴰ·eq-of-singleton m) (tellMark (st .last) (omega arith))
+  issued-call : (st : State) (c : Call) (l : Record) → List·Memᴰ l (recordsOf s run st c) → Issued run (st .last) (changesOf s run st c) l
+  issued-call st (transact f) l m = issued-number run (st .last) (changesOf s run st (transact f)) l m
+  issued-call st askMark l m = rw (List·Memᴰ·eq-of-singleton m) (tellMark (st .last) (omega arith))
 
-  pub told : (st : State) (cs : List Call) (l : Record) → List·Memᴰ l (records s run st cs) → Told run (st .last) (changes s run st cs) l
-  told st [] l m = absurd (List·Memᴰ·not-nil m)
-  told st (c ∷ cs) l m = go (told (stateAfter s run st c) cs l) (List·Memᴰ·append-cases (recordsOf s run st c) m)
+  pub issued : (st : State) (cs : List Call) (l : Record) → List·Memᴰ l (records s run st cs) → Issued run (st .last) (changes s run st cs) l
+  issued st [] l m = absurd (List·Memᴰ·not-nil m)
+  issued st (c ∷ cs) l m = go (issued (stateAfter s run st c) cs l) (List·Memᴰ·append-cases (recordsOf s run st c) m)
     where
-      go : (List·Memᴰ l (records s run (stateAfter s run st c) cs) → Told run (st .last + length (changesOf s run st c)) (changes s run (stateAfter s run st c) cs) l)
-          → List·Memᴰ l (recordsOf s run st c) ⊎ List·Memᴰ l (records s run (stateAfter s run st c) cs) → Told run (st .last) (changes s run st (c ∷ cs)) l
-      go ih (inl h) = told-left run (st .last) (changesOf s run st c) (changes s run (stateAfter s run st c) cs) (told-call st c l h)
-      go ih (inr h) = told-right run (st .last) (changesOf s run st c) (changes s run (stateAfter s run st c) cs) (ih h)
+      go : (List·Memᴰ l (records s run (stateAfter s run st c) cs) → Issued run (st .last + length (changesOf s run st c)) (changes s run (stateAfter s run st c) cs) l)
+          → List·Memᴰ l (recordsOf s run st c) ⊎ List·Memᴰ l (records s run (stateAfter s run st c) cs) → Issued run (st .last) (changes s run st (c ∷ cs)) l
+      go ih (inl h) = issued-left run (st .last) (changesOf s run st c) (changes s run (stateAfter s run st c) cs) (issued-call st c l h)
+      go ih (inr h) = issued-right run (st .last) (changesOf s run st c) (changes s run (stateAfter s run st c) cs) (ih h)
 
 -- what is written is the bytes of a record or mark
 pub unmap : (ls : List Record) (x : List ℕ) → List·Memᴰ x (map encode ls) → (l : Record) × List·Memᴰ l ls × (x ≡ encode l)

@@ -27,8 +27,8 @@ use Rattle.model.specs.Calls.{Started, startAs, storeStart, mirrorStart,
 use Rattle.model.specs.Histories.{heardAll}
 use Rattle.model.specs.Laid.{mirrorOr, noDatabase}
 use Rattle.model.specs.Readings.{Gave, Reading, idsFrom, recordsRoom, textRoom, lastCall, callsOf, picks, mirrorOn, gave, got, padded, table, Readings, mistakes, Mistakes}
-use Rattle.model.specs.declared.Answer.{Answer}
-use Rattle.model.specs.declared.Answer.the-variants.{Accepted}
+use Rattle.model.specs.declared.Status.{Status}
+use Rattle.model.specs.declared.Status.the-variants.{Accepted}
 use Rattle.model.proofs.Tests.{split, clash, and-l, and-r}
 use Rattle.model.proofs.Lists.{all-head, all-tail, all-append}
 use Rattle.model.proofs.Octets.{octet, big-octets, length-big}
@@ -45,7 +45,7 @@ use Rattle.model.proofs.Opened.{opened}
 -- ── a call on a state ──
 -- what it says: its answer, its text, its records one by one, and the store after it
 record Said : Type 0 where
-  answer : Answer
+  status : Status
   text : List ℕ
   lines : List (List ℕ)
   store : Store
@@ -53,7 +53,7 @@ record Said : Type 0 where
 abbrev sayCall : Database → Store → List ℕ → List ℕ → Said
 sayCall d st q ids =
     let r = reply d (st .number) (st .rows) q ids 1000 in
-    record { answer = r .answer; text = r .text; lines = map encode (numberFrom (st .run) (st .number) (r .changes)); store = storeAfter st r }
+    record { status = r .status; text = r .text; lines = map encode (numberFrom (st .run) (st .number) (r .changes)); store = storeAfter st r }
 
 abbrev lastSaid : Database → ℕ → Said → List (List ℕ) → Said
 lastSaid d i x [] = x
@@ -61,7 +61,7 @@ lastSaid d i x (q ∷ qs) = lastSaid d (i + 16) (sayCall d (x .store) q (idsFrom
 
 -- what such a call leaves of areas and buffers
 abbrev onArea : Said → Transacted
-onArea x = record { answer = x .answer; area = encodeStore (x .store); records = padded leastRecords (flat (x .lines)); text = padded 1000 (x .text) }
+onArea x = record { status = x .status; area = encodeStore (x .store); records = padded leastRecords (flat (x .lines)); text = padded 1000 (x .text) }
 
 zeros-length : (n : ℕ) → length (replicate {A = ℕ} n 0) ≡ n
 zeros-length n = length-replicate {A = ℕ} n 0
@@ -77,12 +77,12 @@ ids-length (suc n) i = length-append (big 16 i) (idsFrom n (suc i)) ∙ omega (a
 
 -- refused or not, a reply leaves the area of the store after it, and buffers that it filled
 abbrev repliedAs : List ℕ → List ℕ → Store → Reply → Transacted
-repliedAs records text st r = record { answer = r .answer; area = encodeStore (storeAfter st r); records = filled (length records) (recordsAfter st r); text = filled (length text) (r .text) }
+repliedAs records text st r = record { status = r .status; area = encodeStore (storeAfter st r); records = filled (length records) (recordsAfter st r); text = filled (length text) (r .text) }
 
 replied-is : (records text : List ℕ) (st : Store) {s : Schema} {t : Transaction} {r : Reply} → Replied s (st .rows) t r → transactReplied (encodeStore st) records text st r ≡ repliedAs records text st r
 replied-is records text st (refusing a h) =
     rw (transactReplied, h) (λ i. record {
-      answer = a;
+      status = a;
       area = encodeStore (record { run = st .run; number = sym (add-zero (st .number)) i; database = st .database; rows = st .rows });
       records = sym (no-bytes (length records)) i;
       text = sym (no-bytes (length text)) i;
@@ -112,7 +112,7 @@ module _ (st : Store) (g : storeGood st ≡ true) (q : List ℕ) (i : ℕ) where
       transact-there (encodeStore st) q (idsFrom 16 i) recordsRoom textRoom st lengths here
       ∙ replied-is recordsRoom textRoom st (reply-as (st .database) (st .number) (st .rows) q (idsFrom 16 i) (length textRoom))
       ∙ (λ j. let r = replyOf st q (idsFrom 16 i) (zeros-length 1000 j) in
-      record { answer = r .answer; area = encodeStore (storeAfter st r); records = filled (zeros-length leastRecords j) (recordsAfter st r); text = filled (zeros-length 1000 j) (r .text) })
+      record { status = r .status; area = encodeStore (storeAfter st r); records = filled (zeros-length leastRecords j) (recordsAfter st r); text = filled (zeros-length 1000 j) (r .text) })
 
   -- its records are found again in the buffer
   cut-is : pieces (padded leastRecords (flat (sayCall (st .database) st q (idsFrom 16 i) .lines))) ≡ sayCall (st .database) st q (idsFrom 16 i) .lines
@@ -157,13 +157,13 @@ heard-through d m f (x ∷ xs) w =
 
 -- ── a reading on states ──
 abbrev begun : Database → Said
-begun d = record { answer = Accepted; text = []; lines = []; store = newStore 1 d }
+begun d = record { status = Accepted; text = []; lines = []; store = newStore 1 d }
 
 abbrev saidOf : Database → Reading → Said
 saidOf d r = lastSaid d 1 (begun d) (r .requests)
 
 abbrev tells : Said → Mirror → Gave
-tells x m = record { answer = numberOf (x .answer); text = padded 1000 (x .text); records = padded leastRecords (flat (x .lines)); n = m .n; highest = m .top; level = level m }
+tells x m = record { status = numberOf (x .status); text = padded 1000 (x .text); records = padded leastRecords (flat (x .lines)); n = m .n; highest = m .top; level = level m }
 
 abbrev heardBy : Database → Reading → List (List ℕ)
 heardBy d r = picks (r .hears) (saidOf d r .lines)
@@ -180,11 +180,11 @@ module _ (r : Reading) (d : Database) (read : readSchema (r .schema) ≡ some d)
   abbrev accepted : sane d ≡ true
   accepted = read-sane (r .schema) d read
 
-  store-starts : storeStart (replicate storeBytes 0) (r .schema) 1 ≡ record { answer = Accepted; area = encodeStore (begun d .store) }
+  store-starts : storeStart (replicate storeBytes 0) (r .schema) 1 ≡ record { status = Accepted; area = encodeStore (begun d .store) }
   unfolding storeStart
   store-starts = rw (startAs, read)
 
-  mirror-starts : mirrorStart (replicate mirrorBytes 0) (r .schema) 1 ≡ record { answer = Accepted; area = encodeMirror (mirrorAt d 1 fresh) }
+  mirror-starts : mirrorStart (replicate mirrorBytes 0) (r .schema) 1 ≡ record { status = Accepted; area = encodeMirror (mirrorAt d 1 fresh) }
   unfolding mirrorStart
   mirror-starts = rw (startAs, eq-eqb (length (replicate {A = ℕ} mirrorBytes 0)) mirrorBytes (zeros-length mirrorBytes), read)
 
@@ -202,7 +202,7 @@ module _ (r : Reading) (d : Database) (read : readSchema (r .schema) ≡ some d)
   calls-of : callsOf r ≡ onArea (saidOf d r)
   unfolding padded
   calls-of =
-      (λ j. lastCall 1 (record { answer = store-starts j .answer; area = store-starts j .area; records = sym (no-bytes leastRecords) j; text = sym (no-bytes 1000) j }) (r .requests))
+      (λ j. lastCall 1 (record { status = store-starts j .status; area = store-starts j .area; records = sym (no-bytes leastRecords) j; text = sym (no-bytes 1000) j }) (r .requests))
       ∙ calls .0
 
   abbrev m : Mirror
@@ -221,7 +221,7 @@ module _ (r : Reading) (d : Database) (read : readSchema (r .schema) ≡ some d)
       let there : mirrorOf (encodeMirror (mirrorAt d 1 m)) ≡ some (mirrorAt d 1 m) = mirror-of-encode (mirrorAt d 1 m) (mirror-whole (mirrorAt d 1 m) (hearing .1)) in
       (λ j. gave (calls-of j) (mirror-on j))
       ∙ (λ j. record {
-        answer = numberOf (saidOf d r .answer);
+        status = numberOf (saidOf d r .status);
         text = padded 1000 (saidOf d r .text);
         records = padded leastRecords (flat (saidOf d r .lines));
         n = progress-is (mirrorAt d 1 m) (hearing .1) j .n;

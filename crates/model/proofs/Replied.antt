@@ -15,11 +15,11 @@ use Rattle.model.specs.Faults.{isFine}
 use Rattle.model.specs.Commit.{commit}
 use Rattle.model.specs.Transact.{Request, readRequest, freshIds, idsGood, namesOf, Ran, runAll, Transaction, atCommit, transactRows}
 use Rattle.model.specs.Refusals.{isRefusal}
-use Rattle.model.specs.Replies.{Reply, reply, replyTo, named, freshly, told, changesOf, refused}
+use Rattle.model.specs.Replies.{Reply, reply, replyTo, named, freshly, concluded, changesOf, refused}
 use Rattle.model.specs.Replies as Replies
 use Rattle.model.specs.Records.{diff}
 use Rattle.model.specs.Laid.{requestOr}
-use Rattle.model.specs.declared.Answer.{Answer}
+use Rattle.model.specs.declared.Status.{Status}
 use Rattle.model.proofs.Tests.{split, clash}
 
 abbrev ranOf : Schema → List ℕ → List Row → Request → Ran
@@ -41,15 +41,15 @@ changes-none s rows t e = rw (changesOf, e)
 
 -- ── a reply is a refusal that leaves everything, or what the rules make ──
 pub data Replied (s : Schema) (rows : List Row) (t : Transaction) : Reply → Type 0 where
-  refusing : (a : Answer) → isRefusal a ≡ true → Replied s rows t (refused a rows)
-  making : (r : Reply) → isRefusal (r .answer) ≡ false → r .rows ≡ t .rows → r .changes ≡ changesOf s rows t → r .text ≡ t .text → Replied s rows t r
+  refusing : (a : Status) → isRefusal a ≡ true → Replied s rows t (refused a rows)
+  making : (r : Reply) → isRefusal (r .status) ≡ false → r .rows ≡ t .rows → r .changes ≡ changesOf s rows t → r .text ≡ t .text → Replied s rows t r
 
-told-as : (s : Schema) (number : ℕ) (rows : List Row) (room : ℕ) (t : Transaction) → Replied s rows t (told s number rows room t)
-told-as s number rows room t = split (leb (length (t .text)) room)
+concluded-as : (s : Schema) (number : ℕ) (rows : List Row) (room : ℕ) (t : Transaction) → Replied s rows t (concluded s number rows room t)
+concluded-as s number rows room t = split (leb (length (t .text)) room)
     (λ e. split (leb (number + length (changesOf s rows t)) lastNumber)
-    (λ f. rw (told, e, Replies.numbered, f) (making _ refl refl refl refl))
-    (λ f. rw (told, e, Replies.numbered, f) (refusing _ refl)))
-    (λ e. rw (told, e) (refusing _ refl))
+    (λ f. rw (concluded, e, Replies.numbered, f) (making _ refl refl refl refl))
+    (λ f. rw (concluded, e, Replies.numbered, f) (refusing _ refl)))
+    (λ e. rw (concluded, e) (refusing _ refl))
 
 pub reply-as : (d : Database) (number : ℕ) (rows : List Row) (request fresh : List ℕ) (room : ℕ)
     → Replied (d .tables) rows (transactRows (d .tables) (freshIds fresh) rows (requestOr (readRequest request) .operations)) (reply d number rows request fresh room)
@@ -60,18 +60,18 @@ reply-as d number rows request fresh room = go (readRequest request)
     go none = refusing _ refl
     go (some q) = split (eqBytes (q .name) (d .name))
         (λ e. split (idsGood (freshIds fresh) rows)
-        (λ f. rw (named, e, freshly, f) (told-as (d .tables) number rows room (transactRows (d .tables) (freshIds fresh) rows (q .operations))))
+        (λ f. rw (named, e, freshly, f) (concluded-as (d .tables) number rows room (transactRows (d .tables) (freshIds fresh) rows (q .operations))))
         (λ f. rw (named, e, freshly, f) (refusing _ refl)))
         (λ e. rw (named, e) (refusing _ refl))
 
 module _ {s : Schema} {rows : List Row} {t : Transaction} where
-  pub replied-laid : {r : Reply} → Replied s rows t r → isRefusal (r .answer) ≡ false → (r .rows ≡ t .rows) × (r .changes ≡ changesOf s rows t) × (r .text ≡ t .text)
+  pub replied-laid : {r : Reply} → Replied s rows t r → isRefusal (r .status) ≡ false → (r .rows ≡ t .rows) × (r .changes ≡ changesOf s rows t) × (r .text ≡ t .text)
   replied-laid (refusing a h) e = absurd (clash (isRefusal a) h e)
   replied-laid (making r h p q u) e = (p, q, u)
 
-  replied-refused : {r : Reply} → Replied s rows t r → isRefusal (r .answer) ≡ true → (r .rows ≡ rows) × (r .changes ≡ [])
+  replied-refused : {r : Reply} → Replied s rows t r → isRefusal (r .status) ≡ true → (r .rows ≡ rows) × (r .changes ≡ [])
   replied-refused (refusing a h) e = (refl, refl)
-  replied-refused (making r h p q u) e = absurd (clash (isRefusal (r .answer)) e h)
+  replied-refused (making r h p q u) e = absurd (clash (isRefusal (r .status)) e h)
 
   replied-stays : {r : Reply} → Replied s rows t r → t .commits ≡ false → t .rows ≡ rows → (r .rows ≡ rows) × (r .changes ≡ [])
   replied-stays (refusing a h) e f = (refl, refl)

@@ -17,9 +17,9 @@ use Rattle.model.specs.Transact.{Request, readRequest, freshIds, idsGood
 use Rattle.model.specs.Records.{Change, diff}
 use Rattle.model.proofs.Order.{Sorted}
 use Rattle.model.specs.Refusals.{isRefusal}
-use Rattle.model.specs.Replies.{Reply, refused, changesOf, numbered, told, freshly, replyTo, reply}
-use Rattle.model.specs.declared.Answer.{Answer}
-use Rattle.model.specs.declared.Answer.the-variants.{BadRequest, OtherDatabase, BadFreshIds, AnswerTooLong}
+use Rattle.model.specs.Replies.{Reply, refused, changesOf, numbered, concluded, freshly, replyTo, reply}
+use Rattle.model.specs.declared.Status.{Status}
+use Rattle.model.specs.declared.Status.the-variants.{BadRequest, OtherDatabase, BadFreshIds, AnswerTooLong}
 use Rattle.model.proofs.Tests.{split, clash}
 use Rattle.model.proofs.TextUtf8.{by-test}
 use Rattle.model.proofs.Octets.{octet}
@@ -34,11 +34,11 @@ by-tests R true f g = f refl
 by-tests R false f g = g refl
 
 -- ── what a transact would make of rows, if record numbers never ran out: the rows themselves, where it is refused or fails ──
-abbrev toldRows : List Row → ℕ → Transaction → List Row
-toldRows rows room t = elim (leb (length (t .text)) room) [ true ↦ t .rows | false ↦ rows ]
+abbrev concludedRows : List Row → ℕ → Transaction → List Row
+concludedRows rows room t = elim (leb (length (t .text)) room) [ true ↦ t .rows | false ↦ rows ]
 
 abbrev freshRows : Schema → List Row → List ℕ → ℕ → Request → List Row
-freshRows s rows ids room q = elim (idsGood ids rows) [ true ↦ toldRows rows room (transactRows s ids rows (q .operations)) | false ↦ rows ]
+freshRows s rows ids room q = elim (idsGood ids rows) [ true ↦ concludedRows rows room (transactRows s ids rows (q .operations)) | false ↦ rows ]
 
 abbrev namedRows : Database → List Row → List ℕ → ℕ → Request → List Row
 namedRows d rows ids room q = elim (eqBytes (q .name) (d .name)) [ true ↦ freshRows (d .tables) rows ids room q | false ↦ rows ]
@@ -59,10 +59,10 @@ module _ (s : Schema) (number : ℕ) (rows : List Row) where
   pub record AsCall (r : Reply) (meant : List Row) : Type 0 where
     pub after : r .rows ≡ (if fits meant then meant else rows)
     pub written : r .changes ≡ (if fits meant then diff s rows meant else [])
-    pub refuses : isRefusal (r .answer) ≡ true → (r .rows ≡ rows) × (r .changes ≡ [])
+    pub refuses : isRefusal (r .status) ≡ true → (r .rows ≡ rows) × (r .changes ≡ [])
 
   module _ (o : Sorted rows) where
-    refused-call : (a : Answer) → AsCall (refused a rows) rows
+    refused-call : (a : Status) → AsCall (refused a rows) rows
     refused-call a = record {
       after = split (fits rows) (λ e. rw e) (λ e. rw e);
       written = split (fits rows) (λ e. rw (e, diff-self s rows o)) (λ e. rw e);
@@ -80,15 +80,15 @@ module _ (s : Schema) (number : ℕ) (rows : List Row) where
         let p : fits (t .rows) ≡ false = sym q ∙ h in
         record { after = rw p; written = rw p; refuses = λ x. (refl, refl) })
 
-    told-call : (room : ℕ) (t : Transaction) → (t .commits ≡ false → t .rows ≡ rows) → AsCall (told s number rows room t) (toldRows rows room t)
-    told-call room t h = by-tests AsCall (leb (length (t .text)) room) (λ e. numbered-call t (changesOf s rows t) changed) (λ e. refused-call AnswerTooLong)
+    concluded-call : (room : ℕ) (t : Transaction) → (t .commits ≡ false → t .rows ≡ rows) → AsCall (concluded s number rows room t) (concludedRows rows room t)
+    concluded-call room t h = by-tests AsCall (leb (length (t .text)) room) (λ e. numbered-call t (changesOf s rows t) changed) (λ e. refused-call AnswerTooLong)
       where
         changed : changesOf s rows t ≡ diff s rows (t .rows)
         changed = by-test (λ (l : List Change). l ≡ diff s rows (t .rows)) (t .commits) (λ c. refl) (λ c. rw (h c) (sym (diff-self s rows o)))
 
     freshly-call : (ids : List ℕ) (room : ℕ) (q : Request) → AsCall (freshly s number rows ids room q) (freshRows s rows ids room q)
     freshly-call ids room q =
-        by-tests AsCall (idsGood ids rows) (λ e. told-call room (transactRows s ids rows (q .operations)) (transact-stays s ids rows q)) (λ e. refused-call BadFreshIds)
+        by-tests AsCall (idsGood ids rows) (λ e. concluded-call room (transactRows s ids rows (q .operations)) (transact-stays s ids rows q)) (λ e. refused-call BadFreshIds)
 
 pub reply-call : (d : Database) (number : ℕ) (rows : List Row) (request fresh : List ℕ) (room : ℕ) → Sorted rows
     → AsCall (d .tables) number rows (reply d number rows request fresh room) (replyRows d request fresh room rows)

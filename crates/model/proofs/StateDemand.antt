@@ -13,7 +13,7 @@ use Rattle.model.specs.Records.{Change, end, acts, isEnd, numbered, enco
 use Rattle.model.proofs.Order.{Good}
 use Rattle.model.specs.Mirror.{Mirror, fresh, level, step, highest, something, numberCarried}
 use Rattle.model.specs.Refusals.{isRefusal}
-use Rattle.model.specs.declared.Answer.the-variants.{Applied}
+use Rattle.model.specs.declared.Status.the-variants.{Applied}
 use Rattle.model.proofs.StateHistory.{empty, Call, transact, askMark, finally, changes, written}
 
 -- a list of arrivals, each finding the mirror as the last one left it
@@ -24,7 +24,7 @@ through s run m (x ∷ xs) = through s run (step s run m x .next) xs
 abbrev pub heardOf : Schema → ℕ → Mirror → List (List ℕ) → List ℕ
 heardOf s run m [] = []
 heardOf s run m (x ∷ xs) =
-    if isRefusal (step s run m x .answer) then heardOf s run (step s run m x .next) xs
+    if isRefusal (step s run m x .status) then heardOf s run (step s run m x .next) xs
     else numberCarried (decode x) ∷ heardOf s run (step s run m x .next) xs
 
 -- each transact keeps what holds of a store's rows
@@ -36,7 +36,7 @@ Keeps s (askMark ∷ cs) = Keeps s cs
 -- arrivals: what was sent, in any order, any lost, any repeated, with whatever else the mirror refuses
 abbrev pub Arrive : Schema → ℕ → List (List ℕ) → Mirror → List (List ℕ) → Type 0
 Arrive s run sent m [] = Unit
-Arrive s run sent m (x ∷ xs) = (List·Memᴰ x sent ⊎ (isRefusal (step s run m x .answer) ≡ true)) × Arrive s run sent (step s run m x .next) xs
+Arrive s run sent m (x ∷ xs) = (List·Memᴰ x sent ⊎ (isRefusal (step s run m x .status) ≡ true)) × Arrive s run sent (step s run m x .next) xs
 
 -- n is 0, or "Number n ends a commit where record n is its end"
 abbrev pub endsAt : List Change → ℕ → Bool
@@ -51,9 +51,9 @@ module _ (s : Schema) (run : ℕ) (calls : List Call) where
     pub rows : m .rows ≡ acts s (take (m .n) (changes s run empty calls)) []
     -- record n+1 moves n by one
     pub moves : (x : List ℕ) → m .n < length (changes s run empty calls) → x ≡ encode (numbered run (suc (m .n)) (getD (changes s run empty calls) (m .n) end))
-        → (step s run m x .answer ≡ Applied) × (step s run m x .next .n ≡ suc (m .n))
+        → (step s run m x .status ≡ Applied) × (step s run m x .next .n ≡ suc (m .n))
     -- "the mirror refuses none of them"
-    pub refusesNone : (x : List ℕ) → List·Memᴰ x (written s run empty calls) → isRefusal (step s run m x .answer) ≡ Bool.false
+    pub refusesNone : (x : List ℕ) → List·Memᴰ x (written s run empty calls) → isRefusal (step s run m x .status) ≡ Bool.false
     -- what it has heard, and whether n is 0 or ends a commit
     pub top : m .top ≡ highest heard
     pub loud : m .heard ≡ something heard

@@ -135,17 +135,17 @@ module _ (m : MirrorState) (f : MirrorFine m) where
       let g = mirror-whole m f in
       rw (eq-eqb (length (encodeMirror m)) mirrorBytes (mirror-of-length (encodeMirror m) m (mirror-of-encode m g)), mirrorHear) (rw (mirror-of-encode m g))
 
-  pub hear-answer : (x : List ℕ) → mirrorHear (encodeMirror m) x .answer ≡ step (m .database .tables) (m .run) (m .mirror) x .answer
+  pub hear-answer : (x : List ℕ) → mirrorHear (encodeMirror m) x .status ≡ step (m .database .tables) (m .run) (m .mirror) x .status
   hear-answer x =
       let st : Step = step (m .database .tables) (m .run) (m .mirror) x in
-      ap (λ (a : Arrived). a .answer) (hear-on x) ∙ split (isRefusal (st .answer)) (λ q. rw (q, hearStep)) (λ q. rw (q, hearStep))
+      ap (λ (a : Arrived). a .status) (hear-on x) ∙ split (isRefusal (st .status)) (λ q. rw (q, hearStep)) (λ q. rw (q, hearStep))
 
   -- refused or not, the area is that of the mirror after the step
   pub hear-area : (x : List ℕ) → mirrorHear (encodeMirror m) x .area ≡ encodeMirror (mirrorAfter m (step (m .database .tables) (m .run) (m .mirror) x .next))
   hear-area x =
       let st : Step = step (m .database .tables) (m .run) (m .mirror) x in
       ap (λ (a : Arrived). a .area) (hear-on x)
-      ∙ split (isRefusal (st .answer)) (λ q. rw (q, hearStep) (ap (λ (n : Mirror). encodeMirror (mirrorAfter m n)) (sym (refused-same (said (m .database .tables) (m .run) (m .mirror) (decode x)) q)))) (λ q. rw (q, hearStep))
+      ∙ split (isRefusal (st .status)) (λ q. rw (q, hearStep) (ap (λ (n : Mirror). encodeMirror (mirrorAfter m n)) (sym (refused-same (said (m .database .tables) (m .run) (m .mirror) (decode x)) q)))) (λ q. rw (q, hearStep))
 
 -- ── a store in good order ──
 pub record StoreFine (st : Store) : Type 0 where

@@ -28,7 +28,7 @@ use Rattle.model.specs.Histories.{StoreCall, transact, askMark, areBytes
 use Rattle.model.proofs.StateHistory as History
 use Rattle.model.proofs.StateDemand.{Keeps}
 use Rattle.model.proofs.StateHistory.{State, Call, room, changesOf, rowsAfter, stateAfter, recordsOf}
-use Rattle.model.specs.declared.Answer.the-variants.{WrongLength}
+use Rattle.model.specs.declared.Status.the-variants.{WrongLength}
 use Rattle.model.proofs.Tests.{split, clash, and-l, and-r, parts}
 use Rattle.model.proofs.Lists.{all-head, all-tail}
 use Rattle.model.proofs.TextUtf8.{by-test}
@@ -248,8 +248,8 @@ module _ (d : Database) (run : ℕ) where
 
           gives : Gives call (transactReplied before r t (storeAt d run σ) said)
           gives =
-              by-test (Gives call) (isRefusal (said .answer))
-              (λ e. idle call (sym rows-are ∙ replied .refuses e .0) (sym changes-are ∙ replied .refuses e .1) (transactRefused (said .answer) before r t) refl (none-there (length r)))
+              by-test (Gives call) (isRefusal (said .status))
+              (λ e. idle call (sym rows-are ∙ replied .refuses e .0) (sym changes-are ∙ replied .refuses e .1) (transactRefused (said .status) before r t) refl (none-there (length r)))
               (λ e. (
                 λ i. encodeStore (record { run = run; number = σ .last + length (changes-are i); database = d; rows = rows-are i }),
                 ap (λ (l : List Change). pieces (filled (length r) (flat (map encode (numberFrom run (σ .last) l))))) changes-are ∙ written,

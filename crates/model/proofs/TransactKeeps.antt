@@ -20,8 +20,8 @@ use Rattle.model.specs.Faults.{isFine}
 use Rattle.model.specs.Commit.{commit, lawful}
 use Rattle.model.specs.Answers.{bracketed, errorText}
 use Rattle.model.specs.Transact.{Request, readRequest, freshIds, idsGood, namesOf, Ran, runAll, Transaction, atCommit, transactRows}
-use Rattle.model.specs.Replies.{Reply, refused, changesOf, told, freshly, named, reply, replyTo}
-use Rattle.model.specs.declared.Answer.the-variants.{BadRequest, BadFreshIds}
+use Rattle.model.specs.Replies.{Reply, refused, changesOf, concluded, freshly, named, reply, replyTo}
+use Rattle.model.specs.declared.Status.the-variants.{BadRequest, BadFreshIds}
 use Rattle.model.proofs.Tests.{parts}
 use Rattle.model.proofs.Octets.{octet}
 use Rattle.model.proofs.SchemaLaws.{column-at}
@@ -82,7 +82,7 @@ module _ (d : Database) (number : ℕ) (rows : List Row) (b : List ℕ) (room : 
   freshly-keeps : (t : List ℕ) (q : Request) → readRequest t ≡ some q → After (freshly (d .tables) number rows (freshIds b) room q)
   freshly-keeps t q e = go (idsGood (freshIds b) rows) refl
     where
-      kept : idsGood (freshIds b) rows ≡ true → After (told (d .tables) number rows room (transactRows (d .tables) (freshIds b) rows (q .operations)))
+      kept : idsGood (freshIds b) rows ≡ true → After (concluded (d .tables) number rows room (transactRows (d .tables) (freshIds b) rows (q .operations)))
       kept f =
           let t0 : Transaction = transactRows (d .tables) (freshIds b) rows (q .operations) in
           let k = request-good t q e in
@@ -92,7 +92,7 @@ module _ (d : Database) (number : ℕ) (rows : List Row) (b : List ℕ) (room : 
           o
 
       go : (c : Bool) → idsGood (freshIds b) rows ≡ c
-          → After (elim c [ true ↦ told (d .tables) number rows room (transactRows (d .tables) (freshIds b) rows (q .operations)) | false ↦ refused BadFreshIds rows ])
+          → After (elim c [ true ↦ concluded (d .tables) number rows room (transactRows (d .tables) (freshIds b) rows (q .operations)) | false ↦ refused BadFreshIds rows ])
       go true f = kept f
       go false f = o
 

@@ -20,8 +20,8 @@ use Rattle.model.specs.Calls.{Started, zeroed, newStore, newMirror, stor
 use Rattle.model.specs.Laid.{storeOr, mirrorOr, succeeds, recordsLaid, textLaid, storeLaid}
 use Rattle.model.specs.FirstRefusal.{storeStartNumber, mirrorStartNumber, transactNumber, markNumber, recordConditions, heardAs, given, hearNumber, askNumber, columnNumber}
 use Rattle.model.specs.Histories.{StoreCall, areBytes, ofBytes, areaAfterAll, recordsOf, sentOf, changeOf, changeIn, made, endsCommit, heardAll, Arrivals, heardNumbers}
-use Rattle.model.specs.declared.Answer.{Answer}
-use Rattle.model.specs.declared.Answer.the-variants.{Accepted, Applied}
+use Rattle.model.specs.declared.Status.{Status}
+use Rattle.model.specs.declared.Status.the-variants.{Accepted, Applied}
 
 -- ── demand 1: "Whatever bytes come as schema, request, record or stored area, a call ends with its answer or with the first of document 01's refusals that applies, exactly when it applies" ──
 -- a buffer that a call writes to: as it was lent, what is to be written to it, and as it was left
@@ -41,30 +41,30 @@ ZeroBeyond [] = Unit
 ZeroBeyond (b ∷ bs) = (length (b .written) ≤ length (b .lent)) × (b .left ≡ b .written ++ replicate (length (b .lent) - length (b .written)) 0) × ZeroBeyond bs
 
 -- of a call that is to get a number: its answer, the area before and after it, and every other buffer it writes to
-pub record Ends (number : ℕ) (answer : Answer) (area after : List ℕ) (buffers : List Buffer) : Type 0 where
-  pub first : numberOf answer ≡ number
+pub record Ends (number : ℕ) (status : Status) (area after : List ℕ) (buffers : List Buffer) : Type 0 where
+  pub first : numberOf status ≡ number
   -- "A refused call leaves store and mirror untouched and every output buffer zero"
-  pub refused : isRefusal answer ≡ true → (after ≡ area) × AllZero buffers
-  pub accepted : isRefusal answer ≡ false → ZeroBeyond buffers
+  pub refused : isRefusal status ≡ true → (after ≡ area) × AllZero buffers
+  pub accepted : isRefusal status ≡ false → ZeroBeyond buffers
 
 -- the eight calls
 abbrev pub StoreStartEnds : List ℕ → List ℕ → ℕ → Type 0
 StoreStartEnds area schema run =
     let c = storeStart area schema run in
-    Ends (storeStartNumber area schema) (c .answer) area (c .area) []
+    Ends (storeStartNumber area schema) (c .status) area (c .area) []
     -- "makes no rows and number 0"
-    × (isRefusal (c .answer) ≡ false → (d : Database) × (readSchema schema ≡ some d) × (c .area ≡ encodeStore (newStore run d)))
+    × (isRefusal (c .status) ≡ false → (d : Database) × (readSchema schema ≡ some d) × (c .area ≡ encodeStore (newStore run d)))
 
 abbrev pub MirrorStartEnds : List ℕ → List ℕ → ℕ → Type 0
 MirrorStartEnds area schema run =
     let c = mirrorStart area schema run in
-    Ends (mirrorStartNumber area schema) (c .answer) area (c .area) []
-    × (isRefusal (c .answer) ≡ false → (d : Database) × (readSchema schema ≡ some d) × (c .area ≡ encodeMirror (newMirror run d)))
+    Ends (mirrorStartNumber area schema) (c .status) area (c .area) []
+    × (isRefusal (c .status) ≡ false → (d : Database) × (readSchema schema ≡ some d) × (c .area ≡ encodeMirror (newMirror run d)))
 
 abbrev pub TransactEnds : List ℕ → List ℕ → List ℕ → List ℕ → List ℕ → Type 0
 TransactEnds area request fresh records text =
     let c = storeTransact area request fresh records text in
-    Ends (transactNumber area request fresh records text) (c .answer) area (c .area)
+    Ends (transactNumber area request fresh records text) (c .status) area (c .area)
     (record { lent = records; written = recordsLaid area request fresh; left = c .records } ∷ record { lent = text; written = textLaid area request fresh; left = c .text } ∷ [])
 
 -- the area of a mark or a question is lent to be read only
@@ -72,26 +72,26 @@ abbrev pub MarkEnds : List ℕ → List ℕ → Type 0
 MarkEnds area out =
     let c = storeMark area out in
     let st = storeOr (storeOf area) in
-    Ends (markNumber area out) (c .answer) area area (record { lent = out; written = encode (mark (st .run) (st .number)); left = c .mark } ∷ [])
+    Ends (markNumber area out) (c .status) area area (record { lent = out; written = encode (mark (st .run) (st .number)); left = c .mark } ∷ [])
 
 abbrev pub HearEnds : List ℕ → List ℕ → Type 0
-HearEnds area x = let c = mirrorHear area x in Ends (hearNumber area x) (c .answer) area (c .area) []
+HearEnds area x = let c = mirrorHear area x in Ends (hearNumber area x) (c .status) area (c .area) []
 
 -- a refused question tells nothing
 abbrev pub ProgressEnds : List ℕ → Type 0
 ProgressEnds area =
     let c = mirrorProgress area in
-    Ends (askNumber area) (c .answer) area area [] × (isRefusal (c .answer) ≡ true → (c .n ≡ 0) × (c .level ≡ false))
+    Ends (askNumber area) (c .status) area area [] × (isRefusal (c .status) ≡ true → (c .n ≡ 0) × (c .level ≡ false))
 
 abbrev pub HasRowEnds : List ℕ → ℕ → List ℕ → Type 0
 HasRowEnds area t id =
     let c = mirrorHasRow area t id in
-    Ends (askNumber area) (c .answer) area area [] × (isRefusal (c .answer) ≡ true → c .there ≡ false)
+    Ends (askNumber area) (c .status) area area [] × (isRefusal (c .status) ≡ true → c .there ≡ false)
 
 abbrev pub ColumnEnds : List ℕ → ℕ → List ℕ → ℕ → List ℕ → Type 0
 ColumnEnds area t id column out =
     let c = mirrorColumn area t id column out in
-    Ends (columnNumber area out) (c .answer) area area (record { lent = out; written = columnAnswer (mirrorOr (mirrorOf area) .mirror) t (value id) column; left = c .out } ∷ [])
+    Ends (columnNumber area out) (c .status) area area (record { lent = out; written = columnAnswer (mirrorOr (mirrorOf area) .mirror) t (value id) column; left = c .out } ∷ [])
 
 -- for all bytes; that they are below 256 is asked only where something rests on it
 pub record Demand1 : Type 0 where
@@ -111,7 +111,7 @@ module _ (area request fresh records text : List ℕ) where
 
   -- "One commits exactly when every operation succeeds and at the end strong references, weak columns that may not be empty, indexes and row limits hold, and it isn't refused"
   abbrev pub commits : Bool
-  commits = not (isRefusal (call .answer)) && succeeds area request fresh
+  commits = not (isRefusal (call .status)) && succeeds area request fresh
 
   pub record Transacts : Type 0 where
     -- "Answer, rows and records are then the ones laid down, byte for byte": the area is the encoding of the settled rows and of the number moved by the records
@@ -121,7 +121,7 @@ module _ (area request fresh records text : List ℕ) where
     -- "Otherwise rows and number stay and no record is written"
     pub stays : commits ≡ false → (call .area ≡ area) × (call .records ≡ zeroed records)
     -- the answer, of a commit or of what failed
-    pub answered : isRefusal (call .answer) ≡ false → call .text ≡ textLaid area request fresh ++ replicate (length text - length (textLaid area request fresh)) 0
+    pub answered : isRefusal (call .status) ≡ false → call .text ≡ textLaid area request fresh ++ replicate (length text - length (textLaid area request fresh)) 0
     -- rows change exactly when records are written
     pub both : (storeOr (storeOf (call .area)) .rows ≡ storeOr (storeOf area) .rows) ↔ (call .records ≡ zeroed records)
 
@@ -132,7 +132,7 @@ Demand2 = (area request fresh records text : List ℕ) → areBytes fresh ≡ tr
 -- what an arrival leaves, by its answer's number: "applied to record n+1, which acts on the rows and moves n by one" (103), "behind to one above n+1 (only the highest heard
 -- changes), heard to a mark (rows and n stay)" (101, 102), "repeat to a record numbered n or less (nothing changes)" (100), and nothing changes either where it is refused
 abbrev pub leftBy : Schema → ℕ → Mirror → Option Record → Mirror
-leftBy s answer m x = elim (eqb answer 103) [ true ↦ applies s m (changeOf x) | false ↦ elim (eqb answer 101 || eqb answer 102) [ true ↦ hears m (numberCarried x) | false ↦ m ] ]
+leftBy s status m x = elim (eqb status 103) [ true ↦ applies s m (changeOf x) | false ↦ elim (eqb status 101 || eqb status 102) [ true ↦ hears m (numberCarried x) | false ↦ m ] ]
 
 -- `area` is the area of a store that was started with a schema's text that is read as this database, and with this run
 module _ (d : Database) (run : ℕ) (area : List ℕ) (calls : List StoreCall) where
@@ -155,18 +155,18 @@ module _ (d : Database) (run : ℕ) (area : List ℕ) (calls : List StoreCall) w
     pub bytes : shown ≡ areaOf (mirrorAt n heard)
     pub state : mirrorOf shown ≡ some (record { run = run; database = d; mirror = mirrorAt n heard })
     -- it names n, and says "level" exactly when it has heard something, n is the highest number heard, and n is 0 or ends a commit
-    pub tells : mirrorProgress shown ≡ record { answer = Accepted; n = n; level = something heard && eqb n (highest heard) && endsCommit (recordsOf area calls) n }
+    pub tells : mirrorProgress shown ≡ record { status = Accepted; n = n; level = something heard && eqb n (highest heard) && endsCommit (recordsOf area calls) n }
     -- what it tells of rows and columns is told of those rows
-    pub tellsRow : (t : ℕ) (id : List ℕ) → mirrorHasRow shown t id ≡ record { answer = Accepted; there = has (keyOf t (value id)) (rowsAt n) }
-    pub tellsColumn : (t : ℕ) (id : List ℕ) (c : ℕ) (out : List ℕ) → length out ≡ columnBytes → mirrorColumn shown t id c out ≡ record { answer = Accepted; out = columnAnswer (mirrorAt n heard) t (value id) c }
+    pub tellsRow : (t : ℕ) (id : List ℕ) → mirrorHasRow shown t id ≡ record { status = Accepted; there = has (keyOf t (value id)) (rowsAt n) }
+    pub tellsColumn : (t : ℕ) (id : List ℕ) (c : ℕ) (out : List ℕ) → length out ≡ columnBytes → mirrorColumn shown t id c out ≡ record { status = Accepted; out = columnAnswer (mirrorAt n heard) t (value id) c }
     -- whatever comes next: its answer by its conditions, and what that leaves
-    pub answers : (x : List ℕ) → numberOf (mirrorHear shown x .answer) ≡ given (recordConditions (d .tables) run (mirrorAt n heard) (decode x)) (heardAs n (decode x))
-    pub leaves : (x : List ℕ) → mirrorHear shown x .area ≡ areaOf (leftBy (d .tables) (numberOf (mirrorHear shown x .answer)) (mirrorAt n heard) (decode x))
+    pub answers : (x : List ℕ) → numberOf (mirrorHear shown x .status) ≡ given (recordConditions (d .tables) run (mirrorAt n heard) (decode x)) (heardAs n (decode x))
+    pub leaves : (x : List ℕ) → mirrorHear shown x .area ≡ areaOf (leftBy (d .tables) (numberOf (mirrorHear shown x .status)) (mirrorAt n heard) (decode x))
     -- record n+1, when it comes, moves n by one
-    pub moved : n < length (recordsOf area calls) → mirrorHear shown (getD (recordsOf area calls) n []) .answer ≡ Applied
+    pub moved : n < length (recordsOf area calls) → mirrorHear shown (getD (recordsOf area calls) n []) .status ≡ Applied
     pub moves : n < length (recordsOf area calls) → mirrorProgress (mirrorHear shown (getD (recordsOf area calls) n []) .area) .n ≡ suc n
     -- "the mirror refuses none of them"
-    pub refusesNone : (x : List ℕ) → List·Memᴰ x (sentOf area calls) → isRefusal (mirrorHear shown x .answer) ≡ false
+    pub refusesNone : (x : List ℕ) → List·Memᴰ x (sentOf area calls) → isRefusal (mirrorHear shown x .status) ≡ false
     -- and where it is level its rows are the store's after that commit: after each call that left the store at number n, and there is one
     pub store : mirrorProgress shown .level ≡ true → (j : ℕ) (st : Store) → storeOf (areaAfterAll area (take j calls)) ≡ some st → st .number ≡ n → rowsAt n ≡ st .rows
     pub commit : mirrorProgress shown .level ≡ true → (j : ℕ) × (st : Store) × (j ≤ length calls) × (storeOf (areaAfterAll area (take j calls)) ≡ some st) × (st .number ≡ n)
@@ -180,7 +180,7 @@ module _ (d : Database) (run : ℕ) (area : List ℕ) (calls : List StoreCall) w
 -- history; every list of arrivals, at the start and after each
 abbrev pub Demand3 : Type 0
 Demand3 = (schema shown : List ℕ) (d : Database) (run : ℕ) (old oldShown : List ℕ) → run < 256 ^ 4 → readSchema schema ≡ some d → readSchema shown ≡ some d
-    → storeStart old schema run .answer ≡ Accepted → mirrorStart oldShown shown run .answer ≡ Accepted
+    → storeStart old schema run .status ≡ Accepted → mirrorStart oldShown shown run .status ≡ Accepted
     → (calls : List StoreCall) → all ofBytes calls ≡ true
     → Keeps d run (storeStart old schema run .area) calls
     × ((xs : List (List ℕ)) → Arrivals (sentOf (storeStart old schema run .area) calls) (mirrorStart oldShown shown run .area) xs

@@ -80,11 +80,11 @@ heardAll m (x ∷ xs) = heardAll (mirrorHear m x .area) xs
 -- "any order, lost, repeated, with whatever else the mirror refuses"
 abbrev pub Arrivals : List (List ℕ) → List ℕ → List (List ℕ) → Type 0
 Arrivals sent m [] = Unit
-Arrivals sent m (x ∷ xs) = (List·Memᴰ x sent ⊎ (isRefusal (mirrorHear m x .answer) ≡ true)) × Arrivals sent (mirrorHear m x .area) xs
+Arrivals sent m (x ∷ xs) = (List·Memᴰ x sent ⊎ (isRefusal (mirrorHear m x .status) ≡ true)) × Arrivals sent (mirrorHear m x .area) xs
 
 -- "What a mirror doesn't refuse it has heard": the numbers carried by those
 abbrev pub heardNumbers : List ℕ → List (List ℕ) → List ℕ
 heardNumbers m [] = []
 heardNumbers m (x ∷ xs) =
     let rest = heardNumbers (mirrorHear m x .area) xs in
-    elim (isRefusal (mirrorHear m x .answer)) [ true ↦ rest | false ↦ numberCarried (decode x) ∷ rest ]
+    elim (isRefusal (mirrorHear m x .status)) [ true ↦ rest | false ↦ numberCarried (decode x) ∷ rest ]

@@ -11,8 +11,8 @@ use Rattle.model.specs.Schema.{Schema}
 use Rattle.model.specs.Value.{Value}
 use Rattle.model.specs.Rows.{Row, keyOf, find, has}
 use Rattle.model.specs.Refusals.{isRefusal}
-use Rattle.model.specs.declared.Answer.{Answer}
-use Rattle.model.specs.declared.Answer.the-variants.{BadRecord, OtherRun, Repeat, Behind, Heard, Applied}
+use Rattle.model.specs.declared.Status.{Status}
+use Rattle.model.specs.declared.Status.the-variants.{BadRecord, OtherRun, Repeat, Behind, Heard, Applied}
 use Rattle.model.specs.Records.{Change, act, fits, sound, isEnd, Record, numbered, mark, decode, valueBytes}
 
 -- its rows, n: how many records made them, "the highest heard", whether anything was heard, whether n is 0 or ends a commit
@@ -33,7 +33,7 @@ level m = m .heard && eqb (m .n) (m .top) && m .whole
 
 -- "It answers repeat .., behind .., heard to a mark .., and applied"; or a refusal
 pub record Step : Type 0 where
-  pub answer : Answer
+  pub status : Status
   pub next : Mirror
 
 -- "the highest heard is the largest number carried by these"; "only the highest heard changes"
@@ -51,17 +51,17 @@ bad s m k e = not (sound s e) || eqb k 0 || (eqb k (suc (m .n)) && not (fits e (
 -- refusal 8 before refusal 9; "repeat to a record numbered n or less (nothing changes), behind to one above n+1 .., heard to a mark .., applied to record n+1"
 abbrev pub onRecord : Schema → ℕ → Mirror → Record → Step
 onRecord s run m (mark u k) =
-    if not (eqb u run) then record { answer = OtherRun; next = m }
-    else record { answer = Heard; next = hears m k }
+    if not (eqb u run) then record { status = OtherRun; next = m }
+    else record { status = Heard; next = hears m k }
 onRecord s run m (numbered u k e) =
-    if bad s m k e then record { answer = BadRecord; next = m }
-    else if not (eqb u run) then record { answer = OtherRun; next = m }
-    else if leb k (m .n) then record { answer = Repeat; next = m }
-    else if eqb k (suc (m .n)) then record { answer = Applied; next = applies s m e }
-    else record { answer = Behind; next = hears m k }
+    if bad s m k e then record { status = BadRecord; next = m }
+    else if not (eqb u run) then record { status = OtherRun; next = m }
+    else if leb k (m .n) then record { status = Repeat; next = m }
+    else if eqb k (suc (m .n)) then record { status = Applied; next = applies s m e }
+    else record { status = Behind; next = hears m k }
 
 abbrev pub onRead : Schema → ℕ → Mirror → Option Record → Step
-onRead s run m none = record { answer = BadRecord; next = m }
+onRead s run m none = record { status = BadRecord; next = m }
 onRead s run m (some l) = onRecord s run m l
 
 -- one arrival

@@ -20,7 +20,7 @@ use Rattle.model.specs.Laid.{mirrorOr}
 
 -- what the last call gave, its answer's number and its buffers; and what a mirror that then heard some of its records tells, with the highest number heard
 pub record Gave : Type 0 where
-  pub answer : ℕ
+  pub status : ℕ
   pub text : List ℕ
   pub records : List ℕ
   pub n : ℕ
@@ -64,7 +64,7 @@ lastCall i c (q ∷ qs) = lastCall (i + 16) (storeTransact (c .area) q (idsFrom 
 abbrev pub callsOf : Reading → Transacted
 callsOf r =
     let s = storeStart (replicate storeBytes 0) (r .schema) 1 in
-    lastCall 1 (record { answer = s .answer; area = s .area; records = recordsRoom; text = textRoom }) (r .requests)
+    lastCall 1 (record { status = s .status; area = s .area; records = recordsRoom; text = textRoom }) (r .requests)
 
 abbrev pub picks : List ℕ → List (List ℕ) → List (List ℕ)
 picks [] l = []
@@ -77,7 +77,7 @@ mirrorOn r records = heardAll (mirrorStart (replicate mirrorBytes 0) (r .schema)
 abbrev pub gave : Transacted → List ℕ → Gave
 gave c shown =
     let p = mirrorProgress shown in
-    record { answer = numberOf (c .answer); text = c .text; records = c .records; n = p .n; highest = mirrorOr (mirrorOf shown) .mirror .top; level = p .level }
+    record { status = numberOf (c .status); text = c .text; records = c .records; n = p .n; highest = mirrorOr (mirrorOf shown) .mirror .top; level = p .level }
 
 abbrev pub got : Reading → Gave
 got r = gave (callsOf r) (mirrorOn r (callsOf r .records))
@@ -88,7 +88,7 @@ padded n b = filled n b
 
 -- a reading of the store alone: an accepted answer's text and records, zeros after them, and a mirror that heard nothing
 abbrev pub gives : List ℕ → List ℕ → Gave
-gives text records = record { answer = 0; text = padded 1000 text; records = padded leastRecords records; n = 0; highest = 0; level = false }
+gives text records = record { status = 0; text = padded 1000 text; records = padded leastRecords records; n = 0; highest = 0; level = false }
 
 abbrev pub reading : List ℕ → List (List ℕ) → List ℕ → List ℕ → Reading
 reading schema requests text records = record { schema = schema; requests = requests; hears = []; last = gives text records }
@@ -172,7 +172,7 @@ ended n = 4 ∷ big 4 1 ++ big 4 n
 -- the first reading's records as a mirror hears them
 abbrev pub hearing : List ℕ → ℕ → ℕ → Bool → Reading
 hearing ks n top level =
-    record { schema = bath; requests = first ∷ []; hears = ks; last = record { answer = 0; text = padded 1000 firstText; records = padded leastRecords firstRecords; n = n; highest = top; level = level } }
+    record { schema = bath; requests = first ∷ []; hears = ks; last = record { status = 0; text = padded 1000 firstText; records = padded leastRecords firstRecords; n = n; highest = top; level = level } }
 
 abbrev pub table : List Reading
 table =

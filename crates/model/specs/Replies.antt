@@ -11,18 +11,18 @@ use Rattle.model.specs.Schema.{Schema, Database}
 use Rattle.model.specs.Rows.{Row}
 use Rattle.model.specs.Transact.{Request, readRequest, freshIds, idsGood, Transaction, transactRows}
 use Rattle.model.specs.Records.{Change, diff}
-use Rattle.model.specs.declared.Answer.{Answer}
-use Rattle.model.specs.declared.Answer.the-variants.{Accepted, BadRequest, OtherDatabase, BadFreshIds, AnswerTooLong, NumbersSpent}
+use Rattle.model.specs.declared.Status.{Status}
+use Rattle.model.specs.declared.Status.the-variants.{Accepted, BadRequest, OtherDatabase, BadFreshIds, AnswerTooLong, NumbersSpent}
 
 -- what a transact gives: the rows after it, the changes it writes, the answer's text
 pub record Reply : Type 0 where
-  pub answer : Answer
+  pub status : Status
   pub rows : List Row
   pub changes : List Change
   pub text : List ℕ
 
-abbrev pub refused : Answer → List Row → Reply
-refused a rows = record { answer = a; rows = rows; changes = []; text = [] }
+abbrev pub refused : Status → List Row → Reply
+refused a rows = record { status = a; rows = rows; changes = []; text = [] }
 
 -- "Otherwise rows and number stay and no record is written"
 abbrev pub changesOf : Schema → List Row → Transaction → List Change
@@ -32,19 +32,19 @@ changesOf s rows t = elim (t .commits) [ true ↦ diff s rows (t .rows) | false 
 abbrev pub numbered : ℕ → List Row → Transaction → List Change → Reply
 numbered number rows t es =
     elim (leb (number + length es) lastNumber) [
-      | true ↦ record { answer = Accepted; rows = t .rows; changes = es; text = t .text }
+      | true ↦ record { status = Accepted; rows = t .rows; changes = es; text = t .text }
       | false ↦ refused NumbersSpent rows
     ]
 
 -- refusal 7: "the full result text is longer than the answer buffer"
-abbrev pub told : Schema → ℕ → List Row → ℕ → Transaction → Reply
-told s number rows room t =
+abbrev pub concluded : Schema → ℕ → List Row → ℕ → Transaction → Reply
+concluded s number rows room t =
     elim (leb (length (t .text)) room) [ true ↦ numbered number rows t (changesOf s rows t) | false ↦ refused AnswerTooLong rows ]
 
 -- refusal 6, refusal 5
 abbrev pub freshly : Schema → ℕ → List Row → List ℕ → ℕ → Request → Reply
 freshly s number rows ids room q =
-    elim (idsGood ids rows) [ true ↦ told s number rows room (transactRows s ids rows (q .operations)) | false ↦ refused BadFreshIds rows ]
+    elim (idsGood ids rows) [ true ↦ concluded s number rows room (transactRows s ids rows (q .operations)) | false ↦ refused BadFreshIds rows ]
 
 abbrev pub named : Database → ℕ → List Row → List ℕ → ℕ → Request → Reply
 named d number rows ids room q = elim (eqBytes (q .name) (d .name)) [ true ↦ freshly (d .tables) number rows ids room q | false ↦ refused OtherDatabase rows ]

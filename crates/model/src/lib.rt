@@ -86,7 +86,7 @@ pub enum Mutator {
 }
 
 // What a call answers: accepted, or the refusal of document 01's table; a mirror tells an accepted arrival apart by four more.
-pub enum Answer {
+pub enum Status {
     Accepted,
     Disordered,
     WrongLength,

@@ -1,11 +1,13 @@
--- How mutations are judged, one after another. Assumes nothing.
+-- How mutations are read and judged, one after another. Assumes nothing.
 use mathlib.Core.Path.{_≡_, refl, sym, ap, subst, _∙_}
-use mathlib.Core.Bool.{true, false}
+use mathlib.Core.Bool.{Bool, true, false}
 use mathlib.Core.List.{List, [], _∷_, map}
 use mathlib.Core.Option.{Option, none, some}
-use Prim.Native.Nat.{ℕ}
+use Prim.Native.Nat.{ℕ, _-_}
+use native.Mathlib.Omega.{arith}
 use lib.Dec.{eqb}
-use lib.ListN.{getD}
+use lib.ListN.{length, getD, take, replicate}
+use lib.Seq.{take-append-seam}
 use Rattle.model.specs.declared.Found.{Found}
 use Rattle.model.specs.declared.Found.the-variants.{At, Nothing}
 use Rattle.model.specs.declared.Fault.{Fault}
@@ -16,22 +18,27 @@ use Rattle.inner.specs.Positions.{treeAt, nextItem}
 use Rattle.inner.specs.Positions as Text
 use Rattle.model.specs.Catalog.{baseNumbered}
 use Rattle.model.specs.Schema.{Column, columnNamed}
-use Rattle.model.specs.Faults.{isFine, earlier, check}
-use Rattle.model.specs.Written.{Names}
-use Rattle.model.specs.Conditions.{isIntegerBase}
-use Rattle.model.specs.Mutations.{suits, noMutation, mutationBy, mutationOf, mutatorNamed, readMutation, readMutations}
+use Rattle.model.specs.Value.{blank, intOf}
+use Rattle.model.specs.Faults.{isFine, earlier, check, Judged}
+use Rattle.model.specs.Written.{Names, fitting, written}
+use Rattle.model.specs.Conditions.{isIntegerBase, firstInt}
+use Rattle.model.specs.Mutations.{Mutation, suits, mutationFault, noMutation, mutationBy, mutationOf, mutatorNamed, readMutation, readMutations}
 use Rattle.model.specs.Catalog.{columnFrom}
 use Rattle.model.proofs.Tests.{split, clash}
 use Rattle.model.proofs.FaultLaws.{earlier-fine}
+use Rattle.model.proofs.WrittenLaws.{fitting-parts}
+use Rattle.value.proofs.Fours.{padded}
+use Rattle.request_values.specs.Values.{atomsAs, ValueGiven}
+use Rattle.request_values.proofs.Fits.{fine-got, beyond-deletes}
 use Rattle.nav.proofs.Walk.{walk-rest, walk-end}
 use Rattle.uuids.specs.Named.{namesAt}
-use Rattle.conditions.proofs.Faulty.{earlier-last, earlier-assoc}
-use Rattle.lookup.specs.declared.Triple.{Triple}
-use Rattle.lookup.specs.declared.Triple.the-variants as triple
+use Rattle.model.proofs.FaultLaws.{earlier-last, earlier-assoc}
+use Rattle.conditions.specs.declared.lookup.Triple.{Triple}
+use Rattle.conditions.specs.declared.lookup.Triple.the-variants as triple
 use Rattle.catalog.specs.Entries.{foundAt}
-use Rattle.lookup.specs.Lookup.{columnIn, Thrice, Triples}
-use Rattle.mutations.specs.Steps.{operandOf}
-use Rattle.mutations.specs.Mutating.{mutatorIn, columnFault, Parted, PartsOf, mutationAt, mutationsAt}
+use Rattle.conditions.specs.Lookup.{columnIn, Thrice, Triples}
+use Rattle.mutations.specs.Mutating.{mutatorIn, columnFault, Parted, PartsOf, mutationAt, mutationsAt, elementsRead, mutationFrom, Ready, MutationRead}
+use Rattle.mutations.specs.declared.read.Mutation.{Mutation as Read}
 use Rattle.mutations.specs.declared.read.Parts.{Parts}
 use Rattle.mutations.specs.declared.read.Parts.the-variants as parts
 use Rattle.mutations.proofs.Naming.{nth-cells, column-some, column-none, column-place}
@@ -44,29 +51,31 @@ base-integer k = split (eqb k 0)
     (λ a. split (eqb k 1) (λ b. rw (baseNumbered, a, b)) (λ b. split (eqb k 2) (λ d. rw (baseNumbered, a, b, d)) (λ d. rw (baseNumbered, a, b, d))))
 
 -- ── a mutation on a column ──
-module _ (names : Names) (c : Column) (m : Mutator) (j : Json) where
-  pub fault-suited : suits c m ≡ true → columnFault names c m j ≡ earlier (operandOf names c m j .fault) (check (c .mutable) Constraint Fine)
+module _ (c : Column) (m : Mutator) (v : Fault) where
+  pub fault-suited : suits c m ≡ true → columnFault c m v ≡ earlier v (check (c .mutable) Constraint Fine)
   unfolding columnFault
   fault-suited h = rw (columnFault, h)
 
-  pub fault-not : suits c m ≡ false → columnFault names c m j ≡ Syntax
+  pub fault-not : suits c m ≡ false → columnFault c m v ≡ Syntax
   unfolding columnFault
   fault-not h = rw (columnFault, h)
 
   -- one without a fault suits its column, and what is written has none
-  pub fine-parts : isFine (columnFault names c m j) ≡ true → (suits c m ≡ true) × (isFine (operandOf names c m j .fault) ≡ true)
+  fine-parts : isFine (columnFault c m v) ≡ true → (suits c m ≡ true) × (isFine v ≡ true)
   fine-parts h = split (suits c m)
-      (λ e. (e, earlier-fine (operandOf names c m j .fault) (check (c .mutable) Constraint Fine) (ap isFine (sym (fault-suited e)) ∙ h) .0))
+      (λ e. (e, earlier-fine v (check (c .mutable) Constraint Fine) (ap isFine (sym (fault-suited e)) ∙ h) .0))
       (λ e. absurd (clash false (ap isFine (sym (fault-not e)) ∙ h) refl))
 
-  module _ (k : ℕ) where
-    by-fault : mutationBy names j k m c .fault ≡ columnFault names c m j
-    unfolding columnFault operandOf
-    by-fault = split (suits c m) (λ h. rw (h, columnFault)) (λ h. rw (h, columnFault))
+module _ (names : Names) (c : Column) (m : Mutator) (j : Json) where
+  abbrev valueRead : Judged (List (List ℕ))
+  valueRead = written names (c .base) (mutationFault c m) j
 
-    by-got : suits c m ≡ true → mutationBy names j k m c .got ≡ record { place = k; column = c; mutator = m; atoms = operandOf names c m j .got }
-    unfolding operandOf
-    by-got h = rw h
+  by-fault : (k : ℕ) → mutationBy names j k m c .fault ≡ columnFault c m (valueRead .fault)
+  unfolding columnFault
+  by-fault k = split (suits c m) (λ h. rw (h, columnFault)) (λ h. rw (h, columnFault))
+
+  by-got : (k : ℕ) → suits c m ≡ true → mutationBy names j k m c .got ≡ record { place = k; column = c; mutator = m; atoms = valueRead .got }
+  by-got k h = rw h
 
 -- ── by its three items ──
 no-mutator : (names : Names) (cs : List Column) (j : Json) (o : Option ℕ) → mutationOf names cs j o none ≡ noMutation
@@ -111,26 +120,75 @@ module _ (s : List ℕ) (cells : List (List ℕ)) (at : ℕ) {t : Triple} (p : T
       }
 
 -- ── by its parts ──
+first-padded : (l : List (List ℕ)) → firstInt l ≡ intOf (getD (padded l) 0 [])
+first-padded [] = refl
+first-padded (a ∷ l) = refl
+
 module _ (s : List ℕ) (names : List ℕ) (cells : List (List ℕ)) (at : ℕ) {t : Parts} (p : PartsOf s cells at t) where
-  pub parts-none : t ≡ parts.Nothing → mutationAt s names cells at ≡ noMutation
+  parts-none : t ≡ parts.Nothing → mutationAt s names cells at ≡ noMutation
   unfolding PartsOf mutationAt
   parts-none e =
       let q : PartsOf s cells at parts.Nothing = subst (PartsOf s cells at) e p in
       q (namesAt s names)
+
+  pub none-is : (m : Read) (held : List (List ℕ)) → t ≡ parts.Nothing → m .fault ≡ Syntax → MutationRead s names cells (mutationAt s names cells at) m held
+  none-is m held e f =
+      let q : mutationAt s names cells at .fault ≡ Syntax = ap (λ (j : Judged Mutation). j .fault) (parts-none e) in
+      let never : isFine (mutationAt s names cells at .fault) ≡ true → ⊥ = λ h. clash false (ap isFine (sym q) ∙ h) refl in
+      record { fault = f ∙ sym q; got = λ h. absurd (never h); place = λ h. absurd (never h); ready = λ h. absurd (never h) }
 
   module _ {i : ℕ} {m : Mutator} {v : ℕ} (e : t ≡ parts.Of i m v) where
     pub parted : Parted s cells at i m v
     unfolding PartsOf
     parted = subst (PartsOf s cells at) e p
 
-    pub parts-fault : mutationAt s names cells at .fault ≡ columnFault (namesAt s names) (columnFrom (getD cells i [])) m (treeAt s v)
-    unfolding mutationAt
-    parts-fault = ap (λ q. q .fault) (parted .all (namesAt s names)) ∙ by-fault (namesAt s names) (columnFrom (getD cells i [])) m (treeAt s v) i
+    abbrev column : Column
+    column = columnFrom (getD cells i [])
 
-    pub parts-got : suits (columnFrom (getD cells i [])) m ≡ true
-        → mutationAt s names cells at .got ≡ record { place = i; column = columnFrom (getD cells i []); mutator = m; atoms = operandOf (namesAt s names) (columnFrom (getD cells i [])) m (treeAt s v) .got }
+    abbrev value : Judged (List (List ℕ))
+    value = valueRead (namesAt s names) column m (treeAt s v)
+
+    parts-fault : mutationAt s names cells at .fault ≡ columnFault column m (value .fault)
     unfolding mutationAt
-    parts-got h = ap (λ q. q .got) (parted .all (namesAt s names)) ∙ by-got (namesAt s names) (columnFrom (getD cells i [])) m (treeAt s v) i h
+    parts-fault = ap (λ q. q .fault) (parted .all (namesAt s names)) ∙ by-fault (namesAt s names) column m (treeAt s v) i
+
+    parts-got : suits column m ≡ true → mutationAt s names cells at .got ≡ record { place = i; column = column; mutator = m; atoms = value .got }
+    unfolding mutationAt
+    parts-got h = ap (λ q. q .got) (parted .all (namesAt s names)) ∙ by-got (namesAt s names) column m (treeAt s v) i h
+
+    module _ {w : Fault} {n : ℕ} {fits : Bool} {atoms : List (List ℕ)} (g : ValueGiven (namesAt s names) column (mutationFault column m) (treeAt s v) w n fits atoms) (h : isFine (mutationAt s names cells at .fault) ≡ true) where
+      suited : (suits column m ≡ true) × (isFine (value .fault) ≡ true)
+      suited = fine-parts column m (value .fault) (ap isFine (sym parts-fault) ∙ h)
+
+      held : fits ≡ true → take n atoms ≡ value .got
+      held y = ap (take n) (g .gathered (suited .1) y) ∙ ap (λ (k : ℕ). take k (padded (value .got))) (g .count (suited .1)) ∙ take-append-seam (value .got) (replicate (4 - length (value .got)) blank)
+
+      stood : atomsAs (namesAt s names) (column .base) (treeAt s v) ≡ value .got
+      stood = sym (fine-got (namesAt s names) (column .base) (mutationFault column m) (treeAt s v) (suited .1))
+
+      read-ready : (f : Fault) → Ready s (record { fault = f; place = i; mutator = m; at = v; count = n; fits = fits }) atoms
+      read-ready f = record {
+        few = λ y. omega (arith, g .count (suited .1), fitting-parts column (value .got) (sym (g .fit (suited .1)) ∙ y) .0);
+        first = λ y. ap firstInt (held y) ∙ first-padded (value .got) ∙ ap (λ (l : List (List ℕ)). intOf (getD l 0 [])) (sym (g .gathered (suited .1) y));
+        deletes = λ y. beyond-deletes (namesAt s names) column (treeAt s v) m (suited .0) (suited .1) (ap (fitting column) stood ∙ sym (g .fit (suited .1)) ∙ y);
+        well = λ y. parted .well;
+      }
+
+      read-got : (f : Fault) → mutationFrom s names cells (record { fault = f; place = i; mutator = m; at = v; count = n; fits = fits }) atoms ≡ mutationAt s names cells at .got
+      unfolding mutationFrom elementsRead
+      read-got f =
+          let l : List (List ℕ) = elim fits [ true ↦ take n atoms | false ↦ atomsAs (namesAt s names) (column .base) (treeAt s v) ] in
+          let q : l ≡ value .got = split fits (λ y. rw y (held y)) (λ y. rw y stood) in
+          ap (λ (k : List (List ℕ)). record { place = i; column = column; mutator = m; atoms = k }) q ∙ sym (parts-got (suited .0))
+
+    pub read-is : {w f : Fault} {n : ℕ} {fits : Bool} {atoms : List (List ℕ)} → ValueGiven (namesAt s names) column (mutationFault column m) (treeAt s v) w n fits atoms → f ≡ columnFault column m w
+        → MutationRead s names cells (mutationAt s names cells at) (record { fault = f; place = i; mutator = m; at = v; count = n; fits = fits }) atoms
+    read-is {w} {f} g ef = record {
+      fault = ef ∙ ap (columnFault column m) (g .fault) ∙ sym parts-fault;
+      got = λ h. read-got g h f;
+      place = λ h. parted .place;
+      ready = λ h. read-ready g h f;
+    }
 
 -- ── those from a place on ──
 module _ (s : List ℕ) (names : List ℕ) (cells : List (List ℕ)) {g : Found} where

@@ -1,6 +1,6 @@
+-- What the proofs of several functions use.
 pub mod Calculating
 pub mod Uniting
-pub mod Deleting
 pub mod Stepping
 pub mod Naming
 pub mod Faulty

@@ -18,7 +18,7 @@ use Rattle.model.specs.Catalog.{columnFrom}
 use Rattle.model.proofs.Tests.{split}
 use Rattle.members.specs.Fields.{wordsFrom, wordsOf, choiceFrom, choice}
 use Rattle.catalog.specs.Entries.{foundAt}
-use Rattle.lookup.specs.Lookup.{columnIn}
+use Rattle.conditions.specs.Lookup.{columnIn}
 use Rattle.mutations.specs.Mutating.{chosen, mutatorBy, mutatorIn}
 
 -- the words of the mutators, each after its length

@@ -1,204 +1,294 @@
--- Rows mutated, one after another. Assumes nothing.
-use mathlib.Core.Path.{_≡_, refl, sym, ap, _∙_}
+-- Rows mutated, mutation by mutation, and what the model makes of them, row by row. Assumes nothing.
+use mathlib.Core.Path.{_≡_, refl, sym, ap, subst, _∙_}
 use mathlib.Core.Bool.{Bool, true, false}
 use mathlib.Core.List.{List, [], _∷_}
-use Prim.Native.Nat.{ℕ, zero, suc, _+_, _≤_, _<_}
-use native.Mathlib.Numerals.{add-one}
+use mathlib.Core.Logic.{_⊎_, ⊎-elim, inl, inr}
+use Prim.Native.Nat.{ℕ, zero, suc, _+_, _-_, _≤_, _<_}
 use native.Mathlib.Omega.{arith}
-use borrow.Author.Tests.{eqb-true}
-use lib.Dec.{eqb}
-use lib.ListN.{length, getD, take, drop, set, length-set}
-use lib.Seq.{set-getD, getD-take, take-set-lt, length-take-le, drop-cons}
+use borrow.Author.Tests.{eqb-true, ltb-true, ltb-false}
+use lib.Dec.{eqb, ltb}
+use lib.ListN.{length, getD, take, drop, set, length-set, length-drop}
+use lib.Seq.{ext-getD, set-getD, getD-set-same, getD-set-other, getD-take, getD-drop, length-take-le}
 use Rattle.model.specs.Base.{all}
 use Rattle.model.specs.Schema.{Column, Schema, columnsOf}
 use Rattle.model.specs.Rows.{Row}
 use Rattle.model.specs.Faults.{isFine, Judged}
 use Rattle.model.specs.Areas.{rowFrom}
-use Rattle.inner.specs.Working.{working, tableIn, Tidy}
+use Rattle.inner.specs.Working.{working, tableIn, TidyRow, Tidy}
 use Rattle.model.specs.Conditions.{Test, holds, matches}
 use Rattle.model.specs.Mutations.{Mutation, steps}
 use Rattle.model.specs.Operations.{mutateRow, mutateRows}
 use Rattle.model.specs.declared.Fault.{Fault}
 use Rattle.model.specs.declared.Fault.the-variants.{Fine}
-use Rattle.model.proofs.Tests.{clash, and-l}
-use Rattle.inner.proofs.Working.{row-table, working-length, working-at, working-end}
-use Rattle.inner.proofs.Places.{working-set, tidy-set, tidy-at}
+use Rattle.model.proofs.Tests.{split, clash, and-l}
+use Rattle.model.proofs.FaultLaws.{fine-is}
+use Rattle.inner.proofs.Working.{row-table, working-length, working-at}
+use Rattle.inner.proofs.Places.{tidy-at}
 use Rattle.marks.specs.Marks.{MarkedRows}
-use Rattle.mutations.specs.Rows.{RowMutated, MarkedMutated}
+use Rattle.mutations.specs.Mutating.{faultOr}
+use Rattle.mutations.specs.Rows.{RowStepped, SteppedTo, FailsAt, MarkedStepped, MarkedMutated}
+use Rattle.mutations.specs.declared.Stop.{Stop}
+use Rattle.mutations.proofs.Rowing.{Going, going-none, going-on, going-stop}
 
+-- ── one mutation on the marked rows, one after another ──
+module _ (cs : List Column) (m : Mutation) (marks : List Bool) (entry : List (List (List ℕ))) where
+  pub stepped-none : SteppedTo cs m marks 0 entry entry
+  stepped-none = record { size = refl; done = λ k h. absurd (omega arith); still = λ k h. refl }
+
+  module _ {i : ℕ} {now : List (List (List ℕ))} (g : SteppedTo cs m marks i entry now) where
+    -- the row at i is as it was
+    here : getD now i [] ≡ getD entry i []
+    here = g .still i (λ h. absurd (omega arith))
+
+    pub stepped-by : getD marks i false ≡ false → SteppedTo cs m marks (i + 1) entry now
+    stepped-by e = record {
+      size = g .size;
+      done = λ k h t. split (ltb k i)
+          (λ q. g .done k (ltb-true k i q) t)
+          (λ q. let z : k ≡ i = omega (arith, h, ltb-false k i q) in absurd (clash (getD marks i false) (ap (λ (j : ℕ). getD marks j false) (sym z) ∙ t) e));
+      still = λ k h. g .still k (λ l. h (omega (arith, l)));
+    }
+
+    module _ (t : getD marks i false ≡ true) {r : Fault} {row : List (List ℕ)} (p : RowStepped cs m r (getD now i []) row) where
+      pub stepped-on : i < length now → isFine r ≡ true → SteppedTo cs m marks (i + 1) entry (set now i row)
+      stepped-on l y = record {
+        size = length-set now i row ∙ g .size;
+        done = λ k h b. split (ltb k i)
+            (λ q. subst (RowStepped cs m Fine (getD entry k [])) (sym (getD-set-other now i k row [] (λ z. omega (arith, z, ltb-true k i q)))) (g .done k (ltb-true k i q) b))
+            (λ q. let z : k ≡ i = omega (arith, h, ltb-false k i q) in rw (z, getD-set-same now i row [] l, ← here, ← fine-is r y) p);
+        still = λ k h. getD-set-other now i k row [] (λ z. clash (getD marks i false) t (ap (λ (j : ℕ). getD marks j false) (sym z) ∙ h (omega (arith, z)))) ∙ g .still k (λ b. h (omega (arith, b)));
+      }
+
+      pub marked-stop : i < length marks → isFine r ≡ false → MarkedStepped cs m marks (record { fault = r; end = i }) entry (set now i row)
+      marked-stop l f =
+          let e : row ≡ getD now i [] = p .unchanged f in
+          record {
+            rows = subst (SteppedTo cs m marks i entry) (sym (ap (set now i) e ∙ set-getD now i [])) g;
+            stops = inr (record { bad = f; before = l; mark = t; step = subst (λ (x : List (List ℕ)). RowStepped cs m r x x) here (subst (RowStepped cs m r (getD now i [])) e p) });
+          }
+
+    pub marked-end : length marks ≡ i → MarkedStepped cs m marks (record { fault = Fine; end = i }) entry now
+    marked-end e = record { rows = g; stops = inl (ap (λ (j : ℕ). record { fault = Fine; end = j }) (sym e)) }
+
+-- ── mutations on the marked rows of the first n, one after another ──
+module _ (cs : List Column) (marks : List Bool) (n : ℕ) (entry : List (List (List ℕ))) where
+  -- what holds of the rows at any time
+  pub record Sound (stop : Stop) (now : List (List (List ℕ))) : Type 0 where
+    pub size : length now ≡ length entry
+    pub few : stop .end ≤ n
+    pub still : (k : ℕ) → (k < n → getD marks k false ≡ false) → getD now k [] ≡ getD entry k []
+    pub tidy : (k : ℕ) (s : Schema) → columnsOf s (tableIn (getD entry k [])) ≡ cs → TidyRow s (getD entry k []) → TidyRow s (getD now k [])
+
+  -- all mutations fail on the row at the stop
+  abbrev Failing : List Mutation → Stop → Type 0
+  Failing ms t = (t .end < n) × (getD marks (t .end) false ≡ true) × ((s : Schema) → columnsOf s (tableIn (getD entry (t .end) [])) ≡ cs → steps ms (rowFrom s (getD entry (t .end) [])) .fault ≡ t .fault)
+
+  -- and while no mutation has a fault: the marked rows before the stop go on
+  pub record Goes (ms rest : List Mutation) (stop : Stop) (now : List (List (List ℕ))) : Type 0 where
+    pub done : (k : ℕ) → k < stop .end → getD marks k false ≡ true → Going cs ms rest (getD entry k []) (getD now k [])
+    pub whole : isFine (stop .fault) ≡ true → stop .end ≡ n
+    pub fails : isFine (stop .fault) ≡ false → Failing ms stop
+
+  sound-none : Sound (record { fault = Fine; end = n }) entry
+  sound-none = record { size = refl; few = omega arith; still = λ k h. refl; tidy = λ k s h t. t }
+
+  goes-none : (ms : List Mutation) → Goes ms ms (record { fault = Fine; end = n }) entry
+  goes-none ms = record { done = λ k h t. going-none cs ms (getD entry k []); whole = λ y. refl; fails = λ f. absurd (clash true refl f) }
+
+  module _ (room : n ≤ length marks) {ms : List Mutation} {m : Mutation} {rest : List Mutation} {stop : Stop} {now after : List (List (List ℕ))}
+      (b : Sound stop now) (g : Goes ms (m ∷ rest) stop now) {s : Stop} (p : MarkedStepped cs m (take (stop .end) marks) s now after) where
+    abbrev next : Stop
+    next = record { fault = faultOr (s .fault) (stop .fault); end = s .end }
+
+    size : length (take (stop .end) marks) ≡ stop .end
+    size = length-take-le (stop .end) marks (omega (arith, b .few, room))
+
+    same : (k : ℕ) → k < stop .end → getD (take (stop .end) marks) k false ≡ getD marks k false
+    same k l = getD-take (stop .end) marks k false l
+
+    -- the stop stays, or there is a step that fails before it
+    moves : (next ≡ stop) ⊎ ((s .end < stop .end) × (isFine (s .fault) ≡ false) × (next ≡ s) × FailsAt cs m (take (stop .end) marks) now s)
+    unfolding faultOr
+    moves = ⊎-elim
+        (λ e. inl (λ i. record { fault = faultOr (e i .fault) (stop .fault); end = (ap (λ (t : Stop). t .end) e ∙ size) i }))
+        (λ f. inr (omega (arith, f .before, size), f .bad, (λ i. record { fault = elim (f .bad i) [ true ↦ stop .fault | false ↦ s .fault ]; end = s .end }), f))
+        (p .stops)
+
+    within : s .end ≤ stop .end
+    within = ⊎-elim (λ e. omega (arith, ap (λ (t : Stop). t .end) e)) (λ f. omega (arith, f .0)) moves
+
+    stepped : (k : ℕ) → k < s .end → getD marks k false ≡ true → RowStepped cs m Fine (getD now k []) (getD after k [])
+    stepped k l t = p .rows .done k l (same k (omega (arith, l, within)) ∙ t)
+
+    left : (k : ℕ) → (k < s .end → getD marks k false ≡ false) → getD after k [] ≡ getD now k []
+    left k f = p .rows .still k (λ l. same k (omega (arith, l, within)) ∙ f l)
+
+    sound-on : Sound next after
+    sound-on = record {
+      size = p .rows .size ∙ b .size;
+      few = omega (arith, within, b .few);
+      still = λ k h. left k (λ l. h (omega (arith, l, within, b .few))) ∙ b .still k h;
+      tidy = λ k c h t.
+          let u : TidyRow c (getD now k []) = b .tidy k c h t in
+          let stays : (k < s .end → getD marks k false ≡ false) → TidyRow c (getD after k []) = λ f. subst (TidyRow c) (sym (left k f)) u in
+          split (ltb k (s .end))
+          (λ l. split (getD marks k false)
+          (λ y. stepped k (ltb-true k (s .end) l) y .tidy c (g .done k (omega (arith, ltb-true k (s .end) l, within)) y .table c h) u)
+          (λ f. stays (λ x. f)))
+          (λ l. stays (λ x. absurd (omega (arith, x, ltb-false k (s .end) l))));
+    }
+
+    goes-on : Goes ms rest next after
+    goes-on = record {
+      done = λ k l t. going-on (g .done k (omega (arith, l, within)) t) (stepped k l t);
+      whole = λ y. ⊎-elim
+          (λ e. ap (λ (t : Stop). t .end) e ∙ g .whole (ap (λ (t : Stop). isFine (t .fault)) (sym e) ∙ y))
+          (λ f. absurd (clash (isFine (s .fault)) (ap (λ (t : Stop). isFine (t .fault)) (sym (f .2)) ∙ y) (f .1)))
+          moves;
+      fails = λ f. ⊎-elim
+          (λ e. subst (Failing ms) (sym e) (g .fails (ap (λ (t : Stop). isFine (t .fault)) (sym e) ∙ f)))
+          (λ q.
+          let t = sym (same (s .end) (q .0)) ∙ q .3 .mark in
+          subst (Failing ms) (sym (q .2)) (omega (arith, q .0, b .few), t, going-stop (g .done (s .end) (q .0) t) (q .3 .step) (q .1)))
+          moves;
+    }
+
+  -- both, where w is the earliest fault of the mutations so far
+  pub record Walked (ms rest : List Mutation) (w : Fault) (stop : Stop) (now : List (List (List ℕ))) : Type 0 where
+    pub sound : Sound stop now
+    pub goes : isFine w ≡ true → Goes ms rest stop now
+
+  pub walked-none : (ms : List Mutation) {w : Fault} → Walked ms ms w (record { fault = Fine; end = n }) entry
+  walked-none ms = record { sound = sound-none; goes = λ _. goes-none ms }
+
+  pub walked-on : n ≤ length marks → {ms left : List Mutation} {m x : Mutation} {rest : List Mutation} {w v : Fault} {stop s : Stop} {now after rows : List (List (List ℕ))} {e : ℕ} {f : Fault}
+      → Walked ms left w stop now → isFine w ≡ true → left ≡ m ∷ rest → MarkedStepped cs x (take (stop .end) marks) s now after → x ≡ m
+      → rows ≡ after → e ≡ s .end → f ≡ faultOr (s .fault) (stop .fault) → Walked ms rest v (record { fault = f; end = e }) rows
+  walked-on room {ms} {stop = stop} {s} {now} {after} b y el p em er ee ef =
+      let h = subst (λ (l : List Mutation). Goes ms l stop now) el (b .goes y) in
+      let q = subst (λ (z : Mutation). MarkedStepped cs z (take (stop .end) marks) s now after) em p in
+      rw (er, ee, ef) (record { sound = sound-on room (b .sound) h q; goes = λ _. goes-on room (b .sound) h q })
+
+  pub walked-by : {ms left rest : List Mutation} {w v : Fault} {stop : Stop} {now rows : List (List (List ℕ))} {e : ℕ} {f : Fault}
+      → Walked ms left w stop now → isFine v ≡ false → rows ≡ now → e ≡ stop .end → f ≡ stop .fault → Walked ms rest v (record { fault = f; end = e }) rows
+  walked-by {v = v} b y er ee ef = rw (er, ee, ef) (record { sound = b .sound; goes = λ t. absurd (clash (isFine v) t y) })
+
+-- ── the model's rows, row by row ──
 none-row : Row
 none-row = record { table = 0; id = 0; columns = [] }
 
 module _ (fits : Row → Bool) (ms : List Mutation) where
-  -- ── one row ──
   abbrev by-fit : Row → Bool → Judged Row
   by-fit r b = elim b [ true ↦ steps ms r | false ↦ record { fault = Fine; got = r } ]
-
-  row-yes : (r : Row) → fits r ≡ true → mutateRow fits ms r ≡ steps ms r
-  row-yes r e = ap (by-fit r) e
-
-  row-no : (r : Row) → fits r ≡ false → mutateRow fits ms r ≡ record { fault = Fine; got = r }
-  row-no r e = ap (by-fit r) e
 
   abbrev by-fine : Row → List Row → Bool → Fault
   by-fine r l b = elim b [ true ↦ mutateRows fits ms l .fault | false ↦ mutateRow fits ms r .fault ]
 
-  fault-on : (r : Row) (l : List Row) → isFine (mutateRow fits ms r .fault) ≡ true → mutateRows fits ms (r ∷ l) .fault ≡ mutateRows fits ms l .fault
-  fault-on r l e = ap (by-fine r l) e
+  rows-all : (l m : List Row) → length m ≡ length l → ((i : ℕ) → i < length l → mutateRow fits ms (getD l i none-row) ≡ record { fault = Fine; got = getD m i none-row }) → mutateRows fits ms l ≡ record { fault = Fine; got = m }
+  rows-all [] [] e h = refl
+  rows-all [] (x ∷ m) e h = absurd (omega (arith, e))
+  rows-all (r ∷ l) [] e h = absurd (omega (arith, e))
+  rows-all (r ∷ l) (x ∷ m) e h =
+      let q = h 0 (omega arith) in
+      let z = rows-all l m (omega (arith, e)) (λ i k. h (suc i) (omega (arith, k))) in
+      λ j. record { fault = elim (isFine (q j .fault)) [ true ↦ z j .fault | false ↦ q j .fault ]; got = q j .got ∷ z j .got }
 
-  fault-stop : (r : Row) (l : List Row) → isFine (mutateRow fits ms r .fault) ≡ false → mutateRows fits ms (r ∷ l) .fault ≡ mutateRow fits ms r .fault
-  fault-stop r l e = ap (by-fine r l) e
-
-  -- ── the first i rows ──
-  abbrev firsts : ℕ → List Row → List Row
-  firsts zero l = l
-  firsts (suc i) [] = []
-  firsts (suc i) (r ∷ l) = mutateRow fits ms r .got ∷ firsts i l
-
-  firsts-same : (i : ℕ) (l : List Row) (d : Row) → getD (firsts i l) i d ≡ getD l i d
-  firsts-same zero l d = refl
-  firsts-same (suc i) [] d = refl
-  firsts-same (suc i) (r ∷ l) d = firsts-same i l d
-
-  firsts-on : (i : ℕ) (l : List Row) (d : Row) → i < length l → set (firsts i l) i (mutateRow fits ms (getD l i d) .got) ≡ firsts (suc i) l
-  firsts-on zero [] d h = absurd (omega arith)
-  firsts-on zero (r ∷ l) d h = refl
-  firsts-on (suc i) [] d h = absurd (omega arith)
-  firsts-on (suc i) (r ∷ l) d h = ap (λ (m : List Row). mutateRow fits ms r .got ∷ m) (firsts-on i l d (omega arith))
-
-  firsts-all : (i : ℕ) (l : List Row) → length l ≤ i → firsts i l ≡ mutateRows fits ms l .got
-  firsts-all zero [] h = refl
-  firsts-all zero (r ∷ l) h = absurd (omega arith)
-  firsts-all (suc i) [] h = refl
-  firsts-all (suc i) (r ∷ l) h = ap (λ (m : List Row). mutateRow fits ms r .got ∷ m) (firsts-all i l (omega arith))
-
-  -- ── in cells ──
-  module _ (cs : List Column) (table n : ℕ) (entry : List (List (List ℕ))) where
-    pub record Going (i : ℕ) (cells : List (List (List ℕ))) : Type 0 where
-      pub size : length cells ≡ length entry
-      pub rows : (s : Schema) → columnsOf s table ≡ cs → working s n cells ≡ firsts i (working s n entry)
-      pub fault : (s : Schema) → columnsOf s table ≡ cs → mutateRows fits ms (working s n entry) .fault ≡ mutateRows fits ms (drop i (working s n entry)) .fault
-      pub tidy : (s : Schema) → columnsOf s table ≡ cs → Tidy s (take n entry) → Tidy s (take n cells)
-
-    pub going-none : Going 0 entry
-    going-none = record { size = refl; rows = λ s h. refl; fault = λ s h. refl; tidy = λ s h t. t }
-
-    module _ (fit : n ≤ length entry) (i : ℕ) (cells : List (List (List ℕ))) (g : Going i cells) where
-      long : n ≤ length cells
-      long = omega (arith, g .size)
-
-      -- the row at i is as it was
-      here : i < n → (s : Schema) → columnsOf s table ≡ cs → rowFrom s (getD cells i []) ≡ getD (working s n entry) i none-row
-      here l s h = sym (working-at s cells n long i none-row l) ∙ ap (λ (m : List Row). getD m i none-row) (g .rows s h) ∙ firsts-same i (working s n entry) none-row
-
-      rest : i < n → (s : Schema) → columnsOf s table ≡ cs → mutateRows fits ms (working s n entry) .fault ≡ mutateRows fits ms (getD (working s n entry) i none-row ∷ drop (suc i) (working s n entry)) .fault
-      rest l s h = g .fault s h ∙ ap (λ (m : List Row). mutateRows fits ms m .fault) (drop-cons (working s n entry) i none-row (omega (arith, working-length s entry n fit)))
-
-      next : (s : Schema) → mutateRows fits ms (drop (suc i) (working s n entry)) .fault ≡ mutateRows fits ms (drop (i + 1) (working s n entry)) .fault
-      next s = ap (λ (m : ℕ). mutateRows fits ms (drop m (working s n entry)) .fault) (sym (add-one i))
-
-      more : i < n → (s : Schema) → set (firsts i (working s n entry)) i (mutateRow fits ms (getD (working s n entry) i none-row) .got) ≡ firsts (i + 1) (working s n entry)
-      more l s = firsts-on i (working s n entry) none-row (omega (arith, working-length s entry n fit)) ∙ ap (λ (m : ℕ). firsts m (working s n entry)) (sym (add-one i))
-
-      pub going-end : n ≤ i → (s : Schema) → columnsOf s table ≡ cs → (Fine ≡ mutateRows fits ms (working s n entry) .fault) × (working s n cells ≡ mutateRows fits ms (working s n entry) .got)
-      going-end l s h = (
-        sym (g .fault s h ∙ ap (λ (m : List Row). mutateRows fits ms m .fault) (working-end s entry n fit i l)),
-        g .rows s h ∙ firsts-all i (working s n entry) (omega (arith, working-length s entry n fit)),
-      )
-
-      module _ (l : i < n) where
-        -- a row that does not meet the conditions
-        pub going-by : ((s : Schema) → columnsOf s table ≡ cs → fits (rowFrom s (getD cells i [])) ≡ false) → Going (i + 1) cells
-        going-by f = record {
-          size = g .size;
-          rows = λ s h.
-              let e = row-no (getD (working s n entry) i none-row) (ap fits (sym (here l s h)) ∙ f s h) in
-              g .rows s h
-              ∙ sym (set-getD (firsts i (working s n entry)) i none-row)
-              ∙ ap (set (firsts i (working s n entry)) i) (firsts-same i (working s n entry) none-row ∙ sym (ap (λ (q : Judged Row). q .got) e))
-              ∙ more l s;
-          fault = λ s h.
-              let e = row-no (getD (working s n entry) i none-row) (ap fits (sym (here l s h)) ∙ f s h) in
-              rest l s h ∙ fault-on (getD (working s n entry) i none-row) (drop (suc i) (working s n entry)) (ap (λ (q : Judged Row). isFine (q .fault)) e) ∙ next s;
-          tidy = g .tidy;
-        }
-
-        module _ (own : (r : Row) → fits r ≡ true → r .table ≡ table) (f : (s : Schema) → columnsOf s table ≡ cs → fits (rowFrom s (getD cells i [])) ≡ true)
-            (r : Fault) (row : List (List ℕ)) (p : RowMutated cs ms r (getD cells i []) row) where
-          columns : (s : Schema) → columnsOf s table ≡ cs → columnsOf s (tableIn (getD cells i [])) ≡ cs
-          columns s h = ap (columnsOf s) (sym (row-table s (getD cells i [])) ∙ own (rowFrom s (getD cells i [])) (f s h)) ∙ h
-
-          mutated : (s : Schema) → columnsOf s table ≡ cs → steps ms (rowFrom s (getD cells i [])) ≡ mutateRow fits ms (getD (working s n entry) i none-row)
-          mutated s h = ap (steps ms) (here l s h) ∙ sym (row-yes (getD (working s n entry) i none-row) (ap fits (sym (here l s h)) ∙ f s h))
-
-          fault-is : (s : Schema) → columnsOf s table ≡ cs → r ≡ mutateRow fits ms (getD (working s n entry) i none-row) .fault
-          fault-is s h = p .fault s (columns s h) ∙ ap (λ (q : Judged Row). q .fault) (mutated s h)
-
-          pub tidy-now : (s : Schema) → columnsOf s table ≡ cs → Tidy s (take n entry) → Tidy s (take n (set cells i row))
-          tidy-now s h t = rw (take-set-lt n cells i row l)
-              (tidy-set s (take n cells) i row (g .tidy s h t) (p .tidy s (columns s h) (rw (getD-take n cells i [] l) at (tidy-at s (take n cells) i [] (g .tidy s h t) (omega (arith, length-take-le n cells long))))))
-
-          pub going-on : isFine r ≡ true → Going (i + 1) (set cells i row)
-          going-on y = record {
-            size = length-set cells i row ∙ g .size;
-            rows = λ s h. working-set s n cells i row l ∙ ap (λ (m : List Row). set m i (rowFrom s row)) (g .rows s h)
-                ∙ ap (set (firsts i (working s n entry)) i) (p .row s (columns s h) y ∙ ap (λ (q : Judged Row). q .got) (mutated s h)) ∙ more l s;
-            fault = λ s h. rest l s h ∙ fault-on (getD (working s n entry) i none-row) (drop (suc i) (working s n entry)) (ap isFine (sym (fault-is s h)) ∙ y) ∙ next s;
-            tidy = tidy-now;
-          }
-
-          pub going-stop : isFine r ≡ false → (s : Schema) → columnsOf s table ≡ cs → r ≡ mutateRows fits ms (working s n entry) .fault
-          going-stop y s h = fault-is s h ∙ sym (rest l s h ∙ fault-stop (getD (working s n entry) i none-row) (drop (suc i) (working s n entry)) (ap isFine (sym (fault-is s h)) ∙ y))
+  rows-stop : (l : List Row) (i : ℕ) → i < length l → ((k : ℕ) → k < i → isFine (mutateRow fits ms (getD l k none-row) .fault) ≡ true)
+      → isFine (mutateRow fits ms (getD l i none-row) .fault) ≡ false → mutateRows fits ms l .fault ≡ mutateRow fits ms (getD l i none-row) .fault
+  rows-stop [] i h d f = absurd (omega (arith, h))
+  rows-stop (r ∷ l) zero h d f = ap (by-fine r l) f
+  rows-stop (r ∷ l) (suc i) h d f = ap (by-fine r l) (d 0 (omega arith)) ∙ rows-stop l i (omega (arith, h)) (λ k q. d (suc k) (omega (arith, q))) f
 
 -- a row that meets the conditions is of their table
 own : (table : ℕ) (tests : List Test) (r : Row) → matches table tests r ≡ true → r .table ≡ table
 own table tests r e = sym (eqb-true table (r .table) (and-l (eqb table (r .table)) (all (holds r) tests) e))
 
--- ── the rows that are marked ──
-module _ (cs : List Column) (ms : List Mutation) (n : ℕ) (marks : List Bool) (entry : List (List (List ℕ))) where
-  -- the rows before i are done, whatever the marks are of
-  pub record Marked (i : ℕ) (cells : List (List (List ℕ))) : Type 0 where
-    pub size : length cells ≡ length entry
-    pub each : (tests : List Test) (table : ℕ) → MarkedRows cs tests table n entry marks → Going (matches table tests) ms cs table n entry i cells
+-- rows that are tidy one by one
+tidy-each : (s : Schema) (l : List (List (List ℕ))) → ((i : ℕ) → i < length l → TidyRow s (getD l i [])) → Tidy s l
+tidy-each s [] h = tt
+tidy-each s (r ∷ l) h = (h 0 (omega arith), tidy-each s l (λ i q. h (suc i) (omega (arith, q))))
 
-  pub marked-none : Marked 0 entry
-  marked-none = record { size = refl; each = λ tests table k. going-none (matches table tests) ms cs table n entry }
+-- ── all mutations on the marked rows ──
+module _ (cs : List Column) (marks : List Bool) (n : ℕ) (entry : List (List (List ℕ))) (fit : n ≤ length entry) {stop : Stop} {exit : List (List (List ℕ))} (b : Sound cs marks n entry stop exit) where
+  long : n ≤ length exit
+  long = omega (arith, b .size, fit)
 
-  module _ (fit : n ≤ length entry) (i : ℕ) (cells : List (List (List ℕ))) (g : Marked i cells) where
-    pub marked-end : n ≤ i → MarkedMutated cs ms n marks Fine entry cells
-    unfolding MarkedMutated
-    marked-end l tests table k = record {
-      fault = λ s h. going-end (matches table tests) ms cs table n entry fit i cells (g .each tests table k) l s h .0;
-      rows = λ s h f. going-end (matches table tests) ms cs table n entry fit i cells (g .each tests table k) l s h .1;
-      tidy = g .each tests table k .tidy;
+  behind : drop n exit ≡ drop n entry
+  behind = ext-getD [] (drop n exit) (drop n entry) (length-drop n exit ∙ ap (λ (i : ℕ). i - n) (b .size) ∙ sym (length-drop n entry))
+      (λ i h. getD-drop n exit i [] ∙ b .still (n + i) (λ l. absurd (omega (arith, l))) ∙ sym (getD-drop n entry i []))
+
+  module _ (tests : List Test) (table : ℕ) (k : MarkedRows cs tests table n entry marks) (s : Schema) (h : columnsOf s table ≡ cs) where
+    marked : (i : ℕ) → i < n → {t : Bool} → getD marks i false ≡ t → matches table tests (rowFrom s (getD entry i [])) ≡ t
+    unfolding MarkedRows
+    marked i l e = sym (k s h i l) ∙ e
+
+    columns : (i : ℕ) → i < n → getD marks i false ≡ true → columnsOf s (tableIn (getD entry i [])) ≡ cs
+    columns i l e = ap (columnsOf s) (sym (row-table s (getD entry i [])) ∙ own table tests (rowFrom s (getD entry i [])) (marked i l e)) ∙ h
+
+    all-tidy : Tidy s (take n entry) → Tidy s (take n exit)
+    all-tidy t = tidy-each s (take n exit) (λ i l.
+        let j : i < n = omega (arith, l, length-take-le n exit long) in
+        let u : TidyRow s (getD entry i []) = subst (TidyRow s) (getD-take n entry i [] j) (tidy-at s (take n entry) i [] t (omega (arith, j, length-take-le n entry fit))) in
+        subst (TidyRow s) (sym (getD-take n exit i [] j))
+        (split (getD marks i false) (λ y. b .tidy i s (columns i j y) u) (λ f. subst (TidyRow s) (sym (b .still i (λ x. f))) u)))
+
+    module _ (ms : List Mutation) (g : Goes cs marks n entry ms [] stop exit) where
+      abbrev fits : Row → Bool
+      fits = matches table tests
+
+      at : (i : ℕ) → i < n → getD (working s n entry) i none-row ≡ rowFrom s (getD entry i [])
+      at i l = working-at s entry n fit i none-row l
+
+      row-done : (i : ℕ) → i < stop .end → mutateRow fits ms (getD (working s n entry) i none-row) ≡ record { fault = Fine; got = rowFrom s (getD exit i []) }
+      row-done i l =
+          let j : i < n = omega (arith, l, b .few) in
+          ap (mutateRow fits ms) (at i j)
+          ∙ split (getD marks i false)
+          (λ y. ap (by-fit fits ms (rowFrom s (getD entry i []))) (marked i j y) ∙ g .done i l y .same s (columns i j y))
+          (λ f. ap (by-fit fits ms (rowFrom s (getD entry i []))) (marked i j f) ∙ ap (λ (r : List (List ℕ)). record { fault = Fine; got = rowFrom s r }) (sym (b .still i (λ x. f))))
+
+      all-done : isFine (stop .fault) ≡ true → mutateRows fits ms (working s n entry) ≡ record { fault = Fine; got = working s n exit }
+      all-done y =
+          rows-all fits ms (working s n entry) (working s n exit) (working-length s exit n long ∙ sym (working-length s entry n fit))
+          (λ i l. let j : i < n = omega (arith, l, working-length s entry n fit) in row-done i (omega (arith, j, g .whole y)) ∙ ap (λ (r : Row). record { fault = Fine; got = r }) (sym (working-at s exit n long i none-row j)))
+
+      one-fails : isFine (stop .fault) ≡ false → mutateRows fits ms (working s n entry) .fault ≡ stop .fault
+      one-fails f =
+          let q = g .fails f in
+          let e = stop .end in
+          let r : mutateRow fits ms (getD (working s n entry) e none-row) .fault ≡ stop .fault =
+          ap (λ (x : Row). mutateRow fits ms x .fault) (at e (q .0)) ∙ ap (λ (t : Bool). by-fit fits ms (rowFrom s (getD entry e [])) t .fault) (marked e (q .0) (q .1)) ∙ q .2 s (columns e (q .0) (q .1)) in
+          rows-stop fits ms (working s n entry) e (omega (arith, q .0, working-length s entry n fit)) (λ i l. ap (λ (x : Judged Row). isFine (x .fault)) (row-done i l)) (ap isFine r ∙ f) ∙ r
+
+      row-fault : stop .fault ≡ mutateRows fits ms (working s n entry) .fault
+      row-fault = split (isFine (stop .fault)) (λ y. fine-is (stop .fault) y ∙ sym (ap (λ (x : Judged (List Row)). x .fault) (all-done y))) (λ f. sym (one-fails f))
+
+  module _ (ms : Judged (List Mutation)) where
+    mutated-all : isFine (ms .fault) ≡ true → Goes cs marks n entry (ms .got) [] stop exit → MarkedMutated cs ms n marks (stop .fault) entry exit
+    mutated-all y g = record {
+      behind = behind;
+      each = λ tests table k. record {
+        fault = λ s h. row-fault tests table k s h (ms .got) g ∙ sym (ap (λ (t : Bool). elim t [ true ↦ mutateRows (matches table tests) (ms .got) (working s n entry) .fault | false ↦ ms .fault ]) y);
+        rows = λ s h f. sym (ap (λ (x : Judged (List Row)). x .got) (all-done tests table k s h (ms .got) g f));
+        tidy = all-tidy tests table k;
+      };
     }
 
-    module _ (l : i < n) where
-      -- a mark says whether the row at i, which is as it was, meets the conditions
-      fits : {b : Bool} → getD marks i false ≡ b → (tests : List Test) (table : ℕ) → MarkedRows cs tests table n entry marks → (s : Schema) → columnsOf s table ≡ cs → matches table tests (rowFrom s (getD cells i [])) ≡ b
-      unfolding MarkedRows
-      fits e tests table k s h =
-          ap (matches table tests) (here (matches table tests) ms cs table n entry fit i cells (g .each tests table k) l s h ∙ working-at s entry n fit i none-row l)
-          ∙ sym (k s h i l)
-          ∙ e
+    mutated-none : isFine (ms .fault) ≡ false → MarkedMutated cs ms n marks (ms .fault) entry exit
+    mutated-none f = record {
+      behind = behind;
+      each = λ tests table k. record {
+        fault = λ s h. sym (ap (λ (t : Bool). elim t [ true ↦ mutateRows (matches table tests) (ms .got) (working s n entry) .fault | false ↦ ms .fault ]) f);
+        rows = λ s h y. absurd (clash (isFine (ms .fault)) y f);
+        tidy = all-tidy tests table k;
+      };
+    }
 
-      pub marked-by : getD marks i false ≡ false → Marked (i + 1) cells
-      marked-by e = record {
-        size = g .size;
-        each = λ tests table k. going-by (matches table tests) ms cs table n entry fit i cells (g .each tests table k) l (fits e tests table k);
-      }
-
-      module _ (e : getD marks i false ≡ true) (r : Fault) (row : List (List ℕ)) (p : RowMutated cs ms r (getD cells i []) row) where
-        pub marked-on : isFine r ≡ true → Marked (i + 1) (set cells i row)
-        marked-on y = record {
-          size = length-set cells i row ∙ g .size;
-          each = λ tests table k. going-on (matches table tests) ms cs table n entry fit i cells (g .each tests table k) l (own table tests) (fits e tests table k) r row p y;
-        }
-
-        pub marked-stop : isFine r ≡ false → MarkedMutated cs ms n marks r entry (set cells i row)
-        unfolding MarkedMutated
-        marked-stop y tests table k = record {
-          fault = λ s h. going-stop (matches table tests) ms cs table n entry fit i cells (g .each tests table k) l (own table tests) (fits e tests table k) r row p y s h;
-          rows = λ s h f. absurd (clash (isFine r) f y);
-          tidy = tidy-now (matches table tests) ms cs table n entry fit i cells (g .each tests table k) l (own table tests) (fits e tests table k) r row p;
-        }
+-- what all of them come to
+pub mutated : (cs : List Column) (marks : List Bool) (n : ℕ) (entry : List (List (List ℕ))) → n ≤ length entry → {stop : Stop} {exit : List (List (List ℕ))} (ms : Judged (List Mutation)) {w r : Fault} {rest : List Mutation}
+    → Walked cs marks n entry (ms .got) rest w stop exit → rest ≡ [] → ms .fault ≡ w → r ≡ faultOr w (stop .fault) → MarkedMutated cs ms n marks r entry exit
+unfolding faultOr
+mutated cs marks n entry fit {stop} {exit} ms {w} b el e q = split (isFine w)
+    (λ y. subst (λ (f : Fault). MarkedMutated cs ms n marks f entry exit) (sym (q ∙ ap (λ (t : Bool). elim t [ true ↦ stop .fault | false ↦ w ]) y))
+    (mutated-all cs marks n entry fit (b .sound) ms (ap isFine e ∙ y) (subst (λ (l : List Mutation). Goes cs marks n entry (ms .got) l stop exit) el (b .goes y))))
+    (λ y. subst (λ (f : Fault). MarkedMutated cs ms n marks f entry exit) (sym (q ∙ ap (λ (t : Bool). elim t [ true ↦ stop .fault | false ↦ w ]) y ∙ sym e)) (mutated-none cs marks n entry fit (b .sound) ms (ap isFine e ∙ y)))

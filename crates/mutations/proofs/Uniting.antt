@@ -8,17 +8,12 @@ use lib.ListN.{length, getD, take, drop, replicate, take-append-drop, length-app
 use lib.Seq.{take-suc, take-all, take-append-seam, drop-append-seam, length-take-le}
 use Rattle.model.specs.Base.{if_then_else_, member}
 use Rattle.model.specs.Schema.{Base}
-use Rattle.model.specs.Value.{blank, placed, union, without}
+use Rattle.model.specs.Value.{blank, placed, union}
 use Rattle.model.proofs.Sets.{union-length}
 use Rattle.value.proofs.Fours.{padded, cut-pad}
 
 pub padded-length : (l : List (List ℕ)) → length l ≤ 4 → length (padded l) ≡ 4
 padded-length l h = length-append l (replicate (4 - length l) blank) ∙ omega (arith, length-replicate (4 - length l) blank)
-
--- none left out
-pub none-gone : (l : List (List ℕ)) → without [] l ≡ l
-none-gone [] = refl
-none-gone (a ∷ l) = ap (λ (r : List (List ℕ)). a ∷ r) (none-gone l)
 
 -- the first n of four, and blanks: the first n of them
 pub first-front : (atoms s : List (List ℕ)) (n : ℕ) → length atoms ≡ 4 → n ≤ 4 → s ≡ padded (take n atoms) → (take n s ≡ take n atoms) × (n ≡ length (take n atoms)) × (s ≡ padded (take n s))

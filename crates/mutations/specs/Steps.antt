@@ -7,15 +7,13 @@ use lib.IntN.{ℤ}
 use lib.ListN.{length, take, drop}
 use Rattle.model.specs.Limits.{mostColumns}
 use Rattle.model.specs.Base.{all}
-use Rattle.model.specs.Json.{Json}
 use Rattle.model.specs.Schema.{Column, Schema, columnsOf}
 use Rattle.model.specs.Value.{elements, intAtom, valueOf}
 use Rattle.model.specs.Rows.{setColumn}
 use Rattle.model.specs.Areas.{rowFrom}
 use Rattle.inner.specs.Working.{tableIn, valueIn, TidyRow}
 use Rattle.model.specs.Faults.{isFine, check, Judged}
-use Rattle.model.specs.Written.{Names, written}
-use Rattle.model.specs.Mutations.{mutationFault, divides, isZero, in64, isEmpty, results, arithmetic, inserted, deleted, mutated}
+use Rattle.model.specs.Mutations.{divides, isZero, in64, isEmpty, results, arithmetic, inserted, deleted, mutated}
 use Rattle.model.specs.declared.Fault.{Fault}
 use Rattle.model.specs.declared.Fault.the-variants.{Fine, Domain, Range}
 use Rattle.model.specs.declared.Mutator.{Mutator}
@@ -46,10 +44,6 @@ insertedOn c l xs = inserted c l xs
 
 unfoldable pub deletedOn : Column → List (List ℕ) → List (List ℕ) → Judged (List (List ℕ))
 deletedOn c l xs = deleted c l xs
-
--- what is written, as the mutator has it judged
-unfoldable pub operandOf : Names → Column → Mutator → Json → Judged (List (List ℕ))
-operandOf names c m j = written names (c .base) (mutationFault c m) j
 
 unfoldable pub mutatedOn : Column → Mutator → List (List ℕ) → List (List ℕ) → Judged (List (List ℕ))
 mutatedOn c m l xs = mutated c m l xs

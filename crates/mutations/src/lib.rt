@@ -1,109 +1,119 @@
-// Rows mutated: mutation by mutation on a row, row by row.
+// Rows mutated: each mutation is read once, and put on one marked row after another.
 pub mod read;
 pub mod step;
 
+use model::ATOM;
+use model::Atoms;
+use model::ELEMENTS;
 use model::Entry;
 use model::Fault;
 use model::Found;
 use model::ROWS;
 use model::Row;
-use read::Parts;
+use read::Mutation;
 ghost use mathlib.Core.Path.{_≡_};
 ghost use mathlib.Core.Bool.{true};
 ghost use mathlib.Core.List.{map};
-ghost use Prim.Native.Nat.{_≤_};
+ghost use Prim.Native.Nat.{_≤_, _<_};
 ghost use lib.ListN.{length};
 ghost use Rattle.model.specs.Limits.{mostColumns, mostRows};
-ghost use Rattle.inner.specs.Positions.{wellAt, itemsFine};
-ghost use Rattle.model.specs.Faults.{isFine};
+ghost use Rattle.inner.specs.Positions.{itemsFine};
 ghost use Rattle.model.specs.Catalog.{columnFrom};
 ghost use Rattle.uuids.specs.Named.{Running};
-ghost use Rattle.mutations.specs.Mutating.{mutationAt, mutationsAt};
-ghost use Rattle.mutations.specs.Rows.{RowStepped, RowMutated, MarkedMutated};
+ghost use Rattle.mutations.specs.Mutating.{faultOr, mutationFrom, Ready, mutationsAt};
+ghost use Rattle.mutations.specs.Rows.{MarkedStepped, MarkedMutated};
 
-// The mutation at `at`, which has no fault, on a row; after a fault of the step the row is as it was.
-fn step_at(
-    text: &[u8],
-    ends: &[u16],
-    names: &[u8],
-    columns: &[Entry],
-    at: usize,
-    row: &mut Row,
-) -> Fault
-    requires { ⌜ Running (now text) (now ends) (now names) ⌝ }
-    requires { ⌜ wellAt (now text) at ≡ true ⌝ }
-    requires { ⌜ length (now columns) ≤ mostColumns ⌝ }
-    requires { ⌜ isFine (mutationAt (now text) (now names) (now columns) at .fault) ≡ true ⌝ }
-    ensures { λ r. ⌜ RowStepped (map columnFrom (now (columns .entry))) (mutationAt (now (text .entry)) (now (names .entry)) (now (columns .entry)) at .got) r (now (row .entry)) (now (row .exit)) ⌝ }
-{
-    let t = read::parts_at(text, ends, columns, at);
-    match t {
-        Parts::Of(i, m, v) => { step::mutate_column(text, ends, names, &columns[i], m, v, row, i) }
-        Parts::Nothing => Fault::Syntax,
-    }
+// How far rows are mutated: up to the first on which a step fails, and the fault of that; or all of them, and no fault.
+struct Stop {
+    fault: Fault,
+    end: usize,
 }
 
-// The mutations from f on, which have no fault, on a row, up to the first step that fails; after a fault the row is free, but in
-// order.
-fn mutate_row(
+// A mutation that has no fault, on one marked row after another, up to the first step that fails.
+fn mutate_marked(
     text: &[u8],
     ends: &[u16],
     names: &[u8],
     columns: &[Entry],
-    f: Found,
-    row: &mut Row,
-) -> Fault
+    m: Mutation,
+    atoms: &Atoms,
+    rows: &mut [Row],
+    marks: &[bool],
+) -> Stop
     requires { ⌜ Running (now text) (now ends) (now names) ⌝ }
-    requires { ⌜ itemsFine (now text) f ≡ true ⌝ }
-    requires { ⌜ length (now columns) ≤ mostColumns ⌝ }
-    requires { ⌜ isFine (mutationsAt (now text) (now names) (now columns) f .fault) ≡ true ⌝ }
-    ensures { λ r. ⌜ RowMutated (map columnFrom (now (columns .entry))) (mutationsAt (now (text .entry)) (now (names .entry)) (now (columns .entry)) f .got) r (now (row .entry)) (now (row .exit)) ⌝ }
+    requires { ⌜ Ready (now text) m (now atoms) ⌝ }
+    requires { ⌜ (m .place < length (now columns)) × (length (now columns) ≤ mostColumns) ⌝ }
+    requires { ⌜ (length (now marks) ≤ mostRows) × (length (now marks) ≤ length (now rows)) ⌝ }
+    ensures { λ r. ⌜ MarkedStepped (map columnFrom (now (columns .entry))) (mutationFrom (now (text .entry)) (now (names .entry)) (now (columns .entry)) m (now (atoms .entry))) (now (marks .entry)) r (now (rows .entry)) (now (rows .exit)) ⌝ }
 {
-    let mut g = f;
-    loop {
-        match g {
-            Found::At(p) => {
-                let r = step_at(text, ends, names, columns, p, row);
-                let ok = leaf::is_fine(r);
-                if !ok {
-                    return r;
-                }
-                g = nav::next_item(text, ends, p);
+    let mut i = 0;
+    while i < marks.len() {
+        if marks[i] {
+            let f = step::mutate_row(text, ends, names, columns, m, atoms, &mut rows[i]);
+            let ok = leaf::is_fine(f);
+            if !ok {
+                return Stop { fault: f, end: i };
             }
-            Found::Nothing => return Fault::Fine,
         }
+        i += 1;
+    }
+    Stop {
+        fault: Fault::Fine,
+        end: i,
     }
 }
 
-// The rows that are marked, of the first n, mutated row by row, up to the first step that fails; after a fault the rows are
-// free, but in order.
+// A fault, or another where it is none.
+fn fault_or(f: Fault, g: Fault) -> Fault
+    ensures { λ r. ⌜ r ≡ faultOr f g ⌝ }
+{
+    if leaf::is_fine(f) {
+        return g;
+    }
+    f
+}
+
+// The mutations from f on, each read once and put on the rows that are marked, of the first n: the fault of the mutations as read, or else that of the first row on which a step fails. After a fault these rows are free, but in order.
 pub fn mutate_rows(
     text: &[u8],
     ends: &[u16],
     names: &[u8],
     columns: &[Entry],
-    mutations: Found,
+    f: Found,
     rows: &mut [Row],
     n: usize,
     marks: &[bool; ROWS],
 ) -> Fault
     requires { ⌜ Running (now text) (now ends) (now names) ⌝ }
-    requires { ⌜ itemsFine (now text) mutations ≡ true ⌝ }
+    requires { ⌜ itemsFine (now text) f ≡ true ⌝ }
     requires { ⌜ length (now columns) ≤ mostColumns ⌝ }
-    requires { ⌜ isFine (mutationsAt (now text) (now names) (now columns) mutations .fault) ≡ true ⌝ }
     requires { ⌜ (n ≤ mostRows) × (n ≤ length (now rows)) ⌝ }
-    ensures { λ r. ⌜ MarkedMutated (map columnFrom (now (columns .entry))) (mutationsAt (now (text .entry)) (now (names .entry)) (now (columns .entry)) mutations .got) n (now (marks .entry)) r (now (rows .entry)) (now (rows .exit)) ⌝ }
+    ensures { λ r. ⌜ MarkedMutated (map columnFrom (now (columns .entry))) (mutationsAt (now (text .entry)) (now (names .entry)) (now (columns .entry)) f) n (now (marks .entry)) r (now (rows .entry)) (now (rows .exit)) ⌝ }
 {
-    let mut i = 0;
-    while i < n {
-        if marks[i] {
-            let r = mutate_row(text, ends, names, columns, mutations, &mut rows[i]);
-            let ok = leaf::is_fine(r);
-            if !ok {
-                return r;
+    let all = &marks[..];
+    let mut atoms = [[0u8; ATOM]; ELEMENTS];
+    let mut w = Fault::Fine;
+    let mut e = n;
+    let mut stop = Fault::Fine;
+    let mut g = f;
+    loop {
+        match g {
+            Found::At(p) => {
+                let m = read::read_mutation(text, ends, names, columns, p, &mut atoms);
+                let t = m.fault;
+                w = leaf::earlier(w, t);
+                let ok = leaf::is_fine(w);
+                if ok {
+                    let s = mutate_marked(text, ends, names, columns, m, &atoms, rows, &all[..e]);
+                    e = s.end;
+                    let v = s.fault;
+                    stop = fault_or(v, stop);
+                }
+                g = nav::next_item(text, ends, p);
+            }
+            Found::Nothing => {
+                return fault_or(w, stop);
             }
         }
-        i += 1;
     }
-    Fault::Fine
 }

@@ -1,19 +1,19 @@
-// Mutations, [column, mutator, value], and how they are judged.
-use lookup::Triple;
+// Mutations, [column, mutator, value], as read.
+use conditions::lookup::Triple;
+use model::Atoms;
 use model::Entry;
 use model::Fault;
 use model::Found;
 use model::Mutator;
 ghost use mathlib.Core.Path.{_≡_};
 ghost use mathlib.Core.Bool.{true};
-ghost use Rattle.inner.specs.Positions.{Says, wellAt, treeAt, itemsFine};
+ghost use Rattle.inner.specs.Positions.{Says, wellAt, treeAt};
 ghost use Rattle.model.specs.Faults.{check};
 ghost use Rattle.model.specs.Mutations.{suits};
 ghost use Rattle.model.specs.declared.Fault.the-variants.{Fine, Constraint};
 ghost use Rattle.model.specs.Catalog.{columnFrom};
-ghost use Rattle.uuids.specs.Named.{namesAt, Running};
-ghost use Rattle.mutations.specs.Steps.{operandOf};
-ghost use Rattle.mutations.specs.Mutating.{chosen, mutatorBy, mutatorIn, columnFault, PartsOf, mutationAt, mutationsAt};
+ghost use Rattle.uuids.specs.Named.{Running};
+ghost use Rattle.mutations.specs.Mutating.{chosen, mutatorBy, mutatorIn, columnFault, PartsOf, mutationAt, MutationRead};
 
 // The mutator that a word is, or that it is none.
 enum Choice {
@@ -22,9 +22,19 @@ enum Choice {
 }
 
 // The parts of a mutation: the place of its column, its mutator, and where its value stands; or that it is none.
-pub enum Parts {
+enum Parts {
     Of(usize, Mutator, usize),
     Nothing,
+}
+
+// A mutation as read: its fault, the place of its column, its mutator, where its value stands, how many elements that has, and whether their atoms fit four places.
+pub struct Mutation {
+    pub fault: Fault,
+    pub place: usize,
+    pub mutator: Mutator,
+    pub at: usize,
+    pub count: usize,
+    pub fits: bool,
 }
 
 // The mutator of a number.
@@ -68,16 +78,16 @@ fn mutator_at(text: &[u8], at: usize) -> Choice
 }
 
 // The parts of the mutation at `at`.
-pub fn parts_at(text: &[u8], ends: &[u16], columns: &[Entry], at: usize) -> Parts
+fn parts_at(text: &[u8], ends: &[u16], columns: &[Entry], at: usize) -> Parts
     requires { ⌜ Says (now text) (now ends) ⌝ }
     requires { ⌜ wellAt (now text) at ≡ true ⌝ }
     ensures { λ r. ⌜ PartsOf (now (text .entry)) (now (columns .entry)) at r ⌝ }
 {
-    let t = lookup::triple_at(text, ends, at);
+    let t = conditions::lookup::triple_at(text, ends, at);
     let Triple::Of(a, b, v) = t else {
         return Parts::Nothing;
     };
-    let f = lookup::column_at(text, a, columns);
+    let f = conditions::lookup::column_at(text, a, columns);
     let Found::At(i) = f else {
         return Parts::Nothing;
     };
@@ -101,26 +111,6 @@ fn suits(column: &Entry, m: Mutator) -> bool
     }
 }
 
-// How the value of a mutation is judged.
-fn value_fault(
-    text: &[u8],
-    ends: &[u16],
-    names: &[u8],
-    column: &Entry,
-    m: Mutator,
-    at: usize,
-) -> Fault
-    requires { ⌜ Running (now text) (now ends) (now names) ⌝ }
-    requires { ⌜ wellAt (now text) at ≡ true ⌝ }
-    ensures { λ r. ⌜ r ≡ operandOf (namesAt (now (text .entry)) (now (names .entry))) (columnFrom (now (column .entry))) m (treeAt (now (text .entry)) at) .fault ⌝ }
-{
-    match m {
-        Mutator::Insert => request_values::insert_fault(text, ends, names, column, at),
-        Mutator::Delete => request_values::delete_fault(text, ends, names, column, at),
-        _ => request_values::operand_fault(text, ends, names, column, at),
-    }
-}
-
 // That a column cannot be changed, or no fault.
 fn fixed_fault(column: &Entry) -> Fault
     ensures { λ r. ⌜ r ≡ check (columnFrom (now (column .entry)) .mutable) Constraint Fine ⌝ }
@@ -131,63 +121,52 @@ fn fixed_fault(column: &Entry) -> Fault
     Fault::Constraint
 }
 
-// How a mutation on a column is judged.
-fn column_fault(
-    text: &[u8],
-    ends: &[u16],
-    names: &[u8],
-    column: &Entry,
-    m: Mutator,
-    at: usize,
-) -> Fault
-    requires { ⌜ Running (now text) (now ends) (now names) ⌝ }
-    requires { ⌜ wellAt (now text) at ≡ true ⌝ }
-    ensures { λ r. ⌜ r ≡ columnFault (namesAt (now (text .entry)) (now (names .entry))) (columnFrom (now (column .entry))) m (treeAt (now (text .entry)) at) ⌝ }
+// How a mutation on a column is judged, where its value is judged so.
+fn column_fault(column: &Entry, m: Mutator, value: Fault) -> Fault
+    ensures { λ r. ⌜ r ≡ columnFault (columnFrom (now (column .entry))) m value ⌝ }
 {
     let ok = suits(column, m);
     if ok {
-        let v = value_fault(text, ends, names, column, m, at);
         let w = fixed_fault(column);
-        return leaf::earlier(v, w);
+        return leaf::earlier(value, w);
     }
     Fault::Syntax
 }
 
-// How the mutation at `at` is judged.
-fn mutation_fault(text: &[u8], ends: &[u16], names: &[u8], columns: &[Entry], at: usize) -> Fault
-    requires { ⌜ Running (now text) (now ends) (now names) ⌝ }
-    requires { ⌜ wellAt (now text) at ≡ true ⌝ }
-    ensures { λ r. ⌜ r ≡ mutationAt (now (text .entry)) (now (names .entry)) (now (columns .entry)) at .fault ⌝ }
-{
-    let t = parts_at(text, ends, columns, at);
-    match t {
-        Parts::Of(i, m, v) => column_fault(text, ends, names, &columns[i], m, v),
-        Parts::Nothing => Fault::Syntax,
-    }
-}
-
-// How the mutations from f on are judged.
-pub fn mutations_fault(
+// The mutation at `at`, read, and its atoms if they fit; after a fault nothing counts but the fault.
+pub fn read_mutation(
     text: &[u8],
     ends: &[u16],
     names: &[u8],
     columns: &[Entry],
-    f: Found,
-) -> Fault
+    at: usize,
+    atoms: &mut Atoms,
+) -> Mutation
     requires { ⌜ Running (now text) (now ends) (now names) ⌝ }
-    requires { ⌜ itemsFine (now text) f ≡ true ⌝ }
-    ensures { λ r. ⌜ r ≡ mutationsAt (now (text .entry)) (now (names .entry)) (now (columns .entry)) f .fault ⌝ }
+    requires { ⌜ wellAt (now text) at ≡ true ⌝ }
+    ensures { λ r. ⌜ MutationRead (now (text .entry)) (now (names .entry)) (now (columns .entry)) (mutationAt (now (text .entry)) (now (names .entry)) (now (columns .entry)) at) r (now (atoms .exit)) ⌝ }
 {
-    let mut g = f;
-    let mut w = Fault::Fine;
-    loop {
-        match g {
-            Found::At(p) => {
-                let t = mutation_fault(text, ends, names, columns, p);
-                w = leaf::earlier(w, t);
-                g = nav::next_item(text, ends, p);
-            }
-            Found::Nothing => return w,
-        }
+    let t = parts_at(text, ends, columns, at);
+    let Parts::Of(i, m, v) = t else {
+        return Mutation {
+            fault: Fault::Syntax,
+            place: 0,
+            mutator: Mutator::Delete,
+            at: at,
+            count: 0,
+            fits: true,
+        };
+    };
+    let column = &columns[i];
+    let g = request_values::mutation_value(text, ends, names, column, m, v, atoms);
+    let w = g.fault;
+    let f = column_fault(column, m, w);
+    Mutation {
+        fault: f,
+        place: i,
+        mutator: m,
+        at: v,
+        count: g.count,
+        fits: g.fits,
     }
 }

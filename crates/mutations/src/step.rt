@@ -1,6 +1,5 @@
 // One mutation on one column of a row: arithmetic, insert, delete.
-use element_atoms::Atom;
-use elements::Elements;
+use crate::read::Mutation;
 use integers::Exact;
 use integers::Int;
 use model::ATOM;
@@ -8,27 +7,23 @@ use model::Atoms;
 use model::ELEMENTS;
 use model::Entry;
 use model::Fault;
-use model::Found;
 use model::Mutator;
 use model::Row;
 ghost use mathlib.Core.Path.{_≡_};
 ghost use mathlib.Core.Bool.{true};
-ghost use mathlib.Core.List.{[], _∷_};
+ghost use mathlib.Core.List.{map};
 ghost use Prim.Native.Nat.{_≤_, _<_};
 ghost use lib.ListN.{length, take};
 ghost use Rattle.model.specs.Limits.{mostColumns, mostElements};
-ghost use Rattle.inner.specs.Positions.{wellAt, treeAt};
 ghost use Rattle.model.specs.Catalog.{baseNumbered};
 ghost use Rattle.model.specs.Value.{intOf, allInLimits, valueOf, union, without};
-ghost use Rattle.model.specs.Faults.{isFine};
-ghost use Rattle.model.specs.Mutations.{suits};
 ghost use Rattle.model.specs.Catalog.{columnFrom};
 ghost use Rattle.integers.specs.Ints.{intIn};
-ghost use Rattle.elements.specs.Elements.{elementsFrom, elementsFine};
-ghost use Rattle.uuids.specs.Named.{namesAt, Running};
-ghost use Rattle.element_atoms.specs.Atoms.{atomAs, atomsOf};
-ghost use Rattle.request_values.specs.Weights.{atomsAs};
-ghost use Rattle.mutations.specs.Steps.{resultAtoms, Calculated, elementsOf, arithmeticOn, insertedOn, deletedOn, operandOf, mutatedOn, Kept, Results, Stepped};
+ghost use Rattle.uuids.specs.Named.{Running};
+ghost use Rattle.mutations.specs.Steps.{resultAtoms, Calculated, elementsOf, arithmeticOn, insertedOn, deletedOn, Kept, Results, Stepped};
+ghost use Rattle.mutations.specs.Mutating.{elementsRead, mutationFrom, Ready};
+ghost use Rattle.mutations.specs.Rows.{RowStepped};
+ghost use Rattle.model.specs.Base.{member};
 
 // What the mutator makes of each element with the operand, in front of `out`; or that this divides by zero or is outside 64 bits: then
 // `out` is free.
@@ -144,127 +139,116 @@ fn insert(column: &Entry, more: &[model::Atom], row: &mut Row, c: usize) -> Faul
     Fault::Fine
 }
 
-// The first n atoms are a set: the same without x, and zeros; n is how many are left.
-fn delete_atom(atoms: Atoms, n: &mut usize, x: model::Atom) -> Atoms
-    requires { ⌜ now n ≤ mostElements ⌝ }
-    ensures { λ r. ⌜ Kept (without (x ∷ []) (take (now (n .entry)) atoms)) (now (n .exit)) r ⌝ }
-{
-    let m = *n;
-    let left = value::delete_count(&atoms[..m], &x);
-    *n = left;
-    value::delete(atoms, m, x)
-}
-
-// The same without the element at `at`.
-fn delete_element(
+// Whether a delete takes an element out.
+fn is_deleted(
     text: &[u8],
     ends: &[u16],
     names: &[u8],
     kind: u8,
-    at: usize,
-    atoms: Atoms,
-    n: &mut usize,
-) -> Atoms
+    m: Mutation,
+    atoms: &Atoms,
+    x: &model::Atom,
+) -> bool
     requires { ⌜ Running (now text) (now ends) (now names) ⌝ }
-    requires { ⌜ wellAt (now text) at ≡ true ⌝ }
-    requires { ⌜ now n ≤ mostElements ⌝ }
-    ensures { λ r. ⌜ Kept (without (atomAs (namesAt (now (text .entry)) (now (names .entry))) (baseNumbered kind) (treeAt (now (text .entry)) at) ∷ []) (take (now (n .entry)) atoms)) (now (n .exit)) r ⌝ }
+    requires { ⌜ Ready (now text) m (now atoms) ⌝ }
+    ensures { λ r. ⌜ r ≡ member (now (x .entry)) (elementsRead (now (text .entry)) (now (names .entry)) (baseNumbered kind) m (now (atoms .entry))) ⌝ }
 {
-    let mut cell = [0u8; ATOM];
-    let a = element_atoms::atom_at(text, ends, names, kind, at, &mut cell);
-    match a {
-        Atom::Wrong => delete_atom(atoms, n, cell),
-        Atom::Long => value::first(atoms, *n),
-        Atom::Fits => delete_atom(atoms, n, cell),
+    if m.fits {
+        let n = m.count;
+        let all = &atoms[..];
+        return value::member(x, &all[..n]);
     }
-}
-
-// The same without the elements of a value.
-fn delete_from(
-    text: &[u8],
-    ends: &[u16],
-    names: &[u8],
-    kind: u8,
-    e: Elements,
-    atoms: Atoms,
-    n: &mut usize,
-) -> Atoms
-    requires { ⌜ Running (now text) (now ends) (now names) ⌝ }
-    requires { ⌜ elementsFine (now text) (e .set) (e .first) ≡ true ⌝ }
-    requires { ⌜ now n ≤ mostElements ⌝ }
-    ensures { λ r. ⌜ Kept (without (atomsOf (namesAt (now (text .entry)) (now (names .entry))) (baseNumbered kind) (elementsFrom (now (text .entry)) (e .set) (e .first))) (take (now (n .entry)) atoms)) (now (n .exit)) r ⌝ }
-{
-    let mut s = value::first(atoms, *n);
+    let e = elements::elements_at(text, ends, m.at);
     let set = e.set;
-    let mut g = e.first;
-    loop {
-        match g {
-            Found::At(p) => {
-                let t = delete_element(text, ends, names, kind, p, s, n);
-                s = t;
-                g = elements::next_element(text, ends, p, set);
-            }
-            Found::Nothing => return s,
-        }
-    }
+    let f = e.first;
+    element_atoms::cell_among(text, ends, names, kind, set, f, x)
 }
 
-// The elements of the value at `at` deleted from column c of a row.
+// The elements that a delete leaves, and zeros; and how many they are.
+fn keep_others(
+    text: &[u8],
+    ends: &[u16],
+    names: &[u8],
+    kind: u8,
+    m: Mutation,
+    atoms: &Atoms,
+    xs: &[model::Atom],
+    out: &mut Atoms,
+) -> usize
+    requires { ⌜ Running (now text) (now ends) (now names) ⌝ }
+    requires { ⌜ Ready (now text) m (now atoms) ⌝ }
+    requires { ⌜ length (now xs) ≤ mostElements ⌝ }
+    ensures { λ r. ⌜ Kept (without (elementsRead (now (text .entry)) (now (names .entry)) (baseNumbered kind) m (now (atoms .entry))) (now (xs .entry))) r (now (out .exit)) ⌝ }
+{
+    *out = [[0u8; ATOM]; ELEMENTS];
+    let mut n = 0;
+    let mut i = 0;
+    while i < xs.len() {
+        let gone = is_deleted(text, ends, names, kind, m, atoms, &xs[i]);
+        if !gone {
+            let x = xs[i];
+            out[n] = x;
+            n += 1;
+        }
+        i += 1;
+    }
+    n
+}
+
+// The elements of a mutation deleted from its column of a row.
 fn delete(
     text: &[u8],
     ends: &[u16],
     names: &[u8],
     column: &Entry,
-    at: usize,
+    m: Mutation,
+    atoms: &Atoms,
     row: &mut Row,
-    c: usize,
 ) -> Fault
     requires { ⌜ Running (now text) (now ends) (now names) ⌝ }
-    requires { ⌜ wellAt (now text) at ≡ true ⌝ }
-    requires { ⌜ c < mostColumns ⌝ }
-    ensures { λ r. ⌜ Stepped (deletedOn (columnFrom (now (column .entry))) (atomsAs (namesAt (now (text .entry)) (now (names .entry))) (columnFrom (now (column .entry)) .base) (treeAt (now (text .entry)) at)) (elementsOf c (now (row .entry)))) c r (now (row .entry)) (now (row .exit)) ⌝ }
+    requires { ⌜ Ready (now text) m (now atoms) ⌝ }
+    requires { ⌜ m .place < mostColumns ⌝ }
+    ensures { λ r. ⌜ Stepped (deletedOn (columnFrom (now (column .entry))) (elementsRead (now (text .entry)) (now (names .entry)) (columnFrom (now (column .entry)) .base) m (now (atoms .entry))) (elementsOf (m .place) (now (row .entry)))) (m .place) r (now (row .entry)) (now (row .exit)) ⌝ }
 {
+    let c = m.place;
     let kind = catalog::kind(column);
     let min = leaf::wide(catalog::minimum(column));
-    let e = elements::elements_at(text, ends, at);
-    let mut n = references::size(rows::count_of(row, c));
-    let atoms = rows::atoms_of(row, c);
-    let kept = delete_from(text, ends, names, kind, e, atoms, &mut n);
-    if n < min {
+    let n = references::size(rows::count_of(row, c));
+    let xs = rows::atoms_of(row, c);
+    let mut left = [[0u8; ATOM]; ELEMENTS];
+    let k = keep_others(text, ends, names, kind, m, atoms, &xs[..n], &mut left);
+    if k < min {
         return Fault::Constraint;
     }
-    rows::set_column(row, c, n as u8, &kept);
+    rows::set_column(row, c, k as u8, &left);
     Fault::Fine
 }
 
-// A mutation whose value, at `at`, has no fault, on column c of a row; after a fault the row is as it was.
-pub fn mutate_column(
+// A mutation that has no fault on a row; after a fault of this step the row is as it was.
+pub fn mutate_row(
     text: &[u8],
     ends: &[u16],
     names: &[u8],
-    column: &Entry,
-    m: Mutator,
-    at: usize,
+    columns: &[Entry],
+    m: Mutation,
+    atoms: &Atoms,
     row: &mut Row,
-    c: usize,
 ) -> Fault
     requires { ⌜ Running (now text) (now ends) (now names) ⌝ }
-    requires { ⌜ wellAt (now text) at ≡ true ⌝ }
-    requires { ⌜ c < mostColumns ⌝ }
-    requires { ⌜ suits (columnFrom (now column)) m ≡ true ⌝ }
-    requires { ⌜ isFine (operandOf (namesAt (now text) (now names)) (columnFrom (now column)) m (treeAt (now text) at) .fault) ≡ true ⌝ }
-    ensures { λ r. ⌜ Stepped (mutatedOn (columnFrom (now (column .entry))) m (operandOf (namesAt (now (text .entry)) (now (names .entry))) (columnFrom (now (column .entry))) m (treeAt (now (text .entry)) at) .got) (elementsOf c (now (row .entry)))) c r (now (row .entry)) (now (row .exit)) ⌝ }
+    requires { ⌜ Ready (now text) m (now atoms) ⌝ }
+    requires { ⌜ (m .place < length (now columns)) × (length (now columns) ≤ mostColumns) ⌝ }
+    ensures { λ r. ⌜ RowStepped (map columnFrom (now (columns .entry))) (mutationFrom (now (text .entry)) (now (names .entry)) (now (columns .entry)) m (now (atoms .entry))) r (now (row .entry)) (now (row .exit)) ⌝ }
 {
-    match m {
+    let c = m.place;
+    let column = &columns[c];
+    let k = m.mutator;
+    match k {
         Mutator::Insert => {
-            let l = request_values::insert_atoms(text, ends, names, column, at);
-            let n = request_values::count_at(text, ends, at);
-            insert(column, &l[..n], row, c)
+            let n = m.count;
+            let all = &atoms[..];
+            insert(column, &all[..n], row, c)
         }
-        Mutator::Delete => delete(text, ends, names, column, at, row, c),
-        _ => {
-            let b = request_values::operand_at(text, ends, names, at);
-            arithmetic(column, m, &b, row, c)
-        }
+        Mutator::Delete => delete(text, ends, names, column, m, atoms, row),
+        _ => arithmetic(column, k, &atoms[0], row, c),
     }
 }

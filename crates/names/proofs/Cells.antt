@@ -2,12 +2,11 @@
 use mathlib.Core.Path.{_≡_, refl, sym, ap, _∙_}
 use mathlib.Core.List.{List, [], _∷_, _++_, append-nil}
 use mathlib.Core.Bool.{true, false}
-use Prim.Native.Nat.{ℕ, zero, suc, _+_, _-_, _<_, _≤_}
+use Prim.Native.Nat.{ℕ, zero, suc, _+_, _-_, _≤_}
 use native.Mathlib.Omega.{arith}
-use borrow.Author.Tests.{lt-ltb, leb-true, leb-false, ltb-true}
-use lib.Dec.{leb, ltb}
-use lib.ListN.{length, set, drop, replicate, length-set, take-append-drop}
-use lib.Seq.{drop-set-lt}
+use borrow.Author.Tests.{leb-true, leb-false}
+use lib.Dec.{leb}
+use lib.ListN.{length, drop, replicate}
 use Rattle.model.specs.Scan.{spacesAt}
 use Rattle.model.specs.Strings.{bodyAt}
 use Rattle.model.specs.Json.{Json, null, bool, num, str, arr, obj}
@@ -18,39 +17,10 @@ use Rattle.model.specs.Value.{textAtom}
 use Rattle.model.proofs.Tests.{split}
 use Rattle.text.specs.declared.Written.{Written}
 use Rattle.text.specs.declared.Written.the-variants.{To, Full}
-use Rattle.text.specs.Push.{pushTo, pushOut, pushAllTo, pushAllOut, Pushed}
-use Rattle.text.proofs.Pushing.{pushed-in}
+use Rattle.text.specs.Push.{Pushed}
+use Rattle.text.proofs.Pushing.{pushed-whole, pushed-over}
 use Rattle.text.proofs.Words.{text-tree}
 use Rattle.names.specs.Names.{shortCell, nameCell}
-
-room : (n o : ℕ) → o < n → pushTo n (To o) ≡ To (o + 1)
-unfolding pushTo
-room n o h = rw (pushTo, lt-ltb o n h)
-
-none-left : (n : ℕ) (bs : List ℕ) → pushAllTo n Full bs ≡ Full
-unfolding pushAllTo pushTo
-none-left n [] = refl
-none-left n (b ∷ bs) = none-left n bs
-
--- too many bytes leave the buffer full
-pushed-full : (n o : ℕ) (bs : List ℕ) → o ≤ n → n < o + length bs → pushAllTo n (To o) bs ≡ Full
-unfolding pushAllTo pushTo
-pushed-full n o [] l h = absurd (omega arith)
-pushed-full n o (b ∷ bs) l h =
-    split
-    (ltb o n)
-    (λ e. rw (pushTo, e) (pushed-full n (o + 1) bs (omega (arith, ltb-true o n e)) (omega arith)))
-    (λ e. rw (pushTo, e) (none-left n bs))
-
--- what was not written to is as it was
-pushed-rest : (out : List ℕ) (o : ℕ) (bs : List ℕ) → o + length bs ≤ length out → drop (o + length bs) (pushAllOut out (To o) bs) ≡ drop (o + length bs) out
-unfolding pushAllOut pushOut
-pushed-rest out o [] h = refl
-pushed-rest out o (b ∷ bs) h =
-    let w = room (length out) o (omega arith) in
-    let z : o + suc (length bs) ≡ o + 1 + length bs = omega arith in
-    let ih = pushed-rest (set out o b) (o + 1) bs (omega (arith, length-set out o b)) in
-    rw (w, z) (ih ∙ drop-set-lt (o + 1 + length bs) out o b (omega arith))
 
 drop-zeros : (n k : ℕ) → _≡_ {A = List ℕ} (drop n (replicate k 0)) (replicate (k - n) 0)
 drop-zeros zero k = let z : k - 0 ≡ k = omega arith in rw z
@@ -88,7 +58,7 @@ module _ (s : List ℕ) (at : ℕ) (t : isText (kindOf (treeAt s at)) ≡ true) 
     name-long e =
         split
         (leb (length bs) 24)
-        (λ l. absurd (let f = pushed-in (replicate 24 0) 0 bs (omega (arith, leb-true (length bs) 24 l)) in let g : Full ≡ To (0 + length bs) = sym e ∙ p .to ∙ f .0 in let z : _≡_ {A = ℕ} 0 1 = cc in omega arith))
+        (λ l. absurd (let g : Full ≡ To (length bs) = sym e ∙ pushed-whole p (leb-true (length bs) 24 l) .0 in let z : _≡_ {A = ℕ} 0 1 = cc in omega arith))
         (λ l. rw (nameCell, string-is, shortCell, l))
 
     pub name-short : {n : ℕ} → w ≡ To n → (n ≤ 24) × (n ∷ (out ++ []) ≡ nameCell (treeAt s at))
@@ -97,13 +67,10 @@ module _ (s : List ℕ) (at : ℕ) (t : isText (kindOf (treeAt s at)) ≡ true) 
         split
         (leb (length bs) 24)
         (λ l.
-        let f = pushed-in (replicate 24 0) 0 bs (omega (arith, leb-true (length bs) 24 l)) in
-        let r = pushed-rest (replicate 24 0) 0 bs (omega (arith, leb-true (length bs) 24 l)) in
-        let z : 0 + length bs ≡ length bs = omega arith in
-        let g : To n ≡ To (length bs) = sym e ∙ p .to ∙ rw z at (f .0) in
+        let f = pushed-whole p (leb-true (length bs) 24 l) in
+        let g : To n ≡ To (length bs) = sym e ∙ f .0 in
         let k : n ≡ length bs = cc in
         let u : 25 - suc (length bs) ≡ 24 - length bs = omega arith in
-        let o : out ≡ bs ++ replicate (24 - length bs) 0 =
-        p .out ∙ sym (take-append-drop (0 + length bs) (pushAllOut (replicate 24 0) (To 0) bs)) ∙ rw (f .1, r, z) (rw (drop-zeros (length bs) 24) refl) in
+        let o : out ≡ bs ++ replicate (24 - length bs) 0 = f .1 ∙ ap (λ (x : List ℕ). bs ++ x) (drop-zeros (length bs) 24) in
         (omega (arith, leb-true (length bs) 24 l), rw (nameCell, shortCell, string-is, l, append-nil, k, o, ← u) (ap textAtom (sym string-is))))
-        (λ l. absurd (let g : To n ≡ Full = sym e ∙ p .to ∙ pushed-full 24 0 bs (omega arith) (omega (arith, leb-false (length bs) 24 l)) in let z : _≡_ {A = ℕ} 0 1 = cc in omega arith))
+        (λ l. absurd (let g : To n ≡ Full = sym e ∙ p .to ∙ pushed-over 24 0 bs (omega arith) (omega (arith, leb-false (length bs) 24 l)) in let z : _≡_ {A = ℕ} 0 1 = cc in omega arith))

@@ -1,3 +1,6 @@
+pub mod Choosing
+pub mod Doing
+pub mod Slots
 pub mod Nulls
 pub mod Results
 pub mod Next

@@ -26,9 +26,9 @@ use Rattle.model.specs.Operations as model
 use Rattle.model.specs.Transact.{Ran, freshIds, insertName, isNamed, withName, followed, stopped, runAll}
 use Rattle.model.proofs.Tests.{split, clash, bytes-same}
 use Rattle.nav.proofs.Walk.{walk-end, walk-rest}
-use Rattle.answer.specs.Texts.{commaText, joined, errorResult, nullText}
+use Rattle.json_writer.specs.Texts.{commaText, joined, errorResult, nullText}
 use Rattle.uuids.specs.Named.{operationsAt, placeIn, placeNamed, namesAt}
-use Rattle.clauses.specs.Clauses.{foundBefore, Earlier}
+use Rattle.operations.specs.Clauses.{foundBefore, Earlier}
 use Rattle.operations.specs.Running.{runFrom, runWhole, nullsFrom}
 
 -- ── names that were given, by the operations before i ──

@@ -6,7 +6,7 @@ use Prim.Native.Nat.{ℕ}
 use Rattle.model.specs.declared.Found.{Found}
 use Rattle.model.specs.declared.Found.the-variants.{At, Nothing}
 use Rattle.inner.specs.Positions.{nextItem}
-use Rattle.answer.specs.Texts.{commaText, joined, nullText}
+use Rattle.json_writer.specs.Texts.{commaText, joined, nullText}
 use Rattle.nav.proofs.Walk.{walk-end, walk-rest}
 use Rattle.operations.specs.Running.{nullsFrom}
 

@@ -1,1 +1,4 @@
+pub mod Performed
+pub mod Ran
+pub mod Clauses
 pub mod Running

@@ -4,10 +4,11 @@ use mathlib.Core.Path.{_≡_}
 use mathlib.Core.Bool.{true, false}
 use mathlib.Core.List.{List, [], _∷_, _++_, map}
 use lib.ListN.{length, take, drop}
-use Rattle.answer.specs.Most.{nullMost, errorMost}
+use Rattle.json_writer.specs.Most.{nullMost, errorMost}
 use Rattle.model.specs.Limits.{mostRows, mostOperations}
 use Rattle.model.specs.declared.Fault.{Fault}
 use Rattle.model.specs.declared.Found.{Found}
+use Rattle.model.specs.Catalog.{packedTables}
 use Rattle.model.specs.Schema.{Schema}
 use Rattle.model.specs.Json.{Json}
 use Rattle.inner.specs.Positions.{itemsFrom, itemsFine}
@@ -16,10 +17,10 @@ use Rattle.model.specs.Faults.{isFine}
 use Rattle.inner.specs.Working.{working, Tidy}
 use Rattle.model.specs.Transact as model
 use Rattle.model.specs.Transact.{freshIds}
-use Rattle.answer.specs.Put.{Put}
-use Rattle.answer.specs.Texts.{nullText, joined, errorResult}
+use Rattle.json_writer.specs.Put.{Put}
+use Rattle.json_writer.specs.Texts.{nullText, joined, errorResult}
 use Rattle.uuids.specs.Named.{operationsAt, namesAt, placeIn, placeNamed}
-use Rattle.operations.specs.declared.Ran.{Ran}
+use Rattle.operations.specs.declared.Finish.{Finish}
 
 -- the operations of a request: they can be read, are few, and the table of uuid-names is theirs
 pub record Listed (text : List ℕ) (ops : Found) (names : List ℕ) : Type 0 where
@@ -50,16 +51,20 @@ unfoldable pub nullsFrom : List ℕ → Found → List (List ℕ)
 nullsFrom text g = map (λ (j : Json). nullText) (itemsFrom text g)
 
 -- what a fault leaves: it, how many rows there were, and its error with the nulls behind it in the answer
-pub record Stopped (text : List ℕ) (g : Found) (f : Fault) (n at : ℕ) (before after : List ℕ) (r : Ran) : Type 0 where
+pub record Stopped (text : List ℕ) (g : Found) (f : Fault) (n at : ℕ) (before after : List ℕ) (r : Finish) : Type 0 where
   pub fault : r .fault ≡ f
   pub count : r .count ≡ n
   pub answer : Put stopMost before at (errorResult f ++ joined false (nullsFrom text g)) (r .at) after
 
 -- what is left of the rows, and the answer up to its closing bracket; after a fault the rows are free, but tidy where they were
-pub record RunAll (s : Schema) (d : model.Ran) (n : ℕ) (entry exit : List (List (List ℕ))) (before after : List ℕ) (r : Ran) : Type 0 where
+pub record RunAll (s : Schema) (d : model.Ran) (n : ℕ) (entry exit : List (List (List ℕ))) (before after : List ℕ) (r : Finish) : Type 0 where
   pub fault : r .fault ≡ d .fault
   pub few : r .count ≤ mostRows
   pub rows : isFine (r .fault) ≡ true → working s (r .count) exit ≡ d .rows
   pub tidy : isFine (r .fault) ≡ true → Tidy s (take n entry) → Tidy s (take (r .count) exit)
   pub free : isFine (r .fault) ≡ false → Tidy s (take n entry) → Tidy s (take (r .count) exit)
   pub answer : Put answerMost before 0 (91 ∷ joined true (d .results)) (r .at) after
+
+-- the same of all operations of a request, on the first n rows
+abbrev pub AllDone : List ℕ → Found → List ℕ → List (List ℕ) → ℕ → List (List (List ℕ)) → List (List (List ℕ)) → List ℕ → List ℕ → Finish → Type 0
+AllDone text ops names schema n entry exit before after r = RunAll (packedTables schema) (runWhole (packedTables schema) text ops names (working (packedTables schema) n entry)) n entry exit before after r

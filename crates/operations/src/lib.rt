@@ -1,9 +1,13 @@
 // The operations of a request, run in order on working rows; their results, written as they are produced.
+pub mod clauses;
+pub mod on_table;
+pub mod operation;
+
 use model::Catalog;
 use model::Fault;
 use model::Found;
 use model::Row;
-use table_operations::Reply;
+use on_table::Reply;
 ghost use mathlib.Core.Path.{_≡_};
 ghost use mathlib.Core.Bool.{true, false};
 ghost use mathlib.Core.List.{List};
@@ -12,18 +16,16 @@ ghost use lib.ListN.{length};
 ghost use Rattle.selection.specs.Most.{resultMost};
 ghost use Rattle.model.specs.Limits.{mostOperations, mostRows, freshBytes};
 ghost use Rattle.inner.specs.Positions.{Says, itemsFrom, itemsFine};
-ghost use Rattle.inner.specs.Working.{working};
-ghost use Rattle.model.specs.Catalog.{packedTables};
 ghost use Rattle.catalog.specs.Accepted.{Accepted};
-ghost use Rattle.answer.specs.Put.{Put};
-ghost use Rattle.answer.specs.Texts.{joined};
+ghost use Rattle.json_writer.specs.Put.{Put};
+ghost use Rattle.json_writer.specs.Texts.{joined};
 ghost use Rattle.fresh.specs.Fresh.{freshAt};
 ghost use Rattle.uuids.specs.Named.{Running};
-ghost use Rattle.table_operations.specs.Ran.{Answers};
-ghost use Rattle.operations.specs.Running.{Listed, nullsMost, stopMost, runWhole, nullsFrom, Stopped, RunAll};
+ghost use Rattle.operations.specs.Ran.{Answers};
+ghost use Rattle.operations.specs.Running.{Listed, nullsMost, stopMost, nullsFrom, Stopped, AllDone};
 
 // What the operations leave: the first fault, how many rows there are, and where the answer ends.
-pub struct Ran {
+pub struct Finish {
     pub fault: Fault,
     pub count: usize,
     pub at: usize,
@@ -42,8 +44,8 @@ fn put_nulls(text: &[u8], ends: &[u16], g: Found, answer: &mut [u8], at: usize) 
     loop {
         match h {
             Found::At(p) => {
-                e = answer::put_comma(answer, e, false);
-                e = answer::put_null(answer, e);
+                e = json_writer::put_comma(answer, e, false);
+                e = json_writer::put_null(answer, e);
                 h = nav::next_item(text, ends, p);
             }
             Found::Nothing => return e,
@@ -59,9 +61,9 @@ fn put_result(answer: &mut [u8], at: usize, reply: Reply, names: &[u8], i: usize
     ensures { λ r. ⌜ ((begun text : List ℕ) → Answers (freshAt (now (names .entry)) i) at begun (now (answer .entry)) reply text → Put resultMost begun at text r (now (answer .exit))) ⌝ }
 {
     match reply {
-        Reply::Empty => answer::put_bytes(answer, at, b"{}"),
-        Reply::Count(k) => answer::put_count(answer, at, k as u64),
-        Reply::Id => answer::put_insert(answer, at, fresh::id_at(names, i)),
+        Reply::Empty => json_writer::put_bytes(answer, at, b"{}"),
+        Reply::Count(k) => json_writer::put_count(answer, at, k as u64),
+        Reply::Id => json_writer::put_insert(answer, at, fresh::id_at(names, i)),
         Reply::Rows(e) => e,
     }
 }
@@ -75,16 +77,16 @@ fn stop(
     n: usize,
     answer: &mut [u8],
     at: usize,
-) -> Ran
+) -> Finish
     requires { ⌜ Says (now text) (now ends) ⌝ }
     requires { ⌜ itemsFine (now text) g ≡ true ⌝ }
     requires { ⌜ length (itemsFrom (now text) g) ≤ mostOperations ⌝ }
     requires { ⌜ at + stopMost < 2 ^ 64 ⌝ }
     ensures { λ r. ⌜ Stopped (now (text .entry)) g fault n at (now (answer .entry)) (now (answer .exit)) r ⌝ }
 {
-    let e = answer::put_error(answer, at, fault);
+    let e = json_writer::put_error(answer, at, fault);
     let end = put_nulls(text, ends, g, answer, e);
-    Ran {
+    Finish {
         fault: fault,
         count: n,
         at: end,
@@ -101,28 +103,28 @@ pub fn run(
     rows: &mut [Row],
     n: usize,
     answer: &mut [u8],
-) -> Ran
+) -> Finish
     requires { ⌜ Running (now text) (now ends) (now names) ⌝ }
     requires { ⌜ Accepted (now schema) ⌝ }
     requires { ⌜ Listed (now text) ops (now names) ⌝ }
     requires { ⌜ (n ≤ mostRows) × (mostRows ≤ length (now rows)) ⌝ }
-    ensures { λ r. ⌜ RunAll (packedTables (now (schema .entry))) (runWhole (packedTables (now (schema .entry))) (now (text .entry)) ops (now (names .entry)) (working (packedTables (now (schema .entry))) n (now (rows .entry)))) n (now (rows .entry)) (now (rows .exit)) (now (answer .entry)) (now (answer .exit)) r ⌝ }
+    ensures { λ r. ⌜ AllDone (now (text .entry)) ops (now (names .entry)) (now (schema .entry)) n (now (rows .entry)) (now (rows .exit)) (now (answer .entry)) (now (answer .exit)) r ⌝ }
 {
-    let mut at = answer::put_byte(answer, 0, b'[');
+    let mut at = json_writer::put_byte(answer, 0, b'[');
     let mut g = ops;
     let mut i = 0;
     let mut m = n;
     loop {
         let Found::At(p) = g else {
-            return Ran {
+            return Finish {
                 fault: Fault::Fine,
                 count: m,
                 at: at,
             };
         };
-        at = answer::put_comma(answer, at, i == 0);
-        let call = operation::read(text, ends, schema, i, p);
-        let d = operation::operate(text, ends, names, schema, call, rows, m, answer, at);
+        at = json_writer::put_comma(answer, at, i == 0);
+        let call = operation::read(text, ends, schema, i, p, m);
+        let d = operation::operate(text, ends, names, schema, call, rows, answer, at);
         let f = d.fault;
         let q = d.reply;
         g = nav::next_item(text, ends, p);

@@ -12,7 +12,7 @@ use Rattle.model.specs.Base.{ascii}
 use Rattle.model.specs.Catalog.{entryName, columnCount}
 use Rattle.inner.specs.Working.{idIn, valueIn}
 use Rattle.model.specs.Answers.{quoted}
-use Rattle.answer.specs.Texts.{quotedText, idText, setText, commaText, joined}
+use Rattle.json_writer.specs.Texts.{quotedText, idText, setText, commaText, joined}
 use Rattle.projection.specs.Shown.{nameText, columnText, rowIdText, shownText, shownFrom, rowShown}
 
 pub colon-is : (name : List ℕ) → (quotedText name ++ (58 ∷ [])) ≡ nameText name

@@ -16,8 +16,8 @@ use Rattle.model.specs.Areas.{columnsFrom, rowFrom}
 use Rattle.inner.specs.Working.{tableIn, idIn, valueIn}
 use Rattle.model.specs.Operations.{shownColumns, rowText}
 use Rattle.model.specs.Answers.{memberText, valueText}
-use Rattle.answer.specs.Texts.{commaText, joined}
-use Rattle.answer.proofs.Joins.{joined-commas}
+use Rattle.json_writer.specs.Texts.{commaText, joined}
+use Rattle.json_writer.proofs.Joins.{joined-commas}
 use Rattle.projection.proofs.Columns.{listed}
 use Rattle.projection.specs.Shown.{columnText, rowIdText, shownText, shownFrom, rowShown}
 

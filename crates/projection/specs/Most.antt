@@ -1,7 +1,7 @@
 -- How many bytes each text of a selected row has at most. Assumes nothing: these are definitions.
 use Prim.Native.Nat.{ℕ, _+_, _*_, _-_}
 use Rattle.model.specs.Limits.{mostColumns, entryBytes}
-use Rattle.answer.specs.Most.{escapedMost, idMost, valueMost}
+use Rattle.json_writer.specs.Most.{escapedMost, idMost, valueMost}
 
 -- a name in quotes and the colon
 abbrev pub nameMost : ℕ

@@ -7,7 +7,7 @@ use Rattle.model.specs.Base.{ascii}
 use Rattle.model.specs.Catalog.{baseNumbered, baseOffset, entryName, columnPlace, columnCount}
 use Rattle.inner.specs.Working.{idIn, valueIn}
 use Rattle.model.specs.Answers.{quoted, uuidText, memberText, valueText}
-use Rattle.answer.specs.Texts.{commaText, joined}
+use Rattle.json_writer.specs.Texts.{commaText, joined}
 
 -- a member's name and the colon
 unfoldable pub nameText : List ℕ → List ℕ

@@ -10,8 +10,8 @@ ghost use Prim.Native.Nat.{_+_, _*_, _^_, _<_, _≤_};
 ghost use lib.ListN.{length};
 ghost use Rattle.model.specs.Limits.{mostTables, mostColumns, entryBytes, entryCount};
 ghost use Rattle.model.specs.Catalog.{entryName, columnCount};
-ghost use Rattle.answer.specs.Put.{Put};
-ghost use Rattle.answer.specs.Texts.{joined};
+ghost use Rattle.json_writer.specs.Put.{Put};
+ghost use Rattle.json_writer.specs.Texts.{joined};
 ghost use Rattle.projection.specs.Shown.{nameText, columnText, rowIdText, shownText, shownFrom, rowShown};
 ghost use Rattle.projection.specs.Most.{nameMost, columnMost, shownMost, rowIdMost, columnsMost, rowMost};
 
@@ -32,8 +32,8 @@ fn put_name(out: &mut [u8], at: usize, cell: &Entry) -> usize
     ensures { λ r. ⌜ Put nameMost (now (out .entry)) at (nameText (entryName (now (cell .entry)))) r (now (out .exit)) ⌝ }
 {
     let name = name_of(cell);
-    let r = answer::put_quoted(out, at, name);
-    answer::put_byte(out, r, b':')
+    let r = json_writer::put_quoted(out, at, name);
+    json_writer::put_byte(out, r, b':')
 }
 
 // A column's name and value.
@@ -44,7 +44,7 @@ fn put_column(out: &mut [u8], at: usize, cell: &Entry, row: &Row, c: usize) -> u
     let r = put_name(out, at, cell);
     let count = rows::count_of(row, c);
     let atoms = rows::atoms_in(row, c);
-    answer::put_value(out, r, catalog::kind(cell), count, atoms)
+    json_writer::put_value(out, r, catalog::kind(cell), count, atoms)
 }
 
 // A column where it is shown, after a comma if others came before.
@@ -61,7 +61,7 @@ fn put_shown(
     ensures { λ r. ⌜ Put shownMost (now (out .entry)) at (shownText show first (columnText (now (cell .entry)) (now (row .entry)) c)) r (now (out .exit)) ⌝ }
 {
     if show {
-        let r = answer::put_comma(out, at, first);
+        let r = json_writer::put_comma(out, at, first);
         return put_column(out, r, cell, row, c);
     }
     at
@@ -74,8 +74,8 @@ fn put_row_id(out: &mut [u8], at: usize, show: bool, row: &Row) -> usize
 {
     if show {
         let id = rows::id_of(row);
-        let r = answer::put_bytes(out, at, b"\"_uuid\":");
-        return answer::put_id(out, r, id);
+        let r = json_writer::put_bytes(out, at, b"\"_uuid\":");
+        return json_writer::put_id(out, r, id);
     }
     at
 }
@@ -121,8 +121,8 @@ pub fn put_row(
     let n = leaf::wide(catalog::width(&schema[1 + table]));
     let from = 1 + TABLES + COLUMNS * table;
     let show = shown[0];
-    let r = answer::put_byte(out, at, b'{');
+    let r = json_writer::put_byte(out, at, b'{');
     let i = put_row_id(out, r, show, row);
     let e = put_columns(out, i, !show, schema, from, n, row, shown);
-    answer::put_byte(out, e, b'}')
+    json_writer::put_byte(out, e, b'}')
 }

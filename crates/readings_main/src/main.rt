@@ -5,8 +5,8 @@
 //     mark LENGTH
 //     put PLACE BYTES      bytes put into the area
 //     lacking CALL         a call on an area that lacks its last byte
-use model::Answer;
 use model::STORE_BYTES;
+use model::Status;
 ghost use mathlib.Core.Path.{_≡_};
 ghost use Prim.Native.Nat.{_+_, _≤_, _<_};
 ghost use lib.ListN.{length};
@@ -17,25 +17,25 @@ fn put(s: &[u8]) {
     io::write_all(1, s);
 }
 
-// An answer's number: 0, or that of a refusal.
-fn put_answer(answer: Answer) {
-    match answer {
-        Answer::Accepted => put(b"0"),
-        Answer::Disordered => put(b"1"),
-        Answer::WrongLength => put(b"2"),
-        Answer::BadSchema => put(b"3"),
-        Answer::BadRequest => put(b"4"),
-        Answer::OtherDatabase => put(b"5"),
-        Answer::BadFreshIds => put(b"6"),
-        Answer::AnswerTooLong => put(b"7"),
-        Answer::BadRecord => put(b"8"),
-        Answer::OtherRun => put(b"9"),
-        Answer::NumbersSpent => put(b"10"),
-        Answer::Repeat => put(b"repeat"),
-        Answer::Behind => put(b"behind"),
-        Answer::Heard => put(b"heard"),
-        Answer::Applied => put(b"applied"),
+// The number of a refusal, 0 for any other answer.
+fn refusal_of(status: Status) -> u64 {
+    match status {
+        Status::Disordered => 1,
+        Status::WrongLength => 2,
+        Status::BadSchema => 3,
+        Status::BadRequest => 4,
+        Status::OtherDatabase => 5,
+        Status::BadFreshIds => 6,
+        Status::AnswerTooLong => 7,
+        Status::BadRecord => 8,
+        Status::OtherRun => 9,
+        Status::NumbersSpent => 10,
+        _ => 0,
     }
+}
+
+fn put_status(status: Status) {
+    io::print_decimal(1, refusal_of(status));
 }
 
 // How many bytes there are without the zeros at the end.
@@ -80,6 +80,11 @@ fn hex(s: &[u8], out: &mut [u8]) -> usize
     at
 }
 
+// Space for the characters of records in hexadecimal.
+fn characters() -> [u8; 52698] {
+    [0u8; 52698]
+}
+
 // A space and the bytes without the zeros at the end, - where there are none.
 fn put_bytes(s: &[u8]) {
     let n = used(s);
@@ -87,7 +92,7 @@ fn put_bytes(s: &[u8]) {
         put(b" -");
         return;
     }
-    let mut out = [0u8; 52698];
+    let mut out = characters();
     let k = hex(&s[..n], &mut out);
     put(b" ");
     put(&out[..k]);
@@ -198,23 +203,33 @@ fn start(area: &mut [u8], fields: &[u8]) {
     let mut schema = [0u8; 5000];
     let n = bytes(first(fields), &mut schema);
     let run = number(first(rest(fields)));
-    let answer = store::start(area, &schema[..n], run);
+    let status = store::start(area, &schema[..n], run);
     put(b"start ");
-    put_answer(answer);
+    put_status(status);
 }
 
 fn call(area: &mut [u8], request: &[u8], fresh: &[u8], records: &mut [u8], answer: &mut [u8]) {
     let refusal = store::transact(area, request, fresh, records, answer);
     put(b"transact ");
-    put_answer(refusal);
+    put_status(refusal);
     put_text(answer);
     put_bytes(records);
 }
 
+// Records that a call has to write over.
+fn old_records() -> [u8; 26349] {
+    [255u8; 26349]
+}
+
+// An answer that a call has to write over.
+fn old_answer() -> [u8; 20000] {
+    [255u8; 20000]
+}
+
 // A request with its fresh ids, and the lengths of the buffers.
 fn request(area: &mut [u8], request: &[u8], fresh: &[u8], lengths: &[u8]) {
-    let mut records = [255u8; 26349];
-    let mut answer = [255u8; 20000];
+    let mut records = old_records();
+    let mut answer = old_answer();
     let r = length_in(first(lengths), &records);
     let a = length_in(first(rest(lengths)), &answer);
     call(area, request, fresh, &mut records[..r], &mut answer[..a]);
@@ -230,9 +245,9 @@ fn transact(area: &mut [u8], fields: &[u8]) {
 }
 
 fn mark_in(area: &[u8], mark: &mut [u8]) {
-    let answer = store::mark(area, mark);
+    let status = store::mark(area, mark);
     put(b"mark ");
-    put_answer(answer);
+    put_status(status);
     put_bytes(mark);
 }
 
@@ -316,8 +331,13 @@ fn each(lines: &[u8], area: &mut [u8])
     }
 }
 
+// Space for the lines.
+fn space() -> [u8; 300000] {
+    [0u8; 300000]
+}
+
 fn main() {
-    let mut space = [0u8; 300000];
+    let mut space = space();
     let n = io::read_full(0, &mut space);
     let mut area = [0u8; STORE_BYTES];
     each(&space[..n], &mut area);

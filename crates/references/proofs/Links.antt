@@ -21,7 +21,7 @@ use Rattle.inner.specs.Working.{tableIn, valueIn}
 use Rattle.model.proofs.Tests.{split}
 use Rattle.inner.proofs.Working.{row-table}
 use Rattle.inner.proofs.Columns.{column-value}
-use Rattle.references.specs.Links.{pick, told, refersAt}
+use Rattle.references.specs.Links.{pick, targetTable, refersAt}
 use Rattle.catalog.specs.Accepted.{Accepted}
 use Rattle.references.specs.declared.Target.{Target}
 use Rattle.references.specs.declared.Target.the-variants.{Table, Nothing}
@@ -30,24 +30,24 @@ use Rattle.references.proofs.Packs.{columns-on}
 
 -- ── how a column refers, by its bytes ──
 module _ (how k t : ℕ) where
-  pub pick-plain : k ≡ 0 → told Nothing ≡ pick how (refersFrom k t)
-  unfolding told pick refersFrom
+  pub pick-plain : k ≡ 0 → targetTable Nothing ≡ pick how (refersFrom k t)
+  unfolding targetTable pick refersFrom
   pick-plain e = split (eqb how 1) (λ b. rw (pick, b, e)) (λ b. rw (pick, b, e))
 
-  pub pick-strong : k ≡ 1 → how ≡ 1 → told (Table t) ≡ pick how (refersFrom k t)
-  unfolding told pick refersFrom
+  pub pick-strong : k ≡ 1 → how ≡ 1 → targetTable (Table t) ≡ pick how (refersFrom k t)
+  unfolding targetTable pick refersFrom
   pick-strong e f = rw (e, f)
 
-  pub pick-not-weak : k ≡ 1 → (how ≡ 1 → ⊥) → told Nothing ≡ pick how (refersFrom k t)
-  unfolding told pick refersFrom
+  pub pick-not-weak : k ≡ 1 → (how ≡ 1 → ⊥) → targetTable Nothing ≡ pick how (refersFrom k t)
+  unfolding targetTable pick refersFrom
   pick-not-weak e f = rw (pick, ne-eqb how 1 f, e)
 
-  pub pick-weak : (k ≡ 0 → ⊥) → (k ≡ 1 → ⊥) → (how ≡ 1 → ⊥) → told (Table t) ≡ pick how (refersFrom k t)
-  unfolding told pick refersFrom
+  pub pick-weak : (k ≡ 0 → ⊥) → (k ≡ 1 → ⊥) → (how ≡ 1 → ⊥) → targetTable (Table t) ≡ pick how (refersFrom k t)
+  unfolding targetTable pick refersFrom
   pick-weak e g f = rw (pick, refersFrom, ne-eqb how 1 f, ne-eqb k 0 e, ne-eqb k 1 g)
 
-  pub pick-not-strong : (k ≡ 0 → ⊥) → (k ≡ 1 → ⊥) → how ≡ 1 → told Nothing ≡ pick how (refersFrom k t)
-  unfolding told pick refersFrom
+  pub pick-not-strong : (k ≡ 0 → ⊥) → (k ≡ 1 → ⊥) → how ≡ 1 → targetTable Nothing ≡ pick how (refersFrom k t)
+  unfolding targetTable pick refersFrom
   pick-not-strong e g f = rw (f, refersFrom, ne-eqb k 0 e, ne-eqb k 1 g)
 
 -- ── the columns and the values of a row ──
@@ -115,8 +115,8 @@ module _ (which : Refers → Option ℕ) (schema cells : List (List ℕ)) where
 
 -- what the code knows of column c, as the definitions say it
 module _ (schema cells : List (List ℕ)) (how t c : ℕ) (e : t ≡ tableIn cells) (o : Option ℕ) (r : o ≡ pick how (refersAt schema t c)) where
-  pub here-told : keysOf o (elements (valueIn c cells)) ≡ here (pick how) schema cells c
-  here-told = ap (λ (x : Option ℕ). keysOf x (elements (valueIn c cells))) (r ∙ ap (λ (x : ℕ). pick how (refersAt schema x c)) e)
+  pub here-target : keysOf o (elements (valueIn c cells)) ≡ here (pick how) schema cells c
+  here-target = ap (λ (x : Option ℕ). keysOf x (elements (valueIn c cells))) (r ∙ ap (λ (x : ℕ). pick how (refersAt schema x c)) e)
 
 -- the first atoms, as many as the count says, are the elements
 pub elements-few : (v : Value) (atoms : List (List ℕ)) (n : ℕ) → atoms ≡ v .atoms → length atoms ≡ 4 → n ≡ min (v .count) 4 → take n atoms ≡ elements v

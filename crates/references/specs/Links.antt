@@ -17,9 +17,9 @@ use Rattle.references.specs.declared.Target.the-variants.{Table, Nothing
 unfoldable pub pick : ℕ → Refers → Option ℕ
 pick how r = elim (eqb how 1) [ true ↦ strongly r | false ↦ weakly r ]
 
-unfoldable pub told : Target → Option ℕ
-told (Table t) = some t
-told Nothing = none
+unfoldable pub targetTable : Target → Option ℕ
+targetTable (Table t) = some t
+targetTable Nothing = none
 
 -- how column c of table t refers, in the cells of a schema
 unfoldable pub refersAt : List (List ℕ) → ℕ → ℕ → Refers

@@ -19,7 +19,7 @@ ghost use Rattle.model.specs.Commit.{keysOf, strongOf, present};
 ghost use Rattle.model.specs.Areas.{rowFrom};
 ghost use Rattle.model.specs.Catalog.{refersFrom, packedTables};
 ghost use Rattle.inner.specs.Working.{working, keyIn, valueIn, Ordered};
-ghost use Rattle.references.specs.Links.{pick, told, refersAt, referred};
+ghost use Rattle.references.specs.Links.{pick, targetTable, refersAt, referred};
 ghost use Rattle.catalog.specs.Accepted.{Accepted};
 
 // The table that a column refers to, if it refers to one.
@@ -41,7 +41,7 @@ pub fn width(schema: &Catalog, table: u8) -> usize
 
 // A reference of a kind (0 none, 1 strong, 2 weak) to a table, where strong ones (how 1) or weak ones are asked for.
 fn picked(how: u8, kind: u8, table: u8) -> Target
-    ensures { λ r. ⌜ told r ≡ pick how (refersFrom kind table) ⌝ }
+    ensures { λ r. ⌜ targetTable r ≡ pick how (refersFrom kind table) ⌝ }
 {
     if kind == 0 {
         return Target::Nothing;
@@ -62,7 +62,7 @@ fn picked(how: u8, kind: u8, table: u8) -> Target
 pub fn refers(schema: &Catalog, table: u8, c: usize, how: u8) -> Target
     requires { ⌜ Accepted (now schema) ⌝ }
     requires { ⌜ c < length (columnsOf (packedTables (now schema)) table) ⌝ }
-    ensures { λ r. ⌜ told r ≡ pick how (refersAt (now (schema .entry)) table c) ⌝ }
+    ensures { λ r. ⌜ targetTable r ≡ pick how (refersAt (now (schema .entry)) table c) ⌝ }
 {
     let column = catalog::column(schema, leaf::wide(table), c);
     picked(how, catalog::refers(column), catalog::target(column))
@@ -155,7 +155,7 @@ pub fn keep_named(
 // Whether column c of a row refers to another row, as one to a table.
 fn column_names(row: &Row, c: usize, to: Target, other: &Row) -> bool
     requires { ⌜ c < mostColumns ⌝ }
-    ensures { λ r. ⌜ r ≡ any (eqb (keyIn (now (other .entry)))) (keysOf (told to) (elements (valueIn c (now (row .entry))))) ⌝ }
+    ensures { λ r. ⌜ r ≡ any (eqb (keyIn (now (other .entry)))) (keysOf (targetTable to) (elements (valueIn c (now (row .entry))))) ⌝ }
 {
     match to {
         Target::Table(t) => one_names(
@@ -171,7 +171,7 @@ fn column_names(row: &Row, c: usize, to: Target, other: &Row) -> bool
 // Whether each element of column c names a row, as one of a column that refers to a table.
 fn column_found(row: &Row, c: usize, to: Target, rows: &[Row], n: usize) -> bool
     requires { ⌜ (c < mostColumns) × Ordered n (now rows) ⌝ }
-    ensures { λ r. ⌜ ((s : Schema) → r ≡ all (λ (k : ℕ). has k (working s n (now (rows .entry)))) (keysOf (told to) (elements (valueIn c (now (row .entry)))))) ⌝ }
+    ensures { λ r. ⌜ ((s : Schema) → r ≡ all (λ (k : ℕ). has k (working s n (now (rows .entry)))) (keysOf (targetTable to) (elements (valueIn c (now (row .entry)))))) ⌝ }
 {
     match to {
         Target::Table(t) => all_named(

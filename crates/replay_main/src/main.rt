@@ -3,7 +3,6 @@
 
 use libc::STDERR_FILENO;
 use libc::STDOUT_FILENO;
-use model::Answer;
 use model::COLUMN_RECORD;
 use model::COLUMNS;
 use model::Catalog;
@@ -16,6 +15,7 @@ use model::LEAST_RECORDS;
 use model::MIRROR_BYTES;
 use model::ROW_RECORD;
 use model::STORE_BYTES;
+use model::Status;
 use model::TABLES;
 ghost use Rattle.model.specs.Limits.{freshBytes, columnRecordBytes};
 ghost use mathlib.Core.Path.{_≡_};
@@ -75,24 +75,18 @@ fn say_usage() {
     );
 }
 
-// What a call answers, in words.
-fn tell(fd: i32, a: Answer) {
+// The refusal of a call on a store, in words.
+fn tell(fd: i32, a: Status) {
     match a {
-        Answer::Accepted => write(fd, b"accepted\n"),
-        Answer::Disordered => write(fd, b"refused 1: the area is not in good order\n"),
-        Answer::WrongLength => write(fd, b"refused 2: a length is wrong\n"),
-        Answer::BadSchema => write(fd, b"refused 3: the schema is not accepted\n"),
-        Answer::BadRequest => write(fd, b"refused 4: the request is malformed or too large\n"),
-        Answer::OtherDatabase => write(fd, b"refused 5: the request is for another database\n"),
-        Answer::BadFreshIds => write(fd, b"refused 6: the fresh ids are not fresh\n"),
-        Answer::AnswerTooLong => write(fd, b"refused 7: the answer is longer than its buffer\n"),
-        Answer::BadRecord => write(fd, b"refused 8: the record is malformed or does not fit\n"),
-        Answer::OtherRun => write(fd, b"refused 9: the record is of another run\n"),
-        Answer::NumbersSpent => write(fd, b"refused 10: the record numbers are spent\n"),
-        Answer::Repeat => write(fd, b"repeat\n"),
-        Answer::Behind => write(fd, b"behind\n"),
-        Answer::Heard => write(fd, b"heard\n"),
-        Answer::Applied => write(fd, b"applied\n"),
+        Status::Disordered => write(fd, b"refused 1: the area is not in good order\n"),
+        Status::WrongLength => write(fd, b"refused 2: a length is wrong\n"),
+        Status::BadSchema => write(fd, b"refused 3: the schema is not accepted\n"),
+        Status::BadRequest => write(fd, b"refused 4: the request is malformed or too large\n"),
+        Status::OtherDatabase => write(fd, b"refused 5: the request is for another database\n"),
+        Status::BadFreshIds => write(fd, b"refused 6: the fresh ids are not fresh\n"),
+        Status::AnswerTooLong => write(fd, b"refused 7: the answer is longer than its buffer\n"),
+        Status::NumbersSpent => write(fd, b"refused 10: the record numbers are spent\n"),
+        _ => write(fd, b"no refusal of a store\n"),
     }
 }
 
@@ -100,9 +94,9 @@ fn write(fd: i32, s: &[u8]) {
     io::write_all(fd, s);
 }
 
-fn is_accepted(a: Answer) -> bool {
+fn is_accepted(a: Status) -> bool {
     match a {
-        Answer::Accepted => true,
+        Status::Accepted => true,
         _ => false,
     }
 }
@@ -242,7 +236,7 @@ fn before_nul(s: &[u8]) -> usize {
 }
 
 // What a request was answered.
-fn put_answer(a: Answer, text: &[u8]) {
+fn put_answer(a: Status, text: &[u8]) {
     if is_accepted(a) {
         let n = before_nul(text);
         put(b"answer ");
@@ -318,6 +312,11 @@ fn hear_first(area: &mut [u8], records: &[u8]) {
     }
 }
 
+// Room for the records of a commit.
+fn no_records() -> [u8; LEAST_RECORDS] {
+    [0u8; LEAST_RECORDS]
+}
+
 // The request on line k, which counts from 0; an empty line is none.
 fn replay_request(store: &mut [u8], whole: &mut [u8], display: &mut [u8], line: &[u8], k: usize)
     requires { ⌜ k ≤ 65536 ⌝ }
@@ -330,7 +329,7 @@ fn replay_request(store: &mut [u8], whole: &mut [u8], display: &mut [u8], line: 
     put(b"\n");
     let mut fresh = [0u8; FRESH_BYTES];
     count_ids(k, &mut fresh);
-    let mut records = [0u8; LEAST_RECORDS];
+    let mut records = no_records();
     let mut answer = io::large_buffer();
     let a = store::transact(store, line, &fresh, &mut records, &mut answer);
     put_answer(a, &answer);
@@ -414,7 +413,7 @@ fn put_column(area: &[u8], cell: &Entry, table: u8, id: &[u8; ID], column: u8) {
     ask_column(area, table, id, column, &mut bytes);
     let atoms = record::atoms(&bytes);
     let mut text = [0u8; 600];
-    let n = answer::put_value(&mut text, 0, catalog::kind(cell), bytes[COUNT_AT], &atoms);
+    let n = json_writer::put_value(&mut text, 0, catalog::kind(cell), bytes[COUNT_AT], &atoms);
     let name = projection::name_of(cell);
     put(b",\"");
     put(name);
@@ -426,7 +425,7 @@ fn put_column(area: &[u8], cell: &Entry, table: u8, id: &[u8; ID], column: u8) {
 fn put_id(id: &[u8; ID]) {
     let bytes = &id[..];
     let mut text = [0u8; 59];
-    let n = answer::put_id(&mut text, 0, bytes);
+    let n = json_writer::put_id(&mut text, 0, bytes);
     put(b"  {\"_uuid\":");
     put_first(&text, n);
 }
@@ -521,18 +520,28 @@ fn send_mark(store: &[u8], whole: &mut [u8], display: &mut [u8]) {
     mirror::hear(display, &mark);
 }
 
+// The bytes of a store that is not started.
+fn store_area() -> [u8; STORE_BYTES] {
+    [0u8; STORE_BYTES]
+}
+
+// The bytes of a mirror that is not started.
+fn mirror_area() -> [u8; MIRROR_BYTES] {
+    [0u8; MIRROR_BYTES]
+}
+
 // A run of a store from its start.
 fn replay(text: &[u8], run: u32, requests: &[u8])
     requires { ⌜ length (now requests) ≤ 65536 ⌝ }
 {
-    let mut store = [0u8; STORE_BYTES];
+    let mut store = store_area();
     let a = store::start(&mut store, text, run);
     if !is_accepted(a) {
         tell(STDERR_FILENO, a);
         return;
     }
-    let mut whole = [0u8; MIRROR_BYTES];
-    let mut display = [0u8; MIRROR_BYTES];
+    let mut whole = mirror_area();
+    let mut display = mirror_area();
     mirror::start(&mut whole, text, run);
     mirror::start(&mut display, text, run);
     let k = replay_lines(&mut store, &mut whole, &mut display, requests);

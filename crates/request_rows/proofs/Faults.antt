@@ -5,7 +5,6 @@ use mathlib.Core.List.{List, [], _∷_, map}
 use mathlib.Core.Option.{Option, none, some}
 use Prim.Native.Nat.{ℕ, _+_, _≤_, _<_}
 use native.Mathlib.Numerals.{add-one}
-use borrow.Author.Tests.{le-leb, lt-leb}
 use lib.Dec.{eqb}
 use lib.ListN.{length, getD, drop, drop-of-length-le}
 use lib.Seq.{drop-cons}
@@ -20,34 +19,16 @@ use Rattle.model.specs.Members.{membersIn, hasMember, memberValue as lastOf}
 use Rattle.inner.specs.Positions.{Means}
 use Rattle.model.specs.Schema.{Column, columnNamed}
 use Rattle.model.specs.Value.{blank, elements, valueOf, atomInLimits, allInLimits}
-use Rattle.model.specs.Faults.{rank, earlier, check}
+use Rattle.model.specs.Faults.{earlier, check}
 use Rattle.model.specs.Written.{Names, memberNamed, rowFault, written}
 use Rattle.model.specs.Operations.{knownNames, columnWritten, columnsWritten, defaultFault}
 use Rattle.model.specs.Catalog.{columnFrom}
 use Rattle.nav.proofs.Walk.{members-in, pass-end, pass-rest, pass-fine, pass-name}
 use Rattle.catalog.specs.Entries.{foundAt}
-use Rattle.lookup.specs.Lookup.{columnIn}
+use Rattle.conditions.specs.Lookup.{columnIn}
 use Rattle.uuids.specs.Named.{namesAt}
-use Rattle.conditions.proofs.Faulty.{earlier-last, earlier-assoc}
+use Rattle.model.proofs.FaultLaws.{earlier-first, earlier-last, earlier-assoc}
 use Rattle.request_rows.specs.Assigned.{absentBy, namedBy, writtenRow, faultOf, faultsOf}
-
--- ── of two faults the earlier ──
-pub earlier-first : (f g : Fault) → rank f ≤ rank g → f ≡ earlier f g
-earlier-first f g h = sym (ap (λ (b : Bool). if b then f else g) (le-leb (rank f) (rank g) h))
-
-pub earlier-second : (f g : Fault) → rank g < rank f → g ≡ earlier f g
-earlier-second f g h = sym (ap (λ (b : Bool). if b then f else g) (lt-leb (rank f) (rank g) h))
-
-pub earlier-fine : (f : Fault) → earlier Fine f ≡ f
-earlier-fine Fine = refl
-earlier-fine Syntax = refl
-earlier-fine Resources = refl
-earlier-fine Duplicate = refl
-earlier-fine Constraint = refl
-earlier-fine Domain = refl
-earlier-fine Range = refl
-earlier-fine Aborted = refl
-earlier-fine Integrity = refl
 
 earlier-syntax : (f : Fault) → earlier Syntax f ≡ Syntax
 earlier-syntax Fine = refl
@@ -105,7 +86,7 @@ module _ (insert : Bool) (names : Names) (ms : List Named) where
 
   -- from the first column to the last: the fault of those before c, and of the others
   pub faults-start : (cells : List (List ℕ)) → faultsOf insert names (map columnFrom cells) ms ≡ earlier Fine (faultsOf insert names (map columnFrom cells) ms)
-  faults-start cells = sym (earlier-fine (faultsOf insert names (map columnFrom cells) ms))
+  faults-start cells = sym (earlier-first (faultsOf insert names (map columnFrom cells) ms))
 
   module _ (cells : List (List ℕ)) (c : ℕ) (all f : Fault) (so : all ≡ earlier f (faultsOf insert names (map columnFrom (drop c cells)) ms)) where
     pub faults-end : length cells ≤ c → f ≡ all
@@ -170,7 +151,7 @@ module _ (insert : Bool) (text : List ℕ) (names : List ℕ) (columns : List (L
   row-by e = ap (λ (b : Bool). earlier (check b Syntax Fine) (faultsOf insert (namesAt text names) (map columnFrom columns) (membersIn (treeAt text at)))) (sym h ∙ e)
 
   pub row-known : k ≡ true → {r : Fault} → r ≡ faultsOf insert (namesAt text names) (map columnFrom columns) (membersIn (treeAt text at)) → r ≡ writtenRow insert text names columns at .fault
-  row-known e f = f ∙ sym (row-by e ∙ earlier-fine (faultsOf insert (namesAt text names) (map columnFrom columns) (membersIn (treeAt text at))))
+  row-known e f = f ∙ sym (row-by e ∙ earlier-first (faultsOf insert (namesAt text names) (map columnFrom columns) (membersIn (treeAt text at))))
 
   pub row-unknown : k ≡ false → Syntax ≡ writtenRow insert text names columns at .fault
   row-unknown e = sym (row-by e ∙ earlier-syntax (faultsOf insert (namesAt text names) (map columnFrom columns) (membersIn (treeAt text at))))

@@ -25,7 +25,7 @@ use Rattle.model.proofs.FaultLaws.{earlier-fine}
 use Rattle.inner.specs.Working.{valueIn}
 use Rattle.rows.specs.Post.{ColumnSet}
 use Rattle.uuids.specs.Named.{namesAt}
-use Rattle.request_values.specs.Weights.{RowGiven}
+use Rattle.request_values.specs.Values.{RowGiven}
 use Rattle.request_rows.specs.Assigned.{absentBy, namedBy, writtenRow, faultsOf, valuesFor, flagged, TemplateTo, Template, ColumnAssigned, ColumnPut, Puts, ColumnRead, ColumnsRead, RowRead}
 use Rattle.request_rows.proofs.Cells.{put-there}
 use Rattle.request_rows.proofs.Faults.{fault-named, fault-absent, faults-start, faults-on, faults-end, row-known, row-unknown}
@@ -92,7 +92,7 @@ module _ (insert : Bool) (names : Names) (ms : List Named) (cells : List (List �
     pub faults : faultsOf insert names (map columnFrom cells) ms ≡ earlier f (faultsOf insert names (map columnFrom (drop c cells)) ms)
     pub size : length given ≡ 6
     pub done : isFine f ≡ true → Assigning values entry c row
-    pub told : isFine f ≡ true → TemplateTo c values row given
+    pub templated : isFine f ≡ true → TemplateTo c values row given
 
   pub reading-none : (given : List Bool) → length given ≡ 6 → Reading 0 Fine entry given
   unfolding TemplateTo
@@ -100,7 +100,7 @@ module _ (insert : Bool) (names : Names) (ms : List Named) (cells : List (List �
     faults = faults-start insert names ms cells;
     size = z;
     done = λ h. assigning-none values entry;
-    told = λ h d l. absurd (omega arith);
+    templated = λ h d l. absurd (omega arith);
   }
 
   module _ (c : ℕ) {f : Fault} {row : List (List ℕ)} {given : List Bool} (so : Reading c f row given) where
@@ -113,7 +113,7 @@ module _ (insert : Bool) (names : Names) (ms : List Named) (cells : List (List �
           faults = faults-on insert names ms cells c (faultsOf insert names (map columnFrom cells) ms) f (so .faults) l (q .fault) e;
           size = length-set given c g ∙ so .size;
           done = λ h. assigning-on values entry c (omega arith) (omega arith) v (q .assigned (both h .1)) (so .done (both h .0));
-          told = λ h. template-on values c row next given g (omega (arith, so .size)) (v ∙ q .there (both h .1)) (q .before (both h .1)) (so .told (both h .0));
+          templated = λ h. template-on values c row next given g (omega (arith, so .size)) (v ∙ q .there (both h .1)) (q .before (both h .1)) (so .templated (both h .0));
         }
 
     pub reading-end : length cells ≤ c → ColumnsRead insert names ms (map columnFrom cells) f entry row given
@@ -123,7 +123,7 @@ module _ (insert : Bool) (names : Names) (ms : List Named) (cells : List (List �
         record {
           fault = faults-end insert names ms cells c (faultsOf insert names (map columnFrom cells) ms) f (so .faults) l;
           assigned = λ h. assigning-end values entry c row (omega arith) (so .done h);
-          template = λ h d k. so .told h d (omega arith);
+          template = λ h d k. so .templated h d (omega arith);
         }
 
 -- ── the row ──
@@ -147,13 +147,13 @@ module _ (insert : Bool) (text : List ℕ) (names : List ℕ) (columns : List (L
 
 -- ── a row and its flags put over another ──
 module _ (os : List (Option Value)) (c : ℕ) (h : c < length os) (row to : List (List ℕ)) (given : List Bool) (t : Template os row given) where
-  told-here : {b : Bool} → getD given c false ≡ b → getD os c none ≡ flagged b c row
+  flag-here : {b : Bool} → getD given c false ≡ b → getD os c none ≡ flagged b c row
   unfolding TemplateTo
-  told-here e = t c h ∙ ap (λ (b : Bool). flagged b c row) e
+  flag-here e = t c h ∙ ap (λ (b : Bool). flagged b c row) e
 
   pub put-flagged : {n : ℕ} {atoms next : List (List ℕ)} → getD given c false ≡ true → n ≡ valueIn c row .count → atoms ≡ valueIn c row .atoms → ColumnSet c (record { count = n; atoms = atoms }) to next
       → ColumnAssigned c (getD os c none) to next
-  put-flagged g e f s = column-set c to s (λ i. record { count = e i; atoms = f i }) (told-here g)
+  put-flagged g e f s = column-set c to s (λ i. record { count = e i; atoms = f i }) (flag-here g)
 
   pub put-unflagged : getD given c false ≡ false → ColumnAssigned c (getD os c none) to to
-  put-unflagged g = column-kept c to (told-here g)
+  put-unflagged g = column-kept c to (flag-here g)

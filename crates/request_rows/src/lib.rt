@@ -158,7 +158,7 @@ fn known(text: &[u8], ends: &[u16], columns: &[Entry], at: usize) -> bool
     loop {
         match g {
             Found::At(p) => {
-                let c = lookup::column_at(text, p, columns);
+                let c = conditions::lookup::column_at(text, p, columns);
                 let Found::At(_) = c else {
                     return false;
                 };

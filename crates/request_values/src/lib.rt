@@ -1,33 +1,27 @@
 // Values as written in a request: how each is judged, and its atoms where there is no fault.
-use model::ATOM;
-use model::Atom;
 use model::Atoms;
 use model::ELEMENTS;
 use model::Entry;
 use model::Fault;
-use model::Found;
 use model::Function;
+use model::Mutator;
 ghost use mathlib.Core.Path.{_≡_};
 ghost use mathlib.Core.Bool.{true};
-ghost use mathlib.Core.List.{[], _∷_};
 ghost use Prim.Native.Nat.{_≤_};
 ghost use lib.Dec.{eqb};
-ghost use lib.ListN.{length};
 ghost use Rattle.model.specs.Limits.{mostElements};
 ghost use Rattle.model.specs.Base.{if_then_else_};
-ghost use Rattle.inner.specs.Positions.{Says, wellAt, treeAt};
-ghost use Rattle.model.specs.Schema.{integer, scalar};
+ghost use Rattle.inner.specs.Positions.{wellAt, treeAt};
+ghost use Rattle.model.specs.Schema.{scalar};
 ghost use Rattle.model.specs.Catalog.{baseNumbered};
-ghost use Rattle.model.specs.Value.{valueOf};
-ghost use Rattle.model.specs.Faults.{isFine};
-ghost use Rattle.model.specs.Written.{elementsIn, insertFault, deleteFault, operandFault, setCount, testFault, written};
+ghost use Rattle.model.specs.Written.{setCount};
 ghost use Rattle.model.specs.Catalog.{columnFrom};
-ghost use Rattle.elements.specs.Elements.{elementsFrom};
 ghost use Rattle.uuids.specs.Named.{namesAt, Running};
-ghost use Rattle.request_values.specs.Weights.{atomsAs, Weighs, grade, Fitting, Sorts, RowGiven, TestGiven};
+ghost use Rattle.model.specs.Mutations.{mutationFault};
+ghost use Rattle.request_values.specs.Values.{Inspected, firstFault, MutationFault, Sorts, RowGiven, ValueGiven, TestGiven};
 
 // What is judged of a value as written: how many elements, that they are of their type, no string above 24 bytes, in their limits, and different.
-struct Weight {
+struct Findings {
     count: usize,
     typed: bool,
     short: bool,
@@ -43,17 +37,17 @@ pub struct Given {
 }
 
 // What is judged of the value at `at`, and its atoms in the text's order where they fit.
-fn weigh(
+fn inspect(
     text: &[u8],
     ends: &[u16],
     names: &[u8],
     column: &Entry,
     at: usize,
     atoms: &mut Atoms,
-) -> Weight
+) -> Findings
     requires { ⌜ Running (now text) (now ends) (now names) ⌝ }
     requires { ⌜ wellAt (now text) at ≡ true ⌝ }
-    ensures { λ r. ⌜ Weighs (namesAt (now (text .entry)) (now (names .entry))) (columnFrom (now (column .entry))) (treeAt (now (text .entry)) at) (r .count) (r .typed) (r .short) (r .within) (r .different) (now (atoms .exit)) ⌝ }
+    ensures { λ r. ⌜ Inspected (namesAt (now (text .entry)) (now (names .entry))) (columnFrom (now (column .entry))) (treeAt (now (text .entry)) at) (r .count) (r .typed) (r .short) (r .within) (r .different) (now (atoms .exit)) ⌝ }
 {
     let e = elements::elements_at(text, ends, at);
     let set = e.set;
@@ -64,7 +58,7 @@ fn weigh(
     if fits {
         let all = &atoms[..];
         let d = value::distinct(&all[..n]);
-        return Weight {
+        return Findings {
             count: n,
             typed: t.typed,
             short: t.short,
@@ -74,7 +68,7 @@ fn weigh(
     }
     let kind = catalog::kind(column);
     let d = element_sets::distinct_from(text, ends, names, kind, set, f);
-    Weight {
+    Findings {
         count: n,
         typed: t.typed,
         short: t.short,
@@ -84,12 +78,12 @@ fn weigh(
 }
 
 // The first check that fails, of three.
-fn graded(typed: bool, fits: bool, fair: bool) -> Fault
-    ensures { λ r. ⌜ r ≡ grade typed fits fair ⌝ }
+fn first_fault(typed: bool, fits: bool, allowed: bool) -> Fault
+    ensures { λ r. ⌜ r ≡ firstFault typed fits allowed ⌝ }
 {
     if typed {
         if fits {
-            if fair {
+            if allowed {
                 return Fault::Fine;
             }
             return Fault::Constraint;
@@ -138,13 +132,13 @@ pub fn row_value(
     requires { ⌜ wellAt (now text) at ≡ true ⌝ }
     ensures { λ r. ⌜ RowGiven (namesAt (now (text .entry)) (now (names .entry))) (columnFrom (now (column .entry))) (treeAt (now (text .entry)) at) (r .fault) (r .count) (r .fits) (now (atoms .exit)) ⌝ }
 {
-    let w = weigh(text, ends, names, column, at, atoms);
+    let w = inspect(text, ends, names, column, at, atoms);
     let n = w.count;
     let min = least(column);
     let max = most(column);
     let fits = (n <= ELEMENTS) & w.short;
-    let fair = w.different & w.within & ((min <= n) & (n <= max));
-    let v = graded(w.typed, fits, fair);
+    let allowed = w.different & w.within & ((min <= n) & (n <= max));
+    let v = first_fault(w.typed, fits, allowed);
     if fits {
         let kind = catalog::kind(column);
         sort_atoms(kind, n, atoms);
@@ -156,44 +150,44 @@ pub fn row_value(
     }
 }
 
-// How what a mutation inserts is judged.
-pub fn insert_fault(text: &[u8], ends: &[u16], names: &[u8], column: &Entry, at: usize) -> Fault
-    requires { ⌜ Running (now text) (now ends) (now names) ⌝ }
-    requires { ⌜ wellAt (now text) at ≡ true ⌝ }
-    ensures { λ r. ⌜ r ≡ written (namesAt (now (text .entry)) (now (names .entry))) (columnFrom (now (column .entry)) .base) (insertFault (columnFrom (now (column .entry)))) (treeAt (now (text .entry)) at) .fault ⌝ }
+// How the value of a mutation is judged, by what is judged of it.
+fn mutation_fault(column: &Entry, m: Mutator, w: Findings) -> Fault
+    ensures { λ r. ⌜ MutationFault (columnFrom (now (column .entry))) m (w .count) (w .typed) (w .short) (w .within) (w .different) r ⌝ }
 {
-    let mut atoms = [[0u8; ATOM]; ELEMENTS];
-    let w = weigh(text, ends, names, column, at, &mut atoms);
     let n = w.count;
     let max = most(column);
     let fit = (n <= ELEMENTS) & w.short;
-    let fair = w.different & w.within & (n <= max);
-    graded(w.typed, fit, fair)
+    let allowed = w.different & w.within;
+    match m {
+        Mutator::Insert => first_fault(w.typed, fit, allowed & (n <= max)),
+        Mutator::Delete => first_fault(w.typed, true, allowed),
+        _ => first_fault(w.typed, true, n == 1),
+    }
 }
 
-// How what a mutation deletes is judged.
-pub fn delete_fault(text: &[u8], ends: &[u16], names: &[u8], column: &Entry, at: usize) -> Fault
+// The value of a mutation, read: where it has no fault, how many elements, whether their atoms fit, and these in the text's order if they do.
+pub fn mutation_value(
+    text: &[u8],
+    ends: &[u16],
+    names: &[u8],
+    column: &Entry,
+    m: Mutator,
+    at: usize,
+    atoms: &mut Atoms,
+) -> Given
     requires { ⌜ Running (now text) (now ends) (now names) ⌝ }
     requires { ⌜ wellAt (now text) at ≡ true ⌝ }
-    ensures { λ r. ⌜ r ≡ written (namesAt (now (text .entry)) (now (names .entry))) (columnFrom (now (column .entry)) .base) (deleteFault (columnFrom (now (column .entry)))) (treeAt (now (text .entry)) at) .fault ⌝ }
+    ensures { λ r. ⌜ ValueGiven (namesAt (now (text .entry)) (now (names .entry))) (columnFrom (now (column .entry))) (mutationFault (columnFrom (now (column .entry))) m) (treeAt (now (text .entry)) at) (r .fault) (r .count) (r .fits) (now (atoms .exit)) ⌝ }
 {
-    let mut atoms = [[0u8; ATOM]; ELEMENTS];
-    let w = weigh(text, ends, names, column, at, &mut atoms);
-    let fair = w.different & w.within;
-    graded(w.typed, true, fair)
-}
-
-// How the operand of an arithmetic mutation is judged.
-pub fn operand_fault(text: &[u8], ends: &[u16], names: &[u8], column: &Entry, at: usize) -> Fault
-    requires { ⌜ Running (now text) (now ends) (now names) ⌝ }
-    requires { ⌜ wellAt (now text) at ≡ true ⌝ }
-    ensures { λ r. ⌜ r ≡ written (namesAt (now (text .entry)) (now (names .entry))) (columnFrom (now (column .entry)) .base) operandFault (treeAt (now (text .entry)) at) .fault ⌝ }
-{
-    let mut atoms = [[0u8; ATOM]; ELEMENTS];
-    let w = weigh(text, ends, names, column, at, &mut atoms);
+    let w = inspect(text, ends, names, column, at, atoms);
+    let v = mutation_fault(column, m, w);
     let n = w.count;
-    let one = n == 1;
-    graded(w.typed, true, one)
+    let fits = (n <= ELEMENTS) & w.short;
+    Given {
+        fault: v,
+        count: n,
+        fits: fits,
+    }
 }
 
 // How many elements a condition on a set may have.
@@ -239,80 +233,15 @@ pub fn test_value(
     requires { ⌜ wellAt (now text) at ≡ true ⌝ }
     ensures { λ r. ⌜ TestGiven (namesAt (now (text .entry)) (now (names .entry))) (columnFrom (now (column .entry))) f (treeAt (now (text .entry)) at) (r .fault) (r .count) (r .fits) (now (atoms .exit)) ⌝ }
 {
-    let w = weigh(text, ends, names, column, at, atoms);
+    let w = inspect(text, ends, names, column, at, atoms);
     let n = w.count;
     let k = test_count(column, f, n);
-    let fair = w.different & k;
-    let v = graded(w.typed, true, fair);
+    let allowed = w.different & k;
+    let v = first_fault(w.typed, true, allowed);
     let fits = (n <= ELEMENTS) & w.short;
     Given {
         fault: v,
         count: n,
         fits: fits,
     }
-}
-
-// How many elements there are from f on.
-fn count_from(text: &[u8], ends: &[u16], set: bool, f: Found) -> usize
-    requires { ⌜ Says (now text) (now ends) ⌝ }
-    ensures { λ r. ⌜ r ≡ length (elementsFrom (now (text .entry)) set f) ⌝ }
-{
-    let mut g = f;
-    let mut n: usize = 0;
-    loop {
-        match g {
-            Found::At(p) => {
-                n += 1;
-                g = elements::next_element(text, ends, p, set);
-            }
-            Found::Nothing => return n,
-        }
-    }
-}
-
-// How many elements the value at `at` has.
-pub fn count_at(text: &[u8], ends: &[u16], at: usize) -> usize
-    requires { ⌜ Says (now text) (now ends) ⌝ }
-    requires { ⌜ wellAt (now text) at ≡ true ⌝ }
-    ensures { λ r. ⌜ r ≡ length (elementsIn (treeAt (now (text .entry)) at)) ⌝ }
-{
-    let e = elements::elements_at(text, ends, at);
-    let set = e.set;
-    let f = e.first;
-    count_from(text, ends, set, f)
-}
-
-// The atoms of the value at `at`, in the text's order.
-pub fn atoms_at(text: &[u8], ends: &[u16], names: &[u8], kind: u8, at: usize) -> Atoms
-    requires { ⌜ Running (now text) (now ends) (now names) ⌝ }
-    requires { ⌜ wellAt (now text) at ≡ true ⌝ }
-    requires { ⌜ Fitting (namesAt (now text) (now names)) (baseNumbered kind) (treeAt (now text) at) ⌝ }
-    ensures { λ r. ⌜ r ≡ valueOf (atomsAs (namesAt (now (text .entry)) (now (names .entry))) (baseNumbered kind) (treeAt (now (text .entry)) at)) .atoms ⌝ }
-{
-    let e = elements::elements_at(text, ends, at);
-    let set = e.set;
-    let f = e.first;
-    element_sets::gather(text, ends, names, kind, set, f)
-}
-
-// The atoms that a mutation without a fault inserts, in the text's order.
-pub fn insert_atoms(text: &[u8], ends: &[u16], names: &[u8], column: &Entry, at: usize) -> Atoms
-    requires { ⌜ Running (now text) (now ends) (now names) ⌝ }
-    requires { ⌜ wellAt (now text) at ≡ true ⌝ }
-    requires { ⌜ isFine (written (namesAt (now text) (now names)) (columnFrom (now column) .base) (insertFault (columnFrom (now column))) (treeAt (now text) at) .fault) ≡ true ⌝ }
-    ensures { λ r. ⌜ r ≡ valueOf (written (namesAt (now (text .entry)) (now (names .entry))) (columnFrom (now (column .entry)) .base) (insertFault (columnFrom (now (column .entry)))) (treeAt (now (text .entry)) at) .got) .atoms ⌝ }
-{
-    let kind = catalog::kind(column);
-    atoms_at(text, ends, names, kind, at)
-}
-
-// The one atom of an arithmetic mutation's operand without a fault.
-pub fn operand_at(text: &[u8], ends: &[u16], names: &[u8], at: usize) -> Atom
-    requires { ⌜ Running (now text) (now ends) (now names) ⌝ }
-    requires { ⌜ wellAt (now text) at ≡ true ⌝ }
-    requires { ⌜ isFine (written (namesAt (now text) (now names)) integer operandFault (treeAt (now text) at) .fault) ≡ true ⌝ }
-    ensures { λ r. ⌜ written (namesAt (now (text .entry)) (now (names .entry))) integer operandFault (treeAt (now (text .entry)) at) .got ≡ r ∷ [] ⌝ }
-{
-    let a = atoms_at(text, ends, names, 0, at);
-    a[0]
 }

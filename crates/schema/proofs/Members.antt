@@ -30,7 +30,7 @@ use Rattle.tables.specs.Tables.{tableWith, FewColumns, TablesRead}
 use Rattle.tables.proofs.Cells.{name-front}
 use Rattle.tables.proofs.Each.{table-with, tables-same}
 use Rattle.tables.proofs.All.{short-cell, cell-name}
-use Rattle.schema.specs.Schema.{restTold, Filled}
+use Rattle.schema.specs.Schema.{restAllowed, Filled}
 
 no-tree : (s : List ℕ) {p : ℕ} → p ≡ 0 → slotTree s p ≡ null
 no-tree s h = rw h (slot-none s)
@@ -64,9 +64,9 @@ name-text (str t) h = cell-name t h
 name-text (arr xs) h = absurd (clash false h refl)
 name-text (obj ms) h = absurd (clash false h refl)
 
-id-told : (j : Json) → isId (textOf (nameCell j)) ≡ isStringOf isId j
+id-allowed : (j : Json) → isId (textOf (nameCell j)) ≡ isStringOf isId j
 unfolding nameCell
-id-told j = cell-id (wordIn j) ∙ id-string j
+id-allowed j = cell-id (wordIn j) ∙ id-string j
 
 no-text : (p : List ℕ → Bool) → isStringOf p null ≡ false
 unfolding kindOf
@@ -104,9 +104,9 @@ module _ (s : List ℕ) {p : ℕ} where
   some-tables h {n} {before} {after} r = subst (λ (x : Json). TablesRead x n before after) (sym (at-some s h)) r
 
 -- the tests as the code makes them
-pub rest-told : (s f : List ℕ) (id v c : Bool) → v ≡ isStringOf isVersion (slotTree s (getD f 1 0)) → c ≡ isText (kindOf (slotTree s (getD f 3 0))) → (eqb (getD f 9 0) 0 && (id && (v && (eqb (getD f 3 0) 0 || c)))) ≡ restTold s f id
-unfolding restTold
-rest-told s f id v c ev ec =
+pub rest-allowed : (s f : List ℕ) (id v c : Bool) → v ≡ isStringOf isVersion (slotTree s (getD f 1 0)) → c ≡ isText (kindOf (slotTree s (getD f 3 0))) → (eqb (getD f 9 0) 0 && (id && (v && (eqb (getD f 3 0) 0 || c)))) ≡ restAllowed s f id
+unfolding restAllowed
+rest-allowed s f id v c ev ec =
     rw (ev, ec)
     (ap
     (λ (x : Bool). eqb (getD f 9 0) 0 && (id && (isStringOf isVersion (slotTree s (getD f 1 0)) && x)))
@@ -151,15 +151,15 @@ module _ (s : List ℕ) (j : Json) (f : List ℕ) (k : Slots s schemaWords (memb
   abbrev slot : ℕ → ℕ
   slot i = getD f i 0
 
-  fit-is : schemaFits j ≡ (restTold s f id && must (ascii "tables") tablesFit ms)
-  unfolding schemaFits restTold
+  fit-is : schemaFits j ≡ (restAllowed s f id && must (ascii "tables") tablesFit ms)
+  unfolding schemaFits restAllowed
   fit-is =
       both (k .listed)
-      (both (must-null k 0 (omega arith) (isStringOf isId) (no-text isId) ∙ sym (ei ∙ id-told (slotTree s (slot 0))))
+      (both (must-null k 0 (omega arith) (isStringOf isId) (no-text isId) ∙ sym (ei ∙ id-allowed (slotTree s (slot 0))))
       (both (must-null k 1 (omega arith) (isStringOf isVersion) (no-text isVersion)) (both (may-slot k 3 (omega arith) isString) refl)))
       ∙ apart (eqb (slot 9) 0) id (isStringOf isVersion (slotTree s (slot 1))) (eqb (slot 3) 0 || isString (slotTree s (slot 3))) (must (ascii "tables") tablesFit ms)
 
-  pub fill-rest : restTold s f id ≡ false → Filled j false blanks
+  pub fill-rest : restAllowed s f id ≡ false → Filled j false blanks
   fill-rest h =
       record {
         fits = sym (fit-is ∙ rw h);
@@ -168,7 +168,7 @@ module _ (s : List ℕ) (j : Json) (f : List ℕ) (k : Slots s schemaWords (memb
         columns = blank-columns;
       }
 
-  module _ (rest : restTold s f id ≡ true) {n : ℕ} {mid : List (List ℕ)} (tr : TablesRead (slotTree s (getD f 2 0)) n blanks mid) where
+  module _ (rest : restAllowed s f id ≡ true) {n : ℕ} {mid : List (List ℕ)} (tr : TablesRead (slotTree s (getD f 2 0)) n blanks mid) where
     fit-tables : schemaFits j ≡ leb n 4
     fit-tables = fit-is ∙ rw rest (must-null k 2 (omega arith) tablesFit tables-null ∙ sym (tr .fits))
 
@@ -193,8 +193,8 @@ module _ (s : List ℕ) (j : Json) (f : List ℕ) (k : Slots s schemaWords (memb
       count-is = ap (λ (l : List ℕ). getD l 25 0) cell-first ∙ getD-at name n (replicate 22 0) 0 25 long
 
       id-is : isStringOf isId (slotTree s (slot 0)) ≡ true
-      unfolding restTold
-      id-is = sym (ei ∙ id-told (slotTree s (slot 0))) ∙ and-l id _ (and-r (eqb (slot 9) 0) _ rest)
+      unfolding restAllowed
+      id-is = sym (ei ∙ id-allowed (slotTree s (slot 0))) ∙ and-l id _ (and-r (eqb (slot 9) 0) _ rest)
 
       name-short : getD name 0 0 ≤ 24
       unfolding nameCell

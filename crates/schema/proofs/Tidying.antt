@@ -16,15 +16,17 @@ use Rattle.model.proofs.Catalogs.{catalog-length, catalog-read}
 use Rattle.catalog.specs.Accepted.{Accepted}
 use Rattle.catalog.specs.Tidied.{Readable}
 use Rattle.schema.specs.Schema.{EntriesRead, SchemaRead}
+use Rattle.schema.proofs.Members.{blanks}
 
 is-none : {A : Type 0} (o : Option A) → isSome o ≡ false → o ≡ none
 is-none none h = refl
 is-none (some a) h = absurd (clash true refl h)
 
 module _ (s : List ℕ) (cells : List (List ℕ)) (r : Bool) (x : EntriesRead s r cells) where
-  pub read-refused : r ≡ false → (after : List (List ℕ)) → SchemaRead s false after
-  read-refused e after = record {
+  pub read-refused : r ≡ false → SchemaRead s false blanks
+  read-refused e = record {
     refused = λ _. is-none (readSchema s) (sym (x .accepted) ∙ e);
+    blank = λ _. refl;
     database = λ q. absurd (clash false q refl);
     accepted = λ q. absurd (clash false q refl);
   }
@@ -43,6 +45,7 @@ module _ (s : List ℕ) (cells : List (List ℕ)) (r : Bool) (x : EntriesRead s 
       pub read-tidied : SchemaRead s true after
       read-tidied = record {
         refused = λ q. absurd (clash true refl q);
+        blank = λ q. absurd (clash true refl q);
         database = λ _. x .database e ∙ ap some (sym same);
         accepted = λ _. record {
           size = ap length t ∙ catalog-length (databaseFrom cells) sound;

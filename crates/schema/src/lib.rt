@@ -23,7 +23,7 @@ ghost use Rattle.model.specs.Catalog.{blankEntry};
 ghost use Rattle.names.specs.Names.{nameCell};
 ghost use Rattle.members.specs.Fields.{slotTree};
 ghost use Rattle.tables.specs.Tables.{TablesRead};
-ghost use Rattle.schema.specs.Schema.{restTold, Filled, EntriesRead, SchemaRead};
+ghost use Rattle.schema.specs.Schema.{restAllowed, Filled, EntriesRead, SchemaRead};
 
 // Whether the string in a slot is a version.
 fn version_in(text: &[u8], p: usize) -> bool
@@ -65,7 +65,7 @@ fn tables_in(text: &[u8], ends: &[u16], p: usize, cells: &mut [Entry]) -> usize
 // Whether the other members fit: f has the schema's slots, and id says whether its name is one.
 fn rest_fits(text: &[u8], f: Places, id: bool) -> bool
     requires { ⌜ length (now text) ≤ mostSchemaBytes ⌝ }
-    ensures { λ r. ⌜ r ≡ restTold (now (text .entry)) f id ⌝ }
+    ensures { λ r. ⌜ r ≡ restAllowed (now (text .entry)) f id ⌝ }
 {
     let v = version_in(text, f[1]);
     let k = members::kind_in(text, f[3]);
@@ -112,11 +112,12 @@ fn read_entries(text: &[u8], cells: &mut Catalog) -> bool
     }
 }
 
-// A schema's text, read into a catalog: whether it is accepted.
+// A schema's text, read into a catalog: whether it is accepted. One that is not leaves the catalog all 0.
 pub fn read(text: &[u8], cells: &mut Catalog) -> bool
     ensures { λ r. ⌜ SchemaRead (now (text .entry)) r (now (cells .exit)) ⌝ }
 {
     if !read_entries(text, cells) {
+        *cells = [[0u8; ENTRY]; ENTRIES];
         return false;
     }
     let tidied = catalog::tidied::tidied(cells);

@@ -28,7 +28,7 @@ use Rattle.model.proofs.Tests.{split, clash, bytes-same}
 use Rattle.nav.proofs.FirstByte.{items-in}
 use Rattle.nav.proofs.Walk.{walk-rest, walk-end}
 use Rattle.catalog.specs.Entries.{foundAt}
-use Rattle.lookup.specs.Lookup.{columnIn}
+use Rattle.conditions.specs.Lookup.{columnIn}
 use Rattle.request_rows.specs.Assigned.{slotted}
 use Rattle.selection.specs.declared.Columns.{Columns}
 use Rattle.selection.specs.Shown.{slotWell, among, fairName, withName, Flagged, ColumnsRead}

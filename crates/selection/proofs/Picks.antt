@@ -23,10 +23,10 @@ use Rattle.inner.specs.Working.{working, tableIn, idIn, valueIn}
 use Rattle.model.proofs.Tests.{split, and-l}
 use Rattle.inner.proofs.Working.{row-table, row-id, working-on, working-end}
 use Rattle.references.proofs.Links.{values-on}
-use Rattle.answer.specs.Put.{Put}
-use Rattle.answer.specs.Texts.{commaText, joined}
-use Rattle.answer.proofs.Putting.{put-is}
-use Rattle.answer.proofs.Joins.{rows-is}
+use Rattle.json_writer.specs.Put.{Put}
+use Rattle.json_writer.specs.Texts.{commaText, joined}
+use Rattle.json_writer.proofs.Putting.{put-is}
+use Rattle.json_writer.proofs.Joins.{rows-is}
 use Rattle.catalog.specs.Entries.{columnsAt}
 use Rattle.area.proofs.Schemas.{columns-in}
 use Rattle.projection.specs.Shown.{shownText, rowShown}
@@ -218,17 +218,3 @@ pub select-is : (schema : List (List ℕ)) (t : ℕ) → length schema ≡ 29 �
     → Put 200000 before at (ascii "{\"rows\":[" ++ (joined true (pickedFrom schema t flags (length (columnsAt schema t)) marks rows 0 (length rows)) ++ ascii "]}")) r after → Selected schema t rows flags marks before at r after
 unfolding Selected
 select-is schema t size few four lt rows flags marks q show ts fl mk = put-is q (answer-is schema t size few four lt rows flags marks show ts fl mk) (omega arith)
-
--- ── the rows in front, as those above lend them ──
-module _ (rows : List (List (List ℕ))) (n : ℕ) (room : n ≤ length rows) where
-  marks-front : (cs : List Column) (ts : List Test) (t : ℕ) (marks : List Bool) → MarkedRows cs ts t n rows marks → MarkedRows cs ts t (length (take n rows)) (take n rows) marks
-  unfolding MarkedRows
-  marks-front cs ts t marks k s h i l =
-      let j : i < n = omega (arith, length-take-le n rows room) in
-      k s h i j ∙ ap (λ (x : List (List ℕ)). matches t ts (rowFrom s x)) (sym (getD-take n rows i [] j))
-
-  pub select-front : (schema : List (List ℕ)) (t : ℕ) (flags marks : List Bool) {before after : List ℕ} {at r : ℕ} → Selected schema t (take n rows) flags marks before at r after
-      → (show : List ℕ → Bool) (ts : List Test) → Flagged show (columnsAt schema t) flags → MarkedRows (columnsOf (packedTables schema) t) ts t n rows marks
-      → Put 200000 before at (selected show (columnsOf (packedTables schema) t) t ts (working (packedTables schema) n rows)) r after
-  unfolding Selected working
-  select-front schema t flags marks q show ts fl mk = q show ts fl (marks-front (columnsOf (packedTables schema) t) ts t marks mk)

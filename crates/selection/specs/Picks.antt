@@ -15,7 +15,7 @@ use Rattle.model.specs.Areas.{rowFrom}
 use Rattle.model.specs.Catalog.{packedTables}
 use Rattle.inner.specs.Working.{idIn, valueIn}
 use Rattle.catalog.specs.Entries.{columnsAt}
-use Rattle.answer.specs.Put.{Put}
+use Rattle.json_writer.specs.Put.{Put}
 use Rattle.marks.specs.Marks.{MarkedRows}
 use Rattle.projection.specs.Shown.{rowShown}
 use Rattle.selection.specs.Most.{resultMost}

@@ -18,8 +18,8 @@ ghost use Rattle.model.specs.Operations.{namesIn, shownFault, columnsFault, sho
 ghost use Rattle.model.specs.Catalog.{columnFrom, tableCount, columnCount};
 ghost use Rattle.model.specs.Value.{sameValue};
 ghost use Rattle.inner.specs.Working.{valueIn};
-ghost use Rattle.answer.specs.Put.{Put};
-ghost use Rattle.answer.specs.Texts.{joined};
+ghost use Rattle.json_writer.specs.Put.{Put};
+ghost use Rattle.json_writer.specs.Texts.{joined};
 ghost use Rattle.catalog.specs.Accepted.{Accepted};
 ghost use Rattle.catalog.specs.Entries.{columnsAt};
 ghost use Rattle.projection.specs.Shown.{shownText, rowShown};
@@ -44,7 +44,7 @@ fn is_fair(text: &[u8], at: usize, columns: &[Entry], flags: &[bool; SHOWN]) -> 
     if id {
         return !flags[0];
     }
-    let f = lookup::column_at(text, at, columns);
+    let f = conditions::lookup::column_at(text, at, columns);
     match f {
         Found::At(c) => !flags[c + 1],
         Found::Nothing => false,
@@ -210,7 +210,7 @@ fn put_picked(
     ensures { λ r. ⌜ Put pickedMost (now (out .entry)) at (shownText pick first (rowShown (now (schema .entry)) table (now (row .entry)) (now (flags .entry)))) r (now (out .exit)) ⌝ }
 {
     if pick {
-        let r = answer::put_comma(out, at, first);
+        let r = json_writer::put_comma(out, at, first);
         return projection::put_row(out, r, schema, table, row, flags);
     }
     at
@@ -261,7 +261,7 @@ pub fn select_rows(
     ensures { λ r. ⌜ Selected (now (schema .entry)) table (now (rows .entry)) (now (flags .entry)) (now (marks .entry)) (now (out .entry)) at r (now (out .exit)) ⌝ }
 {
     let t = leaf::wide(table);
-    let a = answer::put_bytes(out, at, b"{\"rows\":[");
+    let a = json_writer::put_bytes(out, at, b"{\"rows\":[");
     let b = put_rows(out, a, schema, t, rows, flags, marks);
-    answer::put_bytes(out, b, b"]}")
+    json_writer::put_bytes(out, b, b"]}")
 }

@@ -6,7 +6,7 @@ use mathlib.Core.Option.{Option, none, some}
 use Prim.Native.Nat.{ℕ}
 use lib.ListN.{length, getD}
 use Rattle.model.specs.declared.Found.the-variants.{Nothing}
-use Rattle.model.specs.declared.Answer.the-variants.{Accepted, BadRequest, OtherDatabase, BadFreshIds}
+use Rattle.model.specs.declared.Status.the-variants.{Accepted, BadRequest, OtherDatabase, BadFreshIds}
 use Rattle.model.specs.Octets.{eqBytes}
 use Rattle.model.specs.Base.{isSome}
 use Rattle.model.specs.Json.{Json, null, bool, num, str, arr, obj}
@@ -26,7 +26,7 @@ use Rattle.uuids.specs.Named.{operationsAt}
 use Rattle.request.specs.declared.Request.{Request}
 use Rattle.request.specs.Reading.{RequestRead}
 use Rattle.fresh.specs.Fresh.{freshGood}
-use Rattle.store.specs.Replying.{transactOn, toldOf, replyOn, Asked}
+use Rattle.store.specs.Replying.{transactOn, concludedOf, replyOn, Asked}
 
 is-none : {A : Type 0} (o : Option A) → isSome o ≡ false → o ≡ none
 is-none none h = refl
@@ -49,11 +49,11 @@ module _ (cells : List (List ℕ)) (n : ℕ) (before : List (List (List ℕ))) (
   unfolding replyOn
   bad h number room = ap (replyTo (databaseFrom cells) number rows (freshIds fresh) room) (is-none (readRequest request) (sym (read .accepted) ∙ h))
 
-  pub asked-bad : q .fits ≡ false → Asked cells n before request fresh ends (record { runs = false; answer = BadRequest; ops = Nothing })
+  pub asked-bad : q .fits ≡ false → Asked cells n before request fresh ends (record { runs = false; status = BadRequest; ops = Nothing })
   asked-bad h = record {
     refuses = λ t. refl;
     refused = λ t. bad h;
-    told = λ t. absurd (clash false t refl);
+    concluded = λ t. absurd (clash false t refl);
     running = λ t. absurd (clash false t refl);
     few = λ t. absurd (clash false t refl);
     ids = λ t. absurd (clash false t refl);
@@ -71,11 +71,11 @@ module _ (cells : List (List ℕ)) (n : ℕ) (before : List (List (List ℕ))) (
     same-name : {b : Bool} → isWord (entryName (getD cells 0 [])) (treeAt request (q .name)) ≡ b → eqBytes (textIn (treeAt request (q .name))) (entryName (getD cells 0 [])) ≡ b
     same-name e = sym (word-is (entryName (getD cells 0 [])) (treeAt request (q .name)) (read .named h)) ∙ e
 
-    pub asked-other : isWord (entryName (getD cells 0 [])) (treeAt request (q .name)) ≡ false → Asked cells n before request fresh ends (record { runs = false; answer = OtherDatabase; ops = Nothing })
+    pub asked-other : isWord (entryName (getD cells 0 [])) (treeAt request (q .name)) ≡ false → Asked cells n before request fresh ends (record { runs = false; status = OtherDatabase; ops = Nothing })
     asked-other w = record {
       refuses = λ t. refl;
       refused = λ t number room. reads number room ∙ other number room;
-      told = λ t. absurd (clash false t refl);
+      concluded = λ t. absurd (clash false t refl);
       running = λ t. absurd (clash false t refl);
       few = λ t. absurd (clash false t refl);
       ids = λ t. absurd (clash false t refl);
@@ -98,32 +98,32 @@ module _ (cells : List (List ℕ)) (n : ℕ) (before : List (List (List ℕ))) (
       unfolding freshGood
       stale g number room = by-test (λ (r : Reply). r ≡ refused BadFreshIds rows) (idsGood (freshIds fresh) rows) (λ t. absurd (clash _ t g)) (λ t. refl)
 
-      pub asked-fresh : freshGood fresh rows ≡ false → Asked cells n before request fresh ends (record { runs = false; answer = BadFreshIds; ops = Nothing })
+      pub asked-fresh : freshGood fresh rows ≡ false → Asked cells n before request fresh ends (record { runs = false; status = BadFreshIds; ops = Nothing })
       asked-fresh g = record {
         refuses = λ t. refl;
         refused = λ t number room. goes number room ∙ stale g number room;
-        told = λ t. absurd (clash false t refl);
+        concluded = λ t. absurd (clash false t refl);
         running = λ t. absurd (clash false t refl);
         few = λ t. absurd (clash false t refl);
         ids = λ t. absurd (clash false t refl);
         operations = λ t. absurd (clash false t refl);
       }
 
-      runs : freshGood fresh rows ≡ true → (number room : ℕ) → freshly (packedTables cells) number rows (freshIds fresh) room asks ≡ toldOf (packedTables cells) number rows room (transactOn (packedTables cells) request (q .ops) fresh rows)
-      unfolding freshGood toldOf transactOn
+      runs : freshGood fresh rows ≡ true → (number room : ℕ) → freshly (packedTables cells) number rows (freshIds fresh) room asks ≡ concludedOf (packedTables cells) number rows room (transactOn (packedTables cells) request (q .ops) fresh rows)
+      unfolding freshGood concludedOf transactOn
       runs g number room =
-          by-test (λ (r : Reply). r ≡ toldOf (packedTables cells) number rows room (transactOn (packedTables cells) request (q .ops) fresh rows)) (idsGood (freshIds fresh) rows)
+          by-test (λ (r : Reply). r ≡ concludedOf (packedTables cells) number rows room (transactOn (packedTables cells) request (q .ops) fresh rows)) (idsGood (freshIds fresh) rows)
           (λ t. refl) (λ t. absurd (clash _ g t))
 
       ids-are : freshGood fresh rows ≡ true → idsGood (freshIds fresh) rows ≡ true
       unfolding freshGood
       ids-are g = g
 
-      pub asked-runs : freshGood fresh rows ≡ true → length fresh ≡ 256 → Asked cells n before request fresh ends (record { runs = true; answer = Accepted; ops = q .ops })
+      pub asked-runs : freshGood fresh rows ≡ true → length fresh ≡ 256 → Asked cells n before request fresh ends (record { runs = true; status = Accepted; ops = q .ops })
       asked-runs g l = record {
         refuses = λ t. absurd (clash true refl t);
         refused = λ t. absurd (clash true refl t);
-        told = λ t number room. goes number room ∙ runs g number room;
+        concluded = λ t number room. goes number room ∙ runs g number room;
         running = λ t. record { says = read .says h; fine = read .fine h; short = read .short h; ids = l };
         few = λ t. read .few h;
         ids = λ t. ids-are g;

@@ -19,8 +19,8 @@ use Rattle.model.specs.Catalog.{databaseFrom}
 use Rattle.area.specs.Layout.{rowCount}
 use Rattle.model.specs.Calls.{zeroed, Started, startAs, newStore, storeStart, Marked, markOn, storeMark}
 use Rattle.inner.specs.Working.{working}
-use Rattle.model.specs.declared.Answer.{Answer}
-use Rattle.model.specs.declared.Answer.the-variants.{Accepted, Disordered, WrongLength, BadSchema}
+use Rattle.model.specs.declared.Status.{Status}
+use Rattle.model.specs.declared.Status.the-variants.{Accepted, Disordered, WrongLength, BadSchema}
 use Rattle.model.specs.FirstRefusal.{storeStartNumber, markNumber}
 use Rattle.model.proofs.Demand1.{store-start-first, mark-first}
 use Rattle.model.proofs.StoreCalls.{filled-is}
@@ -33,26 +33,26 @@ use Rattle.record.specs.Writing.{Wrote}
 -- ── starting ──
 module _ (area schema : List ℕ) (run : ℕ) where
   -- an answer and an area are those of the call
-  abbrev Starts : Answer → List ℕ → Type 0
-  Starts r after = (r ≡ storeStart area schema run .answer) × (after ≡ storeStart area schema run .area)
+  abbrev Starts : Status → List ℕ → Type 0
+  Starts r after = (r ≡ storeStart area schema run .status) × (after ≡ storeStart area schema run .area)
 
-  starts : (z : Started) → storeStart area schema run ≡ z → Starts (z .answer) (z .area)
-  starts z e = (ap (λ (x : Started). x .answer) (sym e), ap (λ (x : Started). x .area) (sym e))
+  starts : (z : Started) → storeStart area schema run ≡ z → Starts (z .status) (z .area)
+  starts z e = (ap (λ (x : Started). x .status) (sym e), ap (λ (x : Started). x .area) (sym e))
 
   pub start-length : (length area ≡ storeBytes → ⊥) → Starts WrongLength area
   unfolding storeStart
-  start-length h = starts (record { answer = WrongLength; area = area }) (rw (ne-eqb (length area) storeBytes h, startAs))
+  start-length h = starts (record { status = WrongLength; area = area }) (rw (ne-eqb (length area) storeBytes h, startAs))
 
   module _ (size : length area ≡ storeBytes) where
     pub start-schema : readSchema schema ≡ none → Starts BadSchema area
     unfolding storeStart
-    start-schema h = starts (record { answer = BadSchema; area = area }) (rw (eq-eqb (length area) storeBytes size, startAs, h))
+    start-schema h = starts (record { status = BadSchema; area = area }) (rw (eq-eqb (length area) storeBytes size, startAs, h))
 
     pub start-made : (d : Database) (cells : List (List (List ℕ))) (after : List ℕ) → readSchema schema ≡ some d → after ≡ encodeStore (storeIn d run 0 0 cells) ++ drop storeBytes area → Starts Accepted after
     unfolding storeStart storeIn working
     start-made d cells after h w =
         let made = encodeStore (newStore run d) in
-        let z = starts (record { answer = Accepted; area = made }) (rw (eq-eqb (length area) storeBytes size, startAs, h)) in
+        let z = starts (record { status = Accepted; area = made }) (rw (eq-eqb (length area) storeBytes size, startAs, h)) in
         (z .0, w ∙ ap (λ (l : List ℕ). made ++ l) (drop-of-length-le area {i = storeBytes} (omega arith)) ∙ append-nil made ∙ z .1)
 
 -- ── the mark ──
@@ -62,19 +62,19 @@ drop-zeros (suc n) zero = let z : 0 - suc n ≡ 0 = omega arith in rw z
 drop-zeros (suc n) (suc k) = let z : suc k - suc n ≡ k - n = omega arith in rw z (drop-zeros n k)
 
 module _ (area out : List ℕ) where
-  abbrev Marks : Answer → List ℕ → Type 0
-  Marks r after = (r ≡ storeMark area out .answer) × (after ≡ storeMark area out .mark)
+  abbrev Marks : Status → List ℕ → Type 0
+  Marks r after = (r ≡ storeMark area out .status) × (after ≡ storeMark area out .mark)
 
   -- by the two tests of lengths
   picked : Bool → Bool → Marked
-  picked p q = elim (p && (q && true)) [ true ↦ markOn out (storeOf area) | false ↦ record { answer = WrongLength; mark = zeroed out } ]
+  picked p q = elim (p && (q && true)) [ true ↦ markOn out (storeOf area) | false ↦ record { status = WrongLength; mark = zeroed out } ]
 
   marked : (p q : Bool) → eqb (length area) storeBytes ≡ p → leb 9 (length out) ≡ q → storeMark area out ≡ picked p q
   unfolding storeMark picked
   marked p q e f = λ i. picked (e i) (f i)
 
-  marks : (z : Marked) → storeMark area out ≡ z → Marks (z .answer) (z .mark)
-  marks z e = (ap (λ (x : Marked). x .answer) (sym e), ap (λ (x : Marked). x .mark) (sym e))
+  marks : (z : Marked) → storeMark area out ≡ z → Marks (z .status) (z .mark)
+  marks z e = (ap (λ (x : Marked). x .status) (sym e), ap (λ (x : Marked). x .mark) (sym e))
 
   pub mark-length : (length area ≡ storeBytes → ⊥) → Marks WrongLength (replicate (length out) 0)
   unfolding picked
@@ -107,9 +107,9 @@ module _ (area out : List ℕ) where
           (y .0, w .bytes ∙ (λ i. same i ++ g i) ∙ sym f ∙ y .1)
 
 -- ── the numbers of the answers ──
-pub start-numbered : (area schema : List ℕ) (run : ℕ) {r : Answer} {after : List ℕ} → Starts area schema run r after → (numberOf r ≡ storeStartNumber area schema) × Starts area schema run r after
+pub start-numbered : (area schema : List ℕ) (run : ℕ) {r : Status} {after : List ℕ} → Starts area schema run r after → (numberOf r ≡ storeStartNumber area schema) × Starts area schema run r after
 start-numbered area schema run z = (ap numberOf (z .0) ∙ store-start-first area schema run, z)
 
-pub mark-numbered : (area out : List ℕ) {r : Answer} {after : List ℕ} → (r ≡ storeMark area out .answer) × (after ≡ storeMark area out .mark)
-    → (numberOf r ≡ markNumber area out) × ((r ≡ storeMark area out .answer) × (after ≡ storeMark area out .mark))
+pub mark-numbered : (area out : List ℕ) {r : Status} {after : List ℕ} → (r ≡ storeMark area out .status) × (after ≡ storeMark area out .mark)
+    → (numberOf r ≡ markNumber area out) × ((r ≡ storeMark area out .status) × (after ≡ storeMark area out .mark))
 mark-numbered area out z = (ap numberOf (z .0) ∙ mark-first area out, z)

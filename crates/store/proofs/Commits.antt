@@ -29,15 +29,15 @@ use Rattle.model.specs.Transact.{freshIds, namesOf, runAll, atCommit}
 use Rattle.model.specs.Written.{Names}
 use Rattle.model.proofs.Tests.{split, clash}
 use Rattle.model.proofs.TextUtf8.{by-test}
-use Rattle.answer.specs.Put.{Put}
-use Rattle.answer.specs.Texts.{commaText, errorResult}
-use Rattle.answer.proofs.Putting.{put-then, put-is}
-use Rattle.answer.proofs.Joins.{bracketed-is}
+use Rattle.json_writer.specs.Put.{Put}
+use Rattle.json_writer.specs.Texts.{commaText, errorResult}
+use Rattle.json_writer.proofs.Putting.{put-then, put-is}
+use Rattle.json_writer.proofs.Joins.{bracketed-is}
 use Rattle.uuids.specs.Named.{operationsAt, Filled}
 use Rattle.uuids.proofs.Table.{filled-names}
 use Rattle.commit.specs.declared.Settled.{Settled}
 use Rattle.commit.specs.Steps.{Committed}
-use Rattle.operations.specs.declared.Ran.{Ran}
+use Rattle.operations.specs.declared.Finish.{Finish}
 use Rattle.store.specs.declared.reply.Outcome.{Outcome}
 use Rattle.operations.specs.Running.{runWhole, RunAll}
 use Rattle.store.specs.Replying.{runOn, committed, transactOn, closing, Sure, Closed, Ended}
@@ -101,7 +101,7 @@ filled-run s text ops fresh names rows t =
     ap (λ (f : Names). runAll s f [] (freshIds names) rows (operationsAt text ops)) (filled-names t)
     ∙ ap (λ (ids : List ℕ). runAll s (namesOf (freshIds fresh) (operationsAt text ops)) [] ids rows (operationsAt text ops)) (t .ids)
 
-pub filled-all : (s : Schema) (text : List ℕ) (ops : Found) (fresh names : List ℕ) (rows : List Row) → Filled text ops fresh names → {n : ℕ} {entry mid : List (List (List ℕ))} {before answer : List ℕ} {q : Ran}
+pub filled-all : (s : Schema) (text : List ℕ) (ops : Found) (fresh names : List ℕ) (rows : List Row) → Filled text ops fresh names → {n : ℕ} {entry mid : List (List (List ℕ))} {before answer : List ℕ} {q : Finish}
     → RunAll s (runWhole s text ops names rows) n entry mid before answer q → RunAll s (runOn s text ops fresh rows) n entry mid before answer q
 filled-all s text ops fresh names rows t {n} {entry} {mid} {before} {answer} {q} r = subst (λ (d : model.Ran). RunAll s d n entry mid before answer q) (filled-run s text ops fresh names rows t) r
 
@@ -114,7 +114,7 @@ module _ (cells : List (List ℕ)) (ok : Accepted cells) (text : List ℕ) (ops 
       run-keeps (packedTables cells) (namesOf (freshIds fresh) os) [] (freshIds fresh) rows os (sane-modest (databaseFrom cells) (ok .sane)) (sure .operations)
       (omega (arith, few, length-map (itemsFrom text ops) membersIn, fresh-length fresh)) (fresh-short fresh size bytes) (sure .ids) (sure .sound .good) (sure .sound .meet) f .good .sorted
 
-  pub run-ordered : (n : ℕ) (entry mid : List (List (List ℕ))) {before answer : List ℕ} {q : Ran} → Sure (packedTables cells) text ops fresh (working (packedTables cells) n entry)
+  pub run-ordered : (n : ℕ) (entry mid : List (List (List ℕ))) {before answer : List ℕ} {q : Finish} → Sure (packedTables cells) text ops fresh (working (packedTables cells) n entry)
       → RunAll (packedTables cells) (runOn (packedTables cells) text ops fresh (working (packedTables cells) n entry)) n entry mid before answer q → q .count ≤ length mid → isFine (q .fault) ≡ true → Ordered (q .count) mid
   run-ordered n entry mid {q = q} sure ran h f =
       sorted-ordered (packedTables cells) (q .count) mid h (subst Sorted (sym (ran .rows f)) (run-sorted (working (packedTables cells) n entry) sure (ap isFine (sym (ran .fault)) ∙ f)))
@@ -147,7 +147,7 @@ module _ (s : Schema) (rows : List Row) (r : model.Ran) where
       by-test (λ (t : model.Transaction). t ≡ record { commits = false; rows = rows; text = bracketed (r .results ++ errorText (committed s (r .rows) .fault) ∷ []) }) (isFine (committed s (r .rows) .fault))
       (λ t. absurd (clash _ t h)) (λ t. refl)
 
-module _ (s : Schema) (text : List ℕ) (ops : Found) (fresh : List ℕ) (n : ℕ) (entry : List (List (List ℕ))) {mid : List (List (List ℕ))} {before answer : List ℕ} {q : Ran}
+module _ (s : Schema) (text : List ℕ) (ops : Found) (fresh : List ℕ) (n : ℕ) (entry : List (List (List ℕ))) {mid : List (List (List ℕ))} {before answer : List ℕ} {q : Finish}
     (ran : RunAll s (runOn s text ops fresh (working s n entry)) n entry mid before answer q) (kept : length mid ≡ length entry) where
   abbrev run : model.Ran
   run = runOn s text ops fresh (working s n entry)

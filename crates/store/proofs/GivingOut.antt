@@ -5,8 +5,8 @@ use mathlib.Core.List.{List, map}
 use Prim.Native.Nat.{ℕ, _-_, _≤_, _<_}
 use native.Mathlib.Omega.{arith}
 use lib.ListN.{length, replicate}
-use Rattle.model.specs.declared.Answer.{Answer}
-use Rattle.model.specs.declared.Answer.the-variants.{Accepted, NumbersSpent}
+use Rattle.model.specs.declared.Status.{Status}
+use Rattle.model.specs.declared.Status.the-variants.{Accepted, NumbersSpent}
 use Rattle.model.specs.Octets.{filled}
 use Rattle.model.specs.Limits.{lastNumber}
 use Rattle.model.specs.Base.{flat}
@@ -27,11 +27,11 @@ module _ (s : Schema) (a : List ℕ) (rows : List (List (List ℕ))) (count : �
   unfolding changesFrom
   changes-are = ap (λ (m : ℕ). diff s (working s m (rowsAt m a)) (working s count rows)) e
 
-  module _ (k : ℕ) (told : k ≡ length (diff s (working s n (rowsAt n a)) (working s count rows))) where
+  module _ (k : ℕ) (concluded : k ≡ length (diff s (working s n (rowsAt n a)) (working s count rows))) where
     count-is : k ≡ length es
-    count-is = told ∙ ap length changes-are
+    count-is = concluded ∙ ap length changes-are
 
-    pub out-spent : lastNumber - number < k → {mid recordsOut textOut : List ℕ} {x : Answer} {r : Effect} → length mid ≡ length recordsIn → Refused NumbersSpent mid recordsOut textIn textOut x → r ≡ noEffect x
+    pub out-spent : lastNumber - number < k → {mid recordsOut textOut : List ℕ} {x : Status} {r : Effect} → length mid ≡ length recordsIn → Refused NumbersSpent mid recordsOut textIn textOut x → r ≡ noEffect x
         → GivenOut s a rows count recordsIn recordsOut textIn textOut r
     out-spent h l x y =
         record {
@@ -40,12 +40,12 @@ module _ (s : Schema) (a : List ℕ) (rows : List (List (List ℕ))) (count : �
         }
 
     pub out-given : k ≤ lastNumber - number → {recordsOut : List ℕ} → recordsOut ≡ filled (length recordsIn) (flat (map encode (numberFrom run number (diff s (working s n (rowsAt n a)) (working s count rows)))))
-        → GivenOut s a rows count recordsIn recordsOut textIn textIn (record { answer = Accepted; commits = true; count = count; changes = k })
+        → GivenOut s a rows count recordsIn recordsOut textIn textIn (record { status = Accepted; commits = true; count = count; changes = k })
     out-given h b =
         record {
           spent = λ t. absurd (omega (arith, t, h, q, low, count-is));
           given = λ t. (
-            (λ i. record { answer = Accepted; commits = true; count = count; changes = count-is i }),
+            (λ i. record { status = Accepted; commits = true; count = count; changes = count-is i }),
             b ∙ (λ i. filled (length recordsIn) (flat (map encode (numberFrom (p i) (q i) (changes-are i))))),
             refl,
           );

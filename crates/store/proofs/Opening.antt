@@ -5,7 +5,7 @@ use mathlib.Core.List.{List}
 use mathlib.Core.Option.{none, some}
 use Prim.Native.Nat.{ℕ, _≤_}
 use native.Mathlib.Omega.{arith}
-use lib.ListN.{length, drop}
+use lib.ListN.{length, take, drop}
 use Rattle.model.specs.Limits.{entryBytes, entryCount, catalogOffset, storeBytes}
 use Rattle.model.specs.Base.{all}
 use Rattle.model.specs.Schema.{Schema}
@@ -15,10 +15,11 @@ use Rattle.model.specs.Areas.{decodeStore, entriesIn, storeOf}
 use Rattle.inner.specs.Working.{working}
 use Rattle.model.proofs.Tests.{clash}
 use Rattle.model.proofs.Octets.{octet}
-use Rattle.area.specs.Layout.{rowCount, partGood, Judged}
+use Rattle.area.specs.Layout.{rowCount, rowsAt, partGood, PartRead}
 use Rattle.area.specs.Writing.{numberIn, storeIn, when}
 use Rattle.area.proofs.Copies.{chunks-length}
 use Rattle.area.proofs.Good.{Holds}
+use Rattle.area.proofs.Schemas.{read-front}
 use Rattle.area.proofs.States.{part-passed}
 use Rattle.row_types.specs.Met.{rowsMeet}
 use Rattle.row_types.proofs.Passing.{rows-held, store-when}
@@ -50,14 +51,17 @@ module _ (a : List ℕ) (cells : List (List ℕ)) (x : Kept a cells) (size : len
   abbrev s : Schema
   s = packed.packedTables cells
 
-  module _ (rows : List (List (List ℕ))) (b : Bool) (j : Judged a cells rows b) where
+  module _ (before rows : List (List (List ℕ))) (b : Bool) (j : PartRead a cells before rows b) where
     is : storeOf a ≡ when (partGood cells a && (rowsMeet cells (rowCount a) rows && lawful s (working s (rowCount a) rows))) (decodeStore a)
-    is = store-when cells a (omega arith) bytes (x .there) (x .accepted) rows size (λ e. j .rows (j .good ∙ e))
+    is = store-when cells a (omega arith) bytes (x .there) (x .accepted) rows size (λ e. read-front cells a before j (j .good ∙ e))
 
-    pub opened-part : (before : List (List (List ℕ))) → length rows ≡ length before → b ≡ false → RowsOpened a cells before rows false
-    opened-part before g e = none-opened a cells before rows (is ∙ rw (sym (j .good) ∙ e)) g
+    pub opened-part : length rows ≡ length before → b ≡ false → RowsOpened a cells before rows false
+    opened-part g e = none-opened a cells before rows (is ∙ rw (sym (j .good) ∙ e)) g
 
     module _ (good : b ≡ true) where
+      front : take (rowCount a) rows ≡ rowsAt (rowCount a) a
+      front = read-front cells a before j good
+
       passed : partGood cells a ≡ true
       passed = sym (j .good) ∙ good
 
@@ -69,11 +73,11 @@ module _ (a : List ℕ) (cells : List (List ℕ)) (x : Kept a cells) (size : len
 
       store-here : decodeStore a ≡ storeIn (packed.databaseFrom cells) (runIn a) (numberIn a) (rowCount a) rows
       unfolding decodeStore storeIn
-      store-here = λ i. record { run = runIn a; number = numberIn a; database = packed.databaseFrom (sym (x .there) i); rows = rows-held cells a (omega arith) bytes (x .there) (x .accepted) rows passed (j .rows good) i }
+      store-here = λ i. record { run = runIn a; number = numberIn a; database = packed.databaseFrom (sym (x .there) i); rows = rows-held cells a (omega arith) bytes (x .there) (x .accepted) rows passed front i }
 
       module _ (n : ℕ) (e : n ≡ rowCount a) where
-        pub opened-types : (before : List (List (List ℕ))) → length rows ≡ length before → rowsMeet cells n rows ≡ false → RowsOpened a cells before rows false
-        opened-types before g h =
+        pub opened-types : length rows ≡ length before → rowsMeet cells n rows ≡ false → RowsOpened a cells before rows false
+        opened-types g h =
             let m : rowsMeet cells (rowCount a) rows ≡ false = ap (λ (k : ℕ). rowsMeet cells k rows) (sym e) ∙ h in
             none-opened a cells before rows (is ∙ rw (passed, m)) g
 
@@ -81,8 +85,8 @@ module _ (a : List ℕ) (cells : List (List ℕ)) (x : Kept a cells) (size : len
           m : rowsMeet cells (rowCount a) rows ≡ true
           m = ap (λ (k : ℕ). rowsMeet cells k rows) (sym e) ∙ met
 
-          pub opened-rules : (before : List (List (List ℕ))) → length rows ≡ length before → (r : Bool) → r ≡ lawful s (working s n rows) → RowsOpened a cells before rows r
-          opened-rules before g true d =
+          pub opened-rules : length rows ≡ length before → (r : Bool) → r ≡ lawful s (working s n rows) → RowsOpened a cells before rows r
+          opened-rules g true d =
               let l : lawful s (working s (rowCount a) rows) ≡ true = ap (λ (k : ℕ). lawful s (working s k rows)) (sym e) ∙ sym d in
               record {
                 good = λ _. record {
@@ -90,13 +94,13 @@ module _ (a : List ℕ) (cells : List (List ℕ)) (x : Kept a cells) (size : len
                   store = is ∙ rw (passed, m, l) (ap some store-here);
                   accepted = cells-accepted a cells x;
                   few = holds .few;
-                  tidy = rw (ap packed.packedTables (x .there), j .rows good) (holds .tidy);
+                  tidy = rw (ap packed.packedTables (x .there), front) (holds .tidy);
                   ordered = j .ordered good;
-                  read = j .rows good;
+                  read = front;
                 };
                 bad = λ q. absurd (clash true refl q);
                 room = g;
               }
-          opened-rules before g false d =
+          opened-rules g false d =
               let l : lawful s (working s (rowCount a) rows) ≡ false = ap (λ (k : ℕ). lawful s (working s k rows)) (sym e) ∙ sym d in
               none-opened a cells before rows (is ∙ rw (passed, m, l)) g

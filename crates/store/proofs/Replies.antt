@@ -7,8 +7,8 @@ use native.Mathlib.Omega.{arith}
 use borrow.Author.Tests.{leb-true, leb-false}
 use lib.Dec.{leb}
 use lib.ListN.{length, replicate}
-use Rattle.model.specs.declared.Answer.{Answer}
-use Rattle.model.specs.declared.Answer.the-variants.{Accepted, AnswerTooLong, NumbersSpent}
+use Rattle.model.specs.declared.Status.{Status}
+use Rattle.model.specs.declared.Status.the-variants.{Accepted, AnswerTooLong, NumbersSpent}
 use Rattle.model.specs.Octets.{filled}
 use Rattle.model.specs.Limits.{lastNumber}
 use Rattle.model.specs.Base.{flat}
@@ -28,7 +28,7 @@ use Rattle.store.specs.declared.reply.Question.{Question}
 use Rattle.store.specs.declared.reply.Outcome.{Outcome}
 use Rattle.store.specs.declared.reply.Effect.{Effect}
 use Rattle.store.specs.GoodOrder.{runIn, Held}
-use Rattle.store.specs.Replying.{transactOn, toldOf, replyOn, Asked, Ended, Refused, noEffect, changesFrom, GivenOut, Replied}
+use Rattle.store.specs.Replying.{transactOn, concludedOf, replyOn, Asked, Ended, Refused, noEffect, changesFrom, GivenOut, Replied}
 use Rattle.store.proofs.After.{fits, few-as}
 use Rattle.store.proofs.Telling.{area-rows, replied-refused, replied-long, replied-stays, replied-spent, replied-given}
 
@@ -40,11 +40,11 @@ module _ (cells : List (List ℕ)) (run number n : ℕ) (before : List (List (Li
   d = replyOn cells number n before request fresh (length textIn)
 
   -- a refusal in the end
-  module _ {why : Answer} (says : d ≡ refused why (working s n before)) (true-refusal : isRefusal why ≡ true) {exit : List (List (List ℕ))} {recordsMid recordsOut textMid textOut : List ℕ} (sized : length recordsMid ≡ length recordsIn) (long : length textMid ≡ length textIn) (room : length exit ≡ length before) where
-    reply-refuses : {x : Answer} → Refused why recordsMid recordsOut textMid textOut x → {r : Effect} → r ≡ noEffect x → Replied s d run number n before exit recordsIn recordsOut textIn textOut r
+  module _ {why : Status} (says : d ≡ refused why (working s n before)) (true-refusal : isRefusal why ≡ true) {exit : List (List (List ℕ))} {recordsMid recordsOut textMid textOut : List ℕ} (sized : length recordsMid ≡ length recordsIn) (long : length textMid ≡ length textIn) (room : length exit ≡ length before) where
+    reply-refuses : {x : Status} → Refused why recordsMid recordsOut textMid textOut x → {r : Effect} → r ≡ noEffect x → Replied s d run number n before exit recordsIn recordsOut textIn textOut r
     reply-refuses y h = replied-refused s d run number n before exit recordsIn textIn low recordsMid sized says true-refusal textMid (h ∙ ap noEffect (y .is)) (y .records) (y .text) long room
 
-  reply-asked : {ends : List ℕ} {q : Question} → Asked cells n before request fresh ends q → q .runs ≡ false → {recordsOut textOut : List ℕ} {x : Answer} → Refused (q .answer) recordsIn recordsOut textIn textOut x
+  reply-asked : {ends : List ℕ} {q : Question} → Asked cells n before request fresh ends q → q .runs ≡ false → {recordsOut textOut : List ℕ} {x : Status} → Refused (q .status) recordsIn recordsOut textIn textOut x
       → {r : Effect} → r ≡ noEffect x → Replied s d run number n before before recordsIn recordsOut textIn textOut r
   reply-asked a h = reply-refuses (a .refused h number (length textIn)) (a .refuses h) refl refl refl
 
@@ -54,31 +54,31 @@ module _ (cells : List (List ℕ)) (run number n : ℕ) (before : List (List (Li
     abbrev t : Transaction
     t = transactOn s request (q .ops) fresh (working s n before)
 
-    told : d ≡ toldOf s number (working s n before) (length textIn) t
-    told = a .told runs number (length textIn)
+    concluded : d ≡ concludedOf s number (working s n before) (length textIn) t
+    concluded = a .concluded runs number (length textIn)
 
-    reply-long : length textMid < o .at → {recordsOut textOut : List ℕ} {x : Answer} → Refused AnswerTooLong recordsIn recordsOut textMid textOut x
+    reply-long : length textMid < o .at → {recordsOut textOut : List ℕ} {x : Status} → Refused AnswerTooLong recordsIn recordsOut textMid textOut x
         → {r : Effect} → r ≡ noEffect x → Replied s d run number n before exit recordsIn recordsOut textIn textOut r
-    reply-long h = reply-refuses (replied-long s d run number n before exit recordsIn textIn low recordsIn refl told blank e (omega (arith, h, long))) refl refl long (e .room)
+    reply-long h = reply-refuses (replied-long s d run number n before exit recordsIn textIn low recordsIn refl concluded blank e (omega (arith, h, long))) refl refl long (e .room)
 
     module _ (h : o .at ≤ length textMid) where
       short : o .at ≤ length textIn
       short = omega (arith, h, long)
 
       reply-stays : o .commits ≡ false → n ≤ 32 → {recordsOut : List ℕ} → recordsOut ≡ replicate (length recordsIn) 0
-          → Replied s d run number n before exit recordsIn recordsOut textIn textMid (record { answer = Accepted; commits = false; count = n; changes = 0 })
-      reply-stays c k b = replied-stays s d run number n before exit recordsIn textIn low recordsIn refl told blank e short c k b
+          → Replied s d run number n before exit recordsIn recordsOut textIn textMid (record { status = Accepted; commits = false; count = n; changes = 0 })
+      reply-stays c k b = replied-stays s d run number n before exit recordsIn textIn low recordsIn refl concluded blank e short c k b
 
       -- a commit, by the changes from the rows that the area has
       module _ (c : o .commits ≡ true) (es : List Change) (same : es ≡ diff s (working s n before) (working s (o .count) exit)) where
         reply-spent : lastNumber < number + length es → {recordsOut textOut : List ℕ} {r : Effect} → r ≡ noEffect NumbersSpent → recordsOut ≡ zeroed recordsIn → textOut ≡ zeroed textMid
             → Replied s d run number n before exit recordsIn recordsOut textIn textOut r
-        reply-spent h x y z = replied-refused s d run number n before exit recordsIn textIn low recordsIn refl (replied-spent s d run number n before exit recordsIn textIn low recordsIn refl told blank e short c (ap length same) h) refl textMid x y z long (e .room)
+        reply-spent h x y z = replied-refused s d run number n before exit recordsIn textIn low recordsIn refl (replied-spent s d run number n before exit recordsIn textIn low recordsIn refl concluded blank e short c (ap length same) h) refl textMid x y z long (e .room)
 
         reply-given : number + length es ≤ lastNumber → {recordsOut : List ℕ} → recordsOut ≡ filled (length recordsIn) (flat (map encode (numberFrom run number es)))
-            → Replied s d run number n before exit recordsIn recordsOut textIn textMid (record { answer = Accepted; commits = true; count = o .count; changes = length es })
+            → Replied s d run number n before exit recordsIn recordsOut textIn textMid (record { status = Accepted; commits = true; count = o .count; changes = length es })
         reply-given h b =
-            replied-given s d run number n before exit recordsIn textIn low recordsIn refl told blank e short c (ap length same) h
+            replied-given s d run number n before exit recordsIn textIn low recordsIn refl concluded blank e short c (ap length same) h
             (b ∙ ap (λ (l : List Change). filled (length recordsIn) (flat (map encode (numberFrom run number l)))) same)
 
 -- ── by the area: how many rows the code says there are is what it says ──
@@ -94,18 +94,18 @@ module _ (a : List ℕ) (cells : List (List ℕ)) (before : List (List (List ℕ
     counted : {exit : List (List (List ℕ))} {recordsOut textOut : List ℕ} {r : Effect} → At m exit recordsOut textOut r → At (rowCount a) exit recordsOut textOut r
     counted {exit} {recordsOut} {textOut} {r} x = subst (λ (n : ℕ). At n exit recordsOut textOut r) e x
 
-    pub refused-asked : {ends : List ℕ} {q : Question} → Asked cells m before request fresh ends q → q .runs ≡ false → {recordsOut textOut : List ℕ} {x : Answer} → Refused (q .answer) recordsIn recordsOut textIn textOut x
+    pub refused-asked : {ends : List ℕ} {q : Question} → Asked cells m before request fresh ends q → q .runs ≡ false → {recordsOut textOut : List ℕ} {x : Status} → Refused (q .status) recordsIn recordsOut textIn textOut x
         → {r : Effect} → r ≡ noEffect x → At (rowCount a) before recordsOut textOut r
     refused-asked asked h x y = counted (reply-asked cells (runIn a) (numberIn a) m before request fresh recordsIn textIn low asked h x y)
 
     module _ {ends : List ℕ} {q : Question} (asked : Asked cells m before request fresh ends q) (runs : q .runs ≡ true)
         {text : List ℕ} (blank : text ≡ replicate (length textIn) 0) {exit : List (List (List ℕ))} {textMid : List ℕ} {o : Outcome}
         (ended : Ended (packedTables cells) (transactOn (packedTables cells) request (q .ops) fresh (working (packedTables cells) m before)) m before exit text textMid o) (long : length textMid ≡ length textIn) where
-      pub refused-long : length textMid < o .at → {recordsOut textOut : List ℕ} {x : Answer} → Refused AnswerTooLong recordsIn recordsOut textMid textOut x → {r : Effect} → r ≡ noEffect x → At (rowCount a) exit recordsOut textOut r
+      pub refused-long : length textMid < o .at → {recordsOut textOut : List ℕ} {x : Status} → Refused AnswerTooLong recordsIn recordsOut textMid textOut x → {r : Effect} → r ≡ noEffect x → At (rowCount a) exit recordsOut textOut r
       refused-long h x y = counted (reply-long cells (runIn a) (numberIn a) m before request fresh recordsIn textIn low asked runs blank ended long h x y)
 
       module _ (h : o .at ≤ length textMid) where
-        pub stays-as : o .commits ≡ false → {recordsOut : List ℕ} → recordsOut ≡ replicate (length recordsIn) 0 → At (rowCount a) exit recordsOut textMid (record { answer = Accepted; commits = false; count = m; changes = 0 })
+        pub stays-as : o .commits ≡ false → {recordsOut : List ℕ} → recordsOut ≡ replicate (length recordsIn) 0 → At (rowCount a) exit recordsOut textMid (record { status = Accepted; commits = false; count = m; changes = 0 })
         stays-as c b = counted (reply-stays cells (runIn a) (numberIn a) m before request fresh recordsIn textIn low asked runs blank ended long h c (few-as k m e) b)
 
         module _ (c : o .commits ≡ true) where

@@ -1,4 +1,4 @@
--- What is told in the end: refusals 7 and 10, and what is given where neither applies. Assumes nothing.
+-- What is concluded in the end: refusals 7 and 10, and what is given where neither applies. Assumes nothing.
 use mathlib.Core.Path.{_≡_, refl, sym, ap, subst, _∙_}
 use mathlib.Core.Bool.{true, false}
 use mathlib.Core.List.{List, [], map}
@@ -8,8 +8,8 @@ use borrow.Author.Tests.{le-leb, lt-leb}
 use lib.Dec.{leb}
 use lib.ListN.{length, take, drop, replicate, length-replicate}
 use lib.Seq.{take-all}
-use Rattle.model.specs.declared.Answer.{Answer}
-use Rattle.model.specs.declared.Answer.the-variants.{Accepted, AnswerTooLong, NumbersSpent}
+use Rattle.model.specs.declared.Status.{Status}
+use Rattle.model.specs.declared.Status.the-variants.{Accepted, AnswerTooLong, NumbersSpent}
 use Rattle.model.specs.Octets.{filled}
 use Rattle.model.specs.Limits.{lastNumber, rowsOffset}
 use Rattle.model.specs.Base.{flat}
@@ -27,11 +27,11 @@ use Rattle.model.specs.Calls.{zeroed}
 use Rattle.model.specs.Replies.{Reply, refused, changesOf, numbered}
 use Rattle.model.proofs.Tests.{clash}
 use Rattle.model.proofs.TextUtf8.{by-test}
-use Rattle.answer.specs.Put.{putAt}
-use Rattle.answer.proofs.Putting.{put-zeros}
+use Rattle.json_writer.specs.Put.{putAt}
+use Rattle.json_writer.proofs.Putting.{put-zeros}
 use Rattle.store.specs.declared.reply.Outcome.{Outcome}
 use Rattle.store.specs.declared.reply.Effect.{Effect}
-use Rattle.store.specs.Replying.{toldOf, Ended, noEffect, Replied}
+use Rattle.store.specs.Replying.{concludedOf, Ended, noEffect, Replied}
 
 -- a buffer to which nothing was written
 filled-none : (n : ℕ) → replicate n 0 ≡ filled n []
@@ -39,40 +39,40 @@ filled-none n = sym (take-all n (replicate n 0) (omega (arith, length-replicate 
 
 -- ── the two refusals, and what is given else ──
 module _ (s : Schema) (number : ℕ) (rows : List Row) (room : ℕ) (t : Transaction) where
-  told-long : room < length (t .text) → toldOf s number rows room t ≡ refused AnswerTooLong rows
-  unfolding toldOf
-  told-long h = by-test (λ (r : Reply). r ≡ refused AnswerTooLong rows) (leb (length (t .text)) room) (λ e. absurd (clash _ e (lt-leb (length (t .text)) room h))) (λ e. refl)
+  concluded-long : room < length (t .text) → concludedOf s number rows room t ≡ refused AnswerTooLong rows
+  unfolding concludedOf
+  concluded-long h = by-test (λ (r : Reply). r ≡ refused AnswerTooLong rows) (leb (length (t .text)) room) (λ e. absurd (clash _ e (lt-leb (length (t .text)) room h))) (λ e. refl)
 
   module _ (h : length (t .text) ≤ room) where
-    told-fits : {es : List Change} → changesOf s rows t ≡ es → toldOf s number rows room t ≡ numbered number rows t es
-    unfolding toldOf
-    told-fits e =
+    concluded-fits : {es : List Change} → changesOf s rows t ≡ es → concludedOf s number rows room t ≡ numbered number rows t es
+    unfolding concludedOf
+    concluded-fits e =
         by-test (λ (r : Reply). r ≡ numbered number rows t (changesOf s rows t)) (leb (length (t .text)) room) (λ e. refl) (λ e. absurd (clash _ (le-leb (length (t .text)) room h) e))
         ∙ ap (numbered number rows t) e
 
     module _ (es : List Change) where
-      enough : number + length es ≤ lastNumber → numbered number rows t es ≡ record { answer = Accepted; rows = t .rows; changes = es; text = t .text }
+      enough : number + length es ≤ lastNumber → numbered number rows t es ≡ record { status = Accepted; rows = t .rows; changes = es; text = t .text }
       enough k =
-          by-test (λ (r : Reply). r ≡ record { answer = Accepted; rows = t .rows; changes = es; text = t .text }) (leb (number + length es) lastNumber) (λ e. refl)
+          by-test (λ (r : Reply). r ≡ record { status = Accepted; rows = t .rows; changes = es; text = t .text }) (leb (number + length es) lastNumber) (λ e. refl)
           (λ e. absurd (clash _ (le-leb (number + length es) lastNumber k) e))
 
       spent : lastNumber < number + length es → numbered number rows t es ≡ refused NumbersSpent rows
       spent k = by-test (λ (r : Reply). r ≡ refused NumbersSpent rows) (leb (number + length es) lastNumber) (λ e. absurd (clash _ e (lt-leb (number + length es) lastNumber k))) (λ e. refl)
 
-    told-stays : t .commits ≡ false → number ≤ lastNumber → toldOf s number rows room t ≡ record { answer = Accepted; rows = t .rows; changes = []; text = t .text }
-    told-stays c k =
+    concluded-stays : t .commits ≡ false → number ≤ lastNumber → concludedOf s number rows room t ≡ record { status = Accepted; rows = t .rows; changes = []; text = t .text }
+    concluded-stays c k =
         let z : number + 0 ≤ lastNumber = omega arith in
-        told-fits (by-test (λ (l : List Change). l ≡ []) (t .commits) (λ e. absurd (clash _ e c)) (λ e. refl)) ∙ enough [] z
+        concluded-fits (by-test (λ (l : List Change). l ≡ []) (t .commits) (λ e. absurd (clash _ e c)) (λ e. refl)) ∙ enough [] z
 
     module _ (c : t .commits ≡ true) where
       some-changes : changesOf s rows t ≡ diff s rows (t .rows)
       some-changes = by-test (λ (l : List Change). l ≡ diff s rows (t .rows)) (t .commits) (λ e. refl) (λ e. absurd (clash _ c e))
 
-      told-given : number + length (diff s rows (t .rows)) ≤ lastNumber → toldOf s number rows room t ≡ record { answer = Accepted; rows = t .rows; changes = diff s rows (t .rows); text = t .text }
-      told-given k = told-fits some-changes ∙ enough (diff s rows (t .rows)) k
+      concluded-given : number + length (diff s rows (t .rows)) ≤ lastNumber → concludedOf s number rows room t ≡ record { status = Accepted; rows = t .rows; changes = diff s rows (t .rows); text = t .text }
+      concluded-given k = concluded-fits some-changes ∙ enough (diff s rows (t .rows)) k
 
-      told-spent : lastNumber < number + length (diff s rows (t .rows)) → toldOf s number rows room t ≡ refused NumbersSpent rows
-      told-spent k = told-fits some-changes ∙ spent (diff s rows (t .rows)) k
+      concluded-spent : lastNumber < number + length (diff s rows (t .rows)) → concludedOf s number rows room t ≡ refused NumbersSpent rows
+      concluded-spent k = concluded-fits some-changes ∙ spent (diff s rows (t .rows)) k
 
 -- ── the rows that the area has are those that were read from it ──
 pub area-rows : (s : Schema) (n : ℕ) (rows : List (List (List ℕ))) (a : List ℕ) → take n rows ≡ rowsAt n a → working s n (rowsAt n a) ≡ working s n rows
@@ -86,14 +86,14 @@ area-ordered n rows a e o =
 
 -- ── the whole ──
 module _ (s : Schema) (d : Reply) (run number n : ℕ) (before exit : List (List (List ℕ))) (recordsIn textIn : List ℕ) (low : number ≤ lastNumber) (records : List ℕ) (same : length records ≡ length recordsIn) where
-  pub replied-refused : {why : Answer} → d ≡ refused why (working s n before) → isRefusal why ≡ true → (text : List ℕ) {recordsOut textOut : List ℕ} {r : Effect} → r ≡ noEffect why → recordsOut ≡ zeroed records → textOut ≡ zeroed text
+  pub replied-refused : {why : Status} → d ≡ refused why (working s n before) → isRefusal why ≡ true → (text : List ℕ) {recordsOut textOut : List ℕ} {r : Effect} → r ≡ noEffect why → recordsOut ≡ zeroed records → textOut ≡ zeroed text
       → length text ≡ length textIn → length exit ≡ length before → Replied s d run number n before exit recordsIn recordsOut textIn textOut r
   replied-refused {why} e h text {recordsOut} {textOut} {r} x y z l g =
       let b : recordsOut ≡ replicate (length recordsIn) 0 = y ∙ ap (λ (k : ℕ). replicate k 0) same in
       let c : textOut ≡ replicate (length textIn) 0 = z ∙ ap (λ (k : ℕ). replicate k 0) l in
       let no : r .commits ≡ false = ap (λ (r : Effect). r .commits) x in
       record {
-        answer = ap (λ (r : Effect). r .answer) x ∙ sym (ap (λ (d : Reply). d .answer) e);
+        status = ap (λ (r : Effect). r .status) x ∙ sym (ap (λ (d : Reply). d .status) e);
         refuses = λ t. no;
         rows = λ t. absurd (clash (r .commits) t no);
         stays = λ t. ap (λ (d : Reply). d .rows) e;
@@ -108,9 +108,9 @@ module _ (s : Schema) (d : Reply) (run number n : ℕ) (before exit : List (List
         blank = λ t. (b, c);
       }
 
-  module _ {t : Transaction} (told : d ≡ toldOf s number (working s n before) (length textIn) t) {text textOut : List ℕ} (blank : text ≡ replicate (length textIn) 0) {o : Outcome} (e : Ended s t n before exit text textOut o) where
+  module _ {t : Transaction} (concluded : d ≡ concludedOf s number (working s n before) (length textIn) t) {text textOut : List ℕ} (blank : text ≡ replicate (length textIn) 0) {o : Outcome} (e : Ended s t n before exit text textOut o) where
     pub replied-long : length textIn < o .at → d ≡ refused AnswerTooLong (working s n before)
-    replied-long h = told ∙ told-long s number (working s n before) (length textIn) t (omega (arith, h, e .text .count))
+    replied-long h = concluded ∙ concluded-long s number (working s n before) (length textIn) t (omega (arith, h, e .text .count))
 
     module _ (short : o .at ≤ length textIn) where
       fits : length (t .text) ≤ length textIn
@@ -120,11 +120,11 @@ module _ (s : Schema) (d : Reply) (run number n : ℕ) (before exit : List (List
       text-is = e .text .out ∙ ap (λ (l : List ℕ). putAt l 0 (t .text)) blank ∙ put-zeros (length textIn) (t .text)
 
       pub replied-stays : o .commits ≡ false → n ≤ 32 → {recordsOut : List ℕ} → recordsOut ≡ replicate (length records) 0
-          → Replied s d run number n before exit recordsIn recordsOut textIn textOut (record { answer = Accepted; commits = false; count = n; changes = 0 })
+          → Replied s d run number n before exit recordsIn recordsOut textIn textOut (record { status = Accepted; commits = false; count = n; changes = 0 })
       replied-stays c k b =
-          let w = told ∙ told-stays s number (working s n before) (length textIn) t fits (sym (e .commits) ∙ c) low in
+          let w = concluded ∙ concluded-stays s number (working s n before) (length textIn) t fits (sym (e .commits) ∙ c) low in
           record {
-            answer = sym (ap (λ (d : Reply). d .answer) w);
+            status = sym (ap (λ (d : Reply). d .status) w);
             refuses = λ x. refl;
             rows = λ x. absurd (clash false x refl);
             stays = λ x. ap (λ (d : Reply). d .rows) w ∙ e .stays c;
@@ -147,15 +147,15 @@ module _ (s : Schema) (d : Reply) (run number n : ℕ) (before exit : List (List
         count-is = count ∙ ap (λ (l : List Row). length (diff s (working s n before) l)) rows-are
 
         pub replied-spent : 4294967295 < number + k → d ≡ refused NumbersSpent (working s n before)
-        replied-spent h = told ∙ told-spent s number (working s n before) (length textIn) t fits (sym (e .commits) ∙ c) (subst (λ (k : ℕ). 4294967295 < number + k) count-is h)
+        replied-spent h = concluded ∙ concluded-spent s number (working s n before) (length textIn) t fits (sym (e .commits) ∙ c) (subst (λ (k : ℕ). 4294967295 < number + k) count-is h)
 
         pub replied-given : number + k ≤ 4294967295 → {recordsOut : List ℕ}
             → recordsOut ≡ filled (length records) (flat (map encode (numberFrom run number (diff s (working s n before) (working s (o .count) exit)))))
-            → Replied s d run number n before exit recordsIn recordsOut textIn textOut (record { answer = Accepted; commits = true; count = o .count; changes = k })
+            → Replied s d run number n before exit recordsIn recordsOut textIn textOut (record { status = Accepted; commits = true; count = o .count; changes = k })
         replied-given h b =
-            let w = told ∙ told-given s number (working s n before) (length textIn) t fits (sym (e .commits) ∙ c) (subst (λ (k : ℕ). number + k ≤ 4294967295) count-is h) in
+            let w = concluded ∙ concluded-given s number (working s n before) (length textIn) t fits (sym (e .commits) ∙ c) (subst (λ (k : ℕ). number + k ≤ 4294967295) count-is h) in
             record {
-              answer = sym (ap (λ (d : Reply). d .answer) w);
+              status = sym (ap (λ (d : Reply). d .status) w);
               refuses = λ x. absurd (clash false x refl);
               rows = λ x. rows-are ∙ sym (ap (λ (d : Reply). d .rows) w);
               stays = λ x. absurd (clash true refl x);

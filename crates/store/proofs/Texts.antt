@@ -20,8 +20,8 @@ use Rattle.model.specs.Transact.{Ran, freshIds, namesOf, runAll}
 use Rattle.model.proofs.TextUtf8.{by-test}
 use Rattle.model.proofs.Tests.{clash}
 use Rattle.nav.proofs.Walk.{walk-end, walk-rest}
-use Rattle.answer.specs.Texts.{commaText, joined, errorResult}
-use Rattle.answer.proofs.Joins.{bracketed-is}
+use Rattle.json_writer.specs.Texts.{commaText, joined, errorResult}
+use Rattle.json_writer.proofs.Joins.{bracketed-is}
 use Rattle.uuids.specs.Named.{operationsAt}
 use Rattle.store.specs.Replying.{runOn, closing}
 

@@ -22,8 +22,8 @@ use Rattle.inner.specs.Working.{working}
 use Rattle.model.specs.Areas.{Store, encodeStore, storeOf}
 use Rattle.model.specs.Calls.{lengthsGood, Transacted, transactRefused, storeAfter, recordsAfter, transactReplied, transactOn, storeTransact}
 use Rattle.model.specs.FirstRefusal.{transactNumber}
-use Rattle.model.specs.declared.Answer.{Answer}
-use Rattle.model.specs.declared.Answer.the-variants.{Disordered, WrongLength}
+use Rattle.model.specs.declared.Status.{Status}
+use Rattle.model.specs.declared.Status.the-variants.{Disordered, WrongLength}
 use Rattle.model.proofs.Tests.{split, clash, parts}
 use Rattle.model.proofs.Same.{diff-self}
 use Rattle.model.proofs.Areas.{store-of-is}
@@ -40,10 +40,10 @@ pub and-true : (b : Bool) → b ≡ (b && true)
 and-true true = refl
 and-true false = refl
 
--- the right lengths, one by one
-pub lengths : (area fresh records text : List ℕ) → lengthsGood area fresh records text ≡ true → (length area ≡ storeBytes) × (length fresh ≡ 256) × (26249 ≤ length records)
-lengths area fresh records text h =
-    let p = parts (eqb (length area) storeBytes ∷ eqb (length fresh) 256 ∷ leb 26249 (length records) ∷ leb 64 (length text) ∷ []) h in
+-- the right lengths, one by one, by what the code says of them
+pub lengths : (area fresh records text : List ℕ) (b : Bool) → b ≡ lengthsGood area fresh records text → b ≡ true → (length area ≡ storeBytes) × (length fresh ≡ 256) × (26249 ≤ length records)
+lengths area fresh records text b e h =
+    let p = parts (eqb (length area) storeBytes ∷ eqb (length fresh) 256 ∷ leb 26249 (length records) ∷ leb 64 (length text) ∷ []) (sym e ∙ h) in
     (eqb-true (length area) storeBytes (p .0), eqb-true (length fresh) 256 (p .1 .0), leb-true 26249 (length records) (p .1 .1 .0))
 
 -- rows that stay are no change
@@ -56,14 +56,14 @@ module _ (area request fresh records text : List ℕ) where
   call = storeTransact area request fresh records text
 
   -- an answer, an area and both buffers are those of the call, and the answer's number is that of the first refusal that applies
-  abbrev Leaves : Answer → List ℕ → List ℕ → List ℕ → Type 0
-  Leaves r a x t = (numberOf r ≡ transactNumber area request fresh records text) × (call ≡ record { answer = r; area = a; records = x; text = t })
+  abbrev Leaves : Status → List ℕ → List ℕ → List ℕ → Type 0
+  Leaves r a x t = (numberOf r ≡ transactNumber area request fresh records text) × (call ≡ record { status = r; area = a; records = x; text = t })
 
-  leaves : {r : Answer} {a x t : List ℕ} → call ≡ record { answer = r; area = a; records = x; text = t } → Leaves r a x t
-  leaves e = (ap (λ (z : Transacted). numberOf (z .answer)) (sym e) ∙ transact-first area request fresh records text, e)
+  leaves : {r : Status} {a x t : List ℕ} → call ≡ record { status = r; area = a; records = x; text = t } → Leaves r a x t
+  leaves e = (ap (λ (z : Transacted). numberOf (z .status)) (sym e) ∙ transact-first area request fresh records text, e)
 
-  refused-is : {why r : Answer} {x t : List ℕ} → Refused why records x text t r → transactRefused why area records text ≡ record { answer = r; area = area; records = x; text = t }
-  refused-is y = λ i. record { answer = sym (y .is) i; area = area; records = sym (y .records) i; text = sym (y .text) i }
+  refused-is : {why r : Status} {x t : List ℕ} → Refused why records x text t r → transactRefused why area records text ≡ record { status = r; area = area; records = x; text = t }
+  refused-is y = λ i. record { status = sym (y .is) i; area = area; records = sym (y .records) i; text = sym (y .text) i }
 
   -- by the test of the lengths
   chosen : Bool → Transacted
@@ -73,16 +73,16 @@ module _ (area request fresh records text : List ℕ) where
   unfolding storeTransact chosen
   by-lengths b e = ap chosen e
 
-  pub transact-length : lengthsGood area fresh records text ≡ false → {r : Answer} {x t : List ℕ} → Refused WrongLength records x text t r → Leaves r area x t
+  pub transact-length : (b : Bool) → b ≡ lengthsGood area fresh records text → b ≡ false → {r : Status} {x t : List ℕ} → Refused WrongLength records x text t r → Leaves r area x t
   unfolding chosen
-  transact-length h y = leaves (by-lengths false h ∙ refused-is y)
+  transact-length b e h y = leaves (by-lengths false (sym e ∙ h) ∙ refused-is y)
 
-  module _ (good : lengthsGood area fresh records text ≡ true) where
+  module _ (b : Bool) (said : b ≡ lengthsGood area fresh records text) (good : b ≡ true) where
     by-store : (o : Option Store) → storeOf area ≡ o → call ≡ transactOn area request fresh records text o
     unfolding chosen
-    by-store o e = by-lengths true good ∙ ap (transactOn area request fresh records text) e
+    by-store o e = by-lengths true (sym said ∙ good) ∙ ap (transactOn area request fresh records text) e
 
-    pub transact-disordered : storeOf area ≡ none → {r : Answer} {x t : List ℕ} → Refused Disordered records x text t r → Leaves r area x t
+    pub transact-disordered : storeOf area ≡ none → {r : Status} {x t : List ℕ} → Refused Disordered records x text t r → Leaves r area x t
     transact-disordered h y = leaves (by-store none h ∙ refused-is y)
 
     module _ (cells : List (List ℕ)) (rows : List (List (List ℕ))) (k : Held area cells rows) where
@@ -104,12 +104,12 @@ module _ (area request fresh records text : List ℕ) where
 
       -- what an accepted call leaves
       given : Transacted
-      given = record { answer = d .answer; area = encodeStore (storeAfter store d); records = filled (length records) (recordsAfter store d); text = filled (length text) (d .text) }
+      given = record { status = d .status; area = encodeStore (storeAfter store d); records = filled (length records) (recordsAfter store d); text = filled (length text) (d .text) }
 
       picked : Bool → Transacted
-      picked b = elim b [ true ↦ transactRefused (d .answer) area records text | false ↦ given ]
+      picked b = elim b [ true ↦ transactRefused (d .status) area records text | false ↦ given ]
 
-      by-answer : (b : Bool) → isRefusal (d .answer) ≡ b → call ≡ picked b
+      by-answer : (b : Bool) → isRefusal (d .status) ≡ b → call ≡ picked b
       unfolding picked given
       by-answer b e = by-reply ∙ ap picked e
 
@@ -132,23 +132,23 @@ module _ (area request fresh records text : List ℕ) where
 
       module _ {exit : List (List (List ℕ))} {recordsOut textOut : List ℕ} {r : Effect} (w : Replied s d (runIn area) (numberIn area) n rows exit records recordsOut text textOut r) where
         -- accepted: both buffers are as the reply left them
-        accepted : isRefusal (d .answer) ≡ false → {after : List ℕ} → after ≡ encodeStore (storeAfter store d) → Leaves (r .answer) after recordsOut textOut
+        accepted : isRefusal (d .status) ≡ false → {after : List ℕ} → after ≡ encodeStore (storeAfter store d) → Leaves (r .status) after recordsOut textOut
         unfolding storeIn picked given
-        accepted f h = leaves (by-answer false f ∙ (λ i. record { answer = sym (w .answer) i; area = sym h i; records = sym (w .records) i; text = sym (w .text) i }))
+        accepted f h = leaves (by-answer false f ∙ (λ i. record { status = sym (w .status) i; area = sym h i; records = sym (w .records) i; text = sym (w .text) i }))
 
-        pub transact-stays : r .commits ≡ false → Leaves (r .answer) area recordsOut textOut
+        pub transact-stays : r .commits ≡ false → Leaves (r .status) area recordsOut textOut
         unfolding picked
         transact-stays c =
-            split (isRefusal (d .answer))
+            split (isRefusal (d .status))
             (λ f.
-            let b = w .blank (ap isRefusal (w .answer) ∙ f) in
-            leaves (by-answer true f ∙ (λ i. record { answer = sym (w .answer) i; area = area; records = sym (b .0) i; text = sym (b .1) i })))
+            let b = w .blank (ap isRefusal (w .status) ∙ f) in
+            leaves (by-answer true f ∙ (λ i. record { status = sym (w .status) i; area = area; records = sym (b .0) i; text = sym (b .1) i })))
             (λ f. accepted f (stays (w .stays c)))
 
-        pub transact-commits : r .commits ≡ true → r .count ≤ length exit → (number : ℕ) → number ≡ numberIn area → (middle after : List ℕ) → middle ≡ placed 4 4 (big 4 (number + r .changes)) area → after ≡ placed countOffset 20001 (rowsPart (r .count) exit) middle → Leaves (r .answer) after recordsOut textOut
+        pub transact-commits : r .commits ≡ true → r .count ≤ length exit → (number : ℕ) → number ≡ numberIn area → (middle after : List ℕ) → middle ≡ placed 4 4 (big 4 (number + r .changes)) area → after ≡ placed countOffset 20001 (rowsPart (r .count) exit) middle → Leaves (r .status) after recordsOut textOut
         unfolding storeIn
         transact-commits c h number q middle after u v =
-            let f : isRefusal (d .answer) ≡ false = split (isRefusal (d .answer)) (λ f. absurd (clash (r .commits) c (w .refuses (ap isRefusal (w .answer) ∙ f)))) (λ f. f) in
+            let f : isRefusal (d .status) ≡ false = split (isRefusal (d .status)) (λ f. absurd (clash (r .commits) c (w .refuses (ap isRefusal (w .status) ∙ f)))) (λ f. f) in
             accepted f (
             v ∙ ap (placed countOffset 20001 (rowsPart (r .count) exit)) u ∙ area-after area cells rows k (number + r .changes) (r .count) exit h (w .tidy c (k .tidy))
             ∙ (λ i. encodeStore (record { run = runIn area; number = q i + w .changes i; database = databaseFrom cells; rows = w .rows c i })))

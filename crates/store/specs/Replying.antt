@@ -5,8 +5,8 @@ use mathlib.Core.Bool.{Bool, true, false}
 use mathlib.Core.List.{List, [], _∷_, _++_, map}
 use lib.ListN.{length, take}
 use Rattle.model.specs.declared.Found.{Found}
-use Rattle.model.specs.declared.Answer.{Answer}
-use Rattle.model.specs.declared.Answer.the-variants.{Accepted, NumbersSpent}
+use Rattle.model.specs.declared.Status.{Status}
+use Rattle.model.specs.declared.Status.the-variants.{Accepted, NumbersSpent}
 use Rattle.model.specs.declared.Fault.{Fault}
 use Rattle.model.specs.Octets.{filled}
 use Rattle.model.specs.Limits.{lastNumber, mostRows, mostOperations, mostRequestBytes, freshBytes}
@@ -25,11 +25,11 @@ use Rattle.model.specs.Transact.{freshIds, idsGood, namesOf, runAll, transactRo
 use Rattle.model.proofs.RunKeeps.{operationGood, Sound}
 use Rattle.model.specs.Calls.{zeroed}
 use Rattle.model.specs.Replies as replies
-use Rattle.model.specs.Replies.{refused, told, reply}
+use Rattle.model.specs.Replies.{refused, concluded, reply}
 use Rattle.area.specs.Layout.{rowCount, rowsAt}
 use Rattle.area.specs.Writing.{numberIn}
-use Rattle.answer.specs.Put.{Put}
-use Rattle.answer.specs.Texts.{commaText, errorResult}
+use Rattle.json_writer.specs.Put.{Put}
+use Rattle.json_writer.specs.Texts.{commaText, errorResult}
 use Rattle.uuids.specs.Named.{operationsAt}
 use Rattle.store.specs.GoodOrder.{runIn}
 use Rattle.store.specs.declared.reply.Outcome.{Outcome}
@@ -56,8 +56,8 @@ pub record Readable (s ends : List ℕ) (ops : Found) (fresh : List ℕ) : Type 
   pub ids : length fresh ≡ freshBytes
 
 -- refusals 7 and 10, and what is given where neither applies
-unfoldable pub toldOf : Schema → ℕ → List Row → ℕ → model.Transaction → replies.Reply
-toldOf s number rows room t = told s number rows room t
+unfoldable pub concludedOf : Schema → ℕ → List Row → ℕ → model.Transaction → replies.Reply
+concludedOf s number rows room t = concluded s number rows room t
 
 -- a request's text on the first n rows of a store, its schema in cells
 unfoldable pub replyOn : List (List ℕ) → ℕ → ℕ → List (List (List ℕ)) → List ℕ → List ℕ → ℕ → replies.Reply
@@ -96,26 +96,33 @@ pub record Ended (s : Schema) (t : model.Transaction) (n : ℕ) (entry exit : Li
   pub room : length exit ≡ length entry
   pub text : Put 4000045 before 0 (t .text) (r .at) after
 
+-- the same of a schema's entries: of the first n rows at a commit, and of a request's text
+abbrev pub ClosedOn : List (List ℕ) → ℕ → List (List (List ℕ)) → List (List (List ℕ)) → Bool → ℕ → List ℕ → List ℕ → Outcome → Type 0
+ClosedOn schema n entry exit first at before after r = Closed (packedTables schema) (committed (packedTables schema) (working (packedTables schema) n entry)) n entry exit first at before after r
+
+abbrev pub EndedOn : List (List ℕ) → List ℕ → Found → List ℕ → ℕ → List (List (List ℕ)) → List (List (List ℕ)) → List ℕ → List ℕ → Outcome → Type 0
+EndedOn schema text ops fresh n entry exit before after r = Ended (packedTables schema) (transactOn (packedTables schema) text ops fresh (working (packedTables schema) n entry)) n entry exit before after r
+
 -- a request: whether it is run, and else the refusal (4, 5 or 6)
 pub record Asked (cells : List (List ℕ)) (n : ℕ) (before : List (List (List ℕ))) (request fresh ends : List ℕ) (r : Question) : Type 0 where
-  pub refuses : r .runs ≡ false → isRefusal (r .answer) ≡ true
-  pub refused : r .runs ≡ false → (number room : ℕ) → replyOn cells number n before request fresh room ≡ refused (r .answer) (working (packedTables cells) n before)
-  pub told : r .runs ≡ true → (number room : ℕ)
-      → replyOn cells number n before request fresh room ≡ toldOf (packedTables cells) number (working (packedTables cells) n before) room (transactOn (packedTables cells) request (r .ops) fresh (working (packedTables cells) n before))
+  pub refuses : r .runs ≡ false → isRefusal (r .status) ≡ true
+  pub refused : r .runs ≡ false → (number room : ℕ) → replyOn cells number n before request fresh room ≡ refused (r .status) (working (packedTables cells) n before)
+  pub concluded : r .runs ≡ true → (number room : ℕ)
+      → replyOn cells number n before request fresh room ≡ concludedOf (packedTables cells) number (working (packedTables cells) n before) room (transactOn (packedTables cells) request (r .ops) fresh (working (packedTables cells) n before))
   pub running : r .runs ≡ true → Readable request ends (r .ops) fresh
   pub few : r .runs ≡ true → length (itemsFrom request (r .ops)) ≤ mostOperations
   pub ids : r .runs ≡ true → idsGood (freshIds fresh) (working (packedTables cells) n before) ≡ true
   pub operations : r .runs ≡ true → all operationGood (operationsAt request (r .ops)) ≡ true
 
 -- "zeroes every other buffer written to"
-pub record Refused (why : Answer) (recordsIn recordsOut textIn textOut : List ℕ) (r : Answer) : Type 0 where
+pub record Refused (why : Status) (recordsIn recordsOut textIn textOut : List ℕ) (r : Status) : Type 0 where
   pub is : r ≡ why
   pub records : recordsOut ≡ zeroed recordsIn
   pub text : textOut ≡ zeroed textIn
 
 -- a request that is refused: nothing is to be written
-abbrev pub noEffect : Answer → Effect
-noEffect why = record { answer = why; commits = false; count = 0; changes = 0 }
+abbrev pub noEffect : Status → Effect
+noEffect why = record { status = why; commits = false; count = 0; changes = 0 }
 
 -- what changes from the rows that an area has to the first count of others
 unfoldable pub changesFrom : Schema → List ℕ → List (List (List ℕ)) → ℕ → List Change
@@ -125,15 +132,15 @@ changesFrom s a rows count = diff s (working s (rowCount a) (rowsAt (rowCount a)
 pub record GivenOut (s : Schema) (a : List ℕ) (rows : List (List (List ℕ))) (count : ℕ) (recordsIn recordsOut textIn textOut : List ℕ) (r : Effect) : Type 0 where
   pub spent : lastNumber < numberIn a + length (changesFrom s a rows count) → (r ≡ noEffect NumbersSpent) × (recordsOut ≡ zeroed recordsIn) × (textOut ≡ zeroed textIn)
   pub given : numberIn a + length (changesFrom s a rows count) ≤ lastNumber
-      → (r ≡ record { answer = Accepted; commits = true; count = count; changes = length (changesFrom s a rows count) })
+      → (r ≡ record { status = Accepted; commits = true; count = count; changes = length (changesFrom s a rows count) })
       × (recordsOut ≡ filled (length recordsIn) (flat (map encode (numberFrom (runIn a) (numberIn a) (changesFrom s a rows count)))))
       × (textOut ≡ textIn)
 
 -- a whole transact: the answer; the rows, where it commits, and that they stay, where it does not; the record numbers that it gives out; and both buffers.
 -- Where it does not commit the working rows are free, as many as before: the area has the store's rows
 pub record Replied (s : Schema) (d : replies.Reply) (run number n : ℕ) (before exit : List (List (List ℕ))) (recordsIn recordsOut textIn textOut : List ℕ) (r : Effect) : Type 0 where
-  pub answer : r .answer ≡ d .answer
-  pub refuses : isRefusal (r .answer) ≡ true → r .commits ≡ false
+  pub status : r .status ≡ d .status
+  pub refuses : isRefusal (r .status) ≡ true → r .commits ≡ false
   pub rows : r .commits ≡ true → working s (r .count) exit ≡ d .rows
   pub stays : r .commits ≡ false → d .rows ≡ working s n before
   pub few : r .count ≤ mostRows
@@ -144,4 +151,9 @@ pub record Replied (s : Schema) (d : replies.Reply) (run number n : ℕ) (before
   pub last : number + r .changes ≤ lastNumber
   pub records : recordsOut ≡ filled (length recordsIn) (flat (map encode (numberFrom run number (d .changes))))
   pub text : textOut ≡ filled (length textIn) (d .text)
-  pub blank : isRefusal (r .answer) ≡ true → (recordsOut ≡ zeroed recordsIn) × (textOut ≡ zeroed textIn)
+  pub blank : isRefusal (r .status) ≡ true → (recordsOut ≡ zeroed recordsIn) × (textOut ≡ zeroed textIn)
+
+-- the same of a store's area, whose rows were read
+abbrev pub RepliedOn : List (List ℕ) → List ℕ → List ℕ → List ℕ → List (List (List ℕ)) → List (List (List ℕ)) → List ℕ → List ℕ → List ℕ → List ℕ → Effect → Type 0
+RepliedOn schema area request fresh before exit recordsIn recordsOut textIn textOut r =
+    Replied (packedTables schema) (replyOn schema (numberIn area) (rowCount area) before request fresh (length textIn)) (runIn area) (numberIn area) (rowCount area) before exit recordsIn recordsOut textIn textOut r

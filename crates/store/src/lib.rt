@@ -3,7 +3,6 @@ mod good_order;
 mod reply;
 
 use model::ATOM;
-use model::Answer;
 use model::CELLS;
 use model::ENTRIES;
 use model::ENTRY;
@@ -13,6 +12,7 @@ use model::LEAST_MARK;
 use model::LEAST_RECORDS;
 use model::ROWS;
 use model::STORE_BYTES;
+use model::Status;
 use record::Mark;
 ghost use mathlib.Core.Path.{_≡_};
 ghost use Rattle.model.specs.Refusals.{numberOf};
@@ -21,21 +21,21 @@ ghost use Rattle.model.specs.FirstRefusal.{storeStartNumber, transactNumber, ma
 ghost use Rattle.store.specs.Replying.{Refused};
 
 // Makes a store of a schema's text and a run, with no rows and number 0.
-pub fn start(area: &mut [u8], schema: &[u8], run: u32) -> Answer
+pub fn start(area: &mut [u8], schema: &[u8], run: u32) -> Status
     ensures { λ r. ⌜ numberOf r ≡ storeStartNumber (now (area .entry)) (now (schema .entry)) ⌝ }
-    ensures { λ r. ⌜ r ≡ storeStart (now (area .entry)) (now (schema .entry)) run .answer ⌝ }
+    ensures { λ r. ⌜ r ≡ storeStart (now (area .entry)) (now (schema .entry)) run .status ⌝ }
     ensures { λ r. ⌜ now (area .exit) ≡ storeStart (now (area .entry)) (now (schema .entry)) run .area ⌝ }
 {
     if area.len() != STORE_BYTES {
-        return Answer::WrongLength;
+        return Status::WrongLength;
     }
     let mut catalog = [[0u8; ENTRY]; ENTRIES];
     if !schema::read(schema, &mut catalog) {
-        return Answer::BadSchema;
+        return Status::BadSchema;
     }
     let rows = [[[0u8; ATOM]; CELLS]; 1];
     area::write_store(area, run, 0, &catalog, &rows, 0);
-    Answer::Accepted
+    Status::Accepted
 }
 
 // Whether the lengths are right: of the area and of the fresh ids exactly, and of both buffers at least.
@@ -55,7 +55,7 @@ fn lengths_good(area: &[u8], fresh: &[u8], records: &[u8], answer: &[u8]) -> boo
 }
 
 // Refuses: both buffers are all zero.
-fn refuse(why: Answer, records: &mut [u8], answer: &mut [u8]) -> Answer
+fn refuse(why: Status, records: &mut [u8], answer: &mut [u8]) -> Status
     ensures { λ r. ⌜ Refused why (now (records .entry)) (now (records .exit)) (now (answer .entry)) (now (answer .exit)) r ⌝ }
 {
     octets::clear(records);
@@ -70,20 +70,20 @@ pub fn transact(
     fresh: &[u8],
     records: &mut [u8],
     answer: &mut [u8],
-) -> Answer
+) -> Status
     ensures { λ r. ⌜ numberOf r ≡ transactNumber (now (area .entry)) (now (request .entry)) (now (fresh .entry)) (now (records .entry)) (now (answer .entry)) ⌝ }
-    ensures { λ r. ⌜ storeTransact (now (area .entry)) (now (request .entry)) (now (fresh .entry)) (now (records .entry)) (now (answer .entry)) ≡ record { answer = r; area = now (area .exit); records = now (records .exit); text = now (answer .exit) } ⌝ }
+    ensures { λ r. ⌜ storeTransact (now (area .entry)) (now (request .entry)) (now (fresh .entry)) (now (records .entry)) (now (answer .entry)) ≡ record { status = r; area = now (area .exit); records = now (records .exit); text = now (answer .exit) } ⌝ }
 {
     if !lengths_good(area, fresh, records, answer) {
-        return refuse(Answer::WrongLength, records, answer);
+        return refuse(Status::WrongLength, records, answer);
     }
     let mut catalog = [[0u8; ENTRY]; ENTRIES];
     let mut rows = [[[0u8; ATOM]; CELLS]; ROWS];
     if !good_order::opened(area, &mut catalog, &mut rows) {
-        return refuse(Answer::Disordered, records, answer);
+        return refuse(Status::Disordered, records, answer);
     }
     let e = reply::reply(&catalog, area, &mut rows, request, fresh, records, answer);
-    let given = e.answer;
+    let given = e.status;
     let commits = e.commits;
     if commits {
         let next = area::number_of(area) + e.changes as u32;
@@ -94,24 +94,24 @@ pub fn transact(
 }
 
 // Writes the mark of a store: its run and the last number that it gave out.
-pub fn mark(area: &[u8], mark: &mut [u8]) -> Answer
+pub fn mark(area: &[u8], mark: &mut [u8]) -> Status
     ensures { λ r. ⌜ numberOf r ≡ markNumber (now (area .entry)) (now (mark .entry)) ⌝ }
-    ensures { λ r. ⌜ r ≡ storeMark (now (area .entry)) (now (mark .entry)) .answer ⌝ }
+    ensures { λ r. ⌜ r ≡ storeMark (now (area .entry)) (now (mark .entry)) .status ⌝ }
     ensures { λ r. ⌜ now (mark .exit) ≡ storeMark (now (area .entry)) (now (mark .entry)) .mark ⌝ }
 {
     octets::clear(mark);
     if area.len() != STORE_BYTES {
-        return Answer::WrongLength;
+        return Status::WrongLength;
     }
     if mark.len() < LEAST_MARK {
-        return Answer::WrongLength;
+        return Status::WrongLength;
     }
     let mut catalog = [[0u8; ENTRY]; ENTRIES];
     let mut rows = [[[0u8; ATOM]; CELLS]; ROWS];
     if !good_order::opened(area, &mut catalog, &mut rows) {
-        return Answer::Disordered;
+        return Status::Disordered;
     }
     let m = Mark::new(area::run_of(area), area::number_of(area));
     m.write(mark);
-    Answer::Accepted
+    Status::Accepted
 }

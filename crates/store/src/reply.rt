@@ -1,12 +1,12 @@
 // A request on a store's rows: from its text to the answer, the rows after it and the records.
 use super::refuse;
-use model::Answer;
 use model::Catalog;
 use model::Fault;
 use model::Found;
 use model::LAST_NUMBER;
 use model::REQUEST_TEXT;
 use model::Row;
+use model::Status;
 ghost use mathlib.Core.Path.{_≡_};
 ghost use Prim.Native.Nat.{_≤_, _<_, _+_, _^_};
 ghost use lib.ListN.{length};
@@ -14,11 +14,10 @@ ghost use Rattle.model.specs.Limits.{mostOperations, mostRows, freshBytes, leas
 ghost use Rattle.inner.specs.Positions.{itemsFrom, isNothing};
 ghost use Rattle.inner.specs.Working.{working, Ordered};
 ghost use Rattle.area.specs.Layout.{rowCount, rowsAt};
-ghost use Rattle.area.specs.Writing.{numberIn};
 ghost use Rattle.model.specs.Catalog.{packedTables};
 ghost use Rattle.catalog.specs.Accepted.{Accepted};
-ghost use Rattle.store.specs.GoodOrder.{runIn, Held};
-ghost use Rattle.store.specs.Replying.{Readable, committed, transactOn, replyOn, Sure, Closed, Ended, Asked, noEffect, GivenOut, Replied};
+ghost use Rattle.store.specs.GoodOrder.{Held};
+ghost use Rattle.store.specs.Replying.{Readable, Sure, ClosedOn, EndedOn, Asked, noEffect, GivenOut, RepliedOn};
 
 // What a transaction comes to: whether it commits, how many rows there are then, and where the answer ends.
 pub struct Outcome {
@@ -30,13 +29,13 @@ pub struct Outcome {
 // What is asked: whether it is run, the refusal where it is not, and the place of the first operation.
 pub struct Question {
     pub runs: bool,
-    pub answer: Answer,
+    pub status: Status,
     pub ops: Found,
 }
 
 // What a transact answers: whether it commits, how many rows there are then, and how many record numbers it gives out.
 pub struct Effect {
-    pub answer: Answer,
+    pub status: Status,
     pub commits: bool,
     pub count: usize,
     pub changes: usize,
@@ -64,21 +63,21 @@ fn at_commit(
     requires { ⌜ Accepted (now schema) ⌝ }
     requires { ⌜ Ordered n (now rows) ⌝ }
     requires { ⌜ at + 45 < 2 ^ 64 ⌝ }
-    ensures { λ r. ⌜ Closed (packedTables (now (schema .entry))) (committed (packedTables (now (schema .entry))) (working (packedTables (now (schema .entry))) n (now (rows .entry)))) n (now (rows .entry)) (now (rows .exit)) first at (now (answer .entry)) (now (answer .exit)) r ⌝ }
+    ensures { λ r. ⌜ ClosedOn (now (schema .entry)) n (now (rows .entry)) (now (rows .exit)) first at (now (answer .entry)) (now (answer .exit)) r ⌝ }
 {
     let c = commit::commit(schema, rows, n);
     let f = c.fault;
     if leaf::is_fine(f) {
-        let end = answer::put_byte(answer, at, b']');
+        let end = json_writer::put_byte(answer, at, b']');
         return Outcome {
             commits: true,
             count: c.count,
             at: end,
         };
     }
-    let end = answer::put_comma(answer, at, first);
-    let end = answer::put_error(answer, end, f);
-    let end = answer::put_byte(answer, end, b']');
+    let end = json_writer::put_comma(answer, at, first);
+    let end = json_writer::put_error(answer, end, f);
+    let end = json_writer::put_byte(answer, end, b']');
     Outcome {
         commits: false,
         count: n,
@@ -102,7 +101,7 @@ fn transact(
     requires { ⌜ length (itemsFrom (now text) ops) ≤ mostOperations ⌝ }
     requires { ⌜ (n ≤ mostRows) × (mostRows ≤ length (now rows)) ⌝ }
     requires { ⌜ Sure (packedTables (now schema)) (now text) ops (now fresh) (working (packedTables (now schema)) n (now rows)) ⌝ }
-    ensures { λ r. ⌜ Ended (packedTables (now (schema .entry))) (transactOn (packedTables (now (schema .entry))) (now (text .entry)) ops (now (fresh .entry)) (working (packedTables (now (schema .entry))) n (now (rows .entry)))) n (now (rows .entry)) (now (rows .exit)) (now (answer .entry)) (now (answer .exit)) r ⌝ }
+    ensures { λ r. ⌜ EndedOn (now (schema .entry)) (now (text .entry)) ops (now (fresh .entry)) n (now (rows .entry)) (now (rows .exit)) (now (answer .entry)) (now (answer .exit)) r ⌝ }
 {
     let mut names = [0u8; uuids::NAMES];
     uuids::fill_names(text, ends, ops, fresh, &mut names[..]);
@@ -112,7 +111,7 @@ fn transact(
         let first = is_nothing(ops);
         return at_commit(schema, rows, ran.count, first, answer, ran.at);
     }
-    let end = answer::put_byte(answer, ran.at, b']');
+    let end = json_writer::put_byte(answer, ran.at, b']');
     Outcome {
         commits: false,
         count: n,
@@ -136,38 +135,38 @@ fn judge(
     if !q.fits {
         return Question {
             runs: false,
-            answer: Answer::BadRequest,
+            status: Status::BadRequest,
             ops: Found::Nothing,
         };
     }
     if !text::is_word(request, q.name, catalog::name_of(&schema[0])) {
         return Question {
             runs: false,
-            answer: Answer::OtherDatabase,
+            status: Status::OtherDatabase,
             ops: Found::Nothing,
         };
     }
     if !fresh::ids_good(fresh, rows, n) {
         return Question {
             runs: false,
-            answer: Answer::BadFreshIds,
+            status: Status::BadFreshIds,
             ops: Found::Nothing,
         };
     }
     let ops = q.ops;
     Question {
         runs: true,
-        answer: Answer::Accepted,
+        status: Status::Accepted,
         ops,
     }
 }
 
 // A request that is refused: nothing is to be written.
-fn no_effect(answer: Answer) -> Effect
-    ensures { λ r. ⌜ r ≡ noEffect answer ⌝ }
+fn no_effect(status: Status) -> Effect
+    ensures { λ r. ⌜ r ≡ noEffect status ⌝ }
 {
     Effect {
-        answer,
+        status,
         commits: false,
         count: 0,
         changes: 0,
@@ -194,10 +193,10 @@ fn give_out(
     let k = changes::write(schema, area, n, rows, count, run, number, records);
     let left = (LAST_NUMBER - number) as usize;
     if left < k {
-        return no_effect(refuse(Answer::NumbersSpent, records, answer));
+        return no_effect(refuse(Status::NumbersSpent, records, answer));
     }
     Effect {
-        answer: Answer::Accepted,
+        status: Status::Accepted,
         commits: true,
         count,
         changes: k,
@@ -216,12 +215,12 @@ pub fn reply(
 ) -> Effect
     requires { ⌜ Held (now area) (now schema) (now rows) ⌝ }
     requires { ⌜ (mostRows ≤ length (now rows)) × (length (now fresh) ≡ freshBytes) × (leastRecords ≤ length (now records)) ⌝ }
-    ensures { λ r. ⌜ Replied (packedTables (now (schema .entry))) (replyOn (now (schema .entry)) (numberIn (now (area .entry))) (rowCount (now (area .entry))) (now (rows .entry)) (now (request .entry)) (now (fresh .entry)) (length (now (answer .entry)))) (runIn (now (area .entry))) (numberIn (now (area .entry))) (rowCount (now (area .entry))) (now (rows .entry)) (now (rows .exit)) (now (records .entry)) (now (records .exit)) (now (answer .entry)) (now (answer .exit)) r ⌝ }
+    ensures { λ r. ⌜ RepliedOn (now (schema .entry)) (now (area .entry)) (now (request .entry)) (now (fresh .entry)) (now (rows .entry)) (now (rows .exit)) (now (records .entry)) (now (records .exit)) (now (answer .entry)) (now (answer .exit)) r ⌝ }
 {
     let n = area::row_count(area);
     let mut ends = [0u16; REQUEST_TEXT];
     let q = judge(schema, rows, n, request, &mut ends[..], fresh);
-    let why = q.answer;
+    let why = q.status;
     if !q.runs {
         return no_effect(refuse(why, records, answer));
     }
@@ -229,12 +228,12 @@ pub fn reply(
     octets::clear(answer);
     let o = transact(request, &ends[..], ops, fresh, schema, rows, n, answer);
     if answer.len() < o.at {
-        return no_effect(refuse(Answer::AnswerTooLong, records, answer));
+        return no_effect(refuse(Status::AnswerTooLong, records, answer));
     }
     if !o.commits {
         octets::clear(records);
         return Effect {
-            answer: Answer::Accepted,
+            status: Status::Accepted,
             commits: false,
             count: n,
             changes: 0,

@@ -30,7 +30,7 @@ use Rattle.indexes.specs.Indexes.{Stored}
 use Rattle.indexes.proofs.Shorts.{columns-ids}
 use Rattle.tables.specs.declared.Read.{Read}
 use Rattle.catalog.specs.Writing.{headBytes}
-use Rattle.tables.specs.Tables.{restTold, IndexesIn, NameOnly, tableWith, TableRead}
+use Rattle.tables.specs.Tables.{restAllowed, IndexesIn, NameOnly, tableWith, TableRead}
 use Rattle.tables.proofs.Cells.{after-count, after-root, after-rows, after-name, before-index}
 
 abbrev pub tableWords : List (List ℕ)
@@ -78,24 +78,24 @@ module _ (s : List ℕ) {p : ℕ} (ms : List Named) (ns : List (List ℕ)) (befo
       }
 
   module _ (h : p ≡ 0 → ⊥) {ok : Bool} (q : ok ≡ indexesFit ms (treeAt s p)) where
-    told : ok ≡ (eqb p 0 || indexesFit ms (slotTree s p))
-    told = q ∙ rw (ne-eqb p 0 h) (ap (indexesFit ms) (sym (at-some s h)))
+    allowed : ok ≡ (eqb p 0 || indexesFit ms (slotTree s p))
+    allowed = q ∙ rw (ne-eqb p 0 h) (ap (indexesFit ms) (sym (at-some s h)))
 
     pub indexes-bad : ok ≡ false → IndexesIn s p ms ns false before before
-    indexes-bad e = record { fits = sym e ∙ told; front = refl; holds = λ f. absurd (clash false f refl) }
+    indexes-bad e = record { fits = sym e ∙ allowed; front = refl; holds = λ f. absurd (clash false f refl) }
 
     pub indexes-put : ok ≡ true → {after : List ℕ} → Stored before after (map (indexOf ns) (itemsIn (treeAt s p))) → IndexesIn s p ms ns true before after
     indexes-put e {after} k =
         record {
-          fits = sym e ∙ told;
+          fits = sym e ∙ allowed;
           front = k .front;
           holds = λ f z. k .holds ∙ ap (λ (x : Json). map (indexOf ns) (itemsIn x)) (sym (at-some s h));
         }
 
 -- the tests as the code makes them
-pub rest-told : (s f : List ℕ) (w : Whole) (a b : Bool) → a ≡ isWithin 1 9223372036854775807 w → b ≡ isTruth (kindOf (slotTree s (getD f 2 0))) → (eqb (getD f 9 0) 0 && ((eqb (getD f 1 0) 0 || a) && (eqb (getD f 2 0) 0 || b))) ≡ restTold s f w
-unfolding restTold
-rest-told s f w a b ea eb =
+pub rest-allowed : (s f : List ℕ) (w : Whole) (a b : Bool) → a ≡ isWithin 1 9223372036854775807 w → b ≡ isTruth (kindOf (slotTree s (getD f 2 0))) → (eqb (getD f 9 0) 0 && ((eqb (getD f 1 0) 0 || a) && (eqb (getD f 2 0) 0 || b))) ≡ restAllowed s f w
+unfolding restAllowed
+rest-allowed s f w a b ea eb =
     rw (ea, eb) (ap (λ (x : Bool). eqb (getD f 9 0) 0 && ((eqb (getD f 1 0) 0 || isWithin 1 9223372036854775807 w) && x)) (sym (and-all (eqb (getD f 2 0) 0 || isTruth (kindOf (slotTree s (getD f 2 0)))))))
   where
     and-all : (b : Bool) → (b && true) ≡ b
@@ -126,12 +126,12 @@ module _ (s : List ℕ) (tables : List (List ℕ)) (j : Json) (f : List ℕ) (k 
   abbrev w : Whole
   w = wholeOf (slotTree s (slot 1))
 
-  columns-told : must (ascii "columns") (columnsFit tables) ms ≡ leb n 6
-  columns-told = must-null k 0 (omega arith) (columnsFit tables) (columns-null tables) ∙ sym (cs .fits)
+  columns-allowed : must (ascii "columns") (columnsFit tables) ms ≡ leb n 6
+  columns-allowed = must-null k 0 (omega arith) (columnsFit tables) (columns-null tables) ∙ sym (cs .fits)
 
   none-fits : 6 < n → tableFits tables j ≡ false
   unfolding tableFits
-  none-fits h = both {a = only tableWords ms} refl (both (columns-told ∙ lt-leb n 6 h) refl) ∙ and-none (only tableWords ms)
+  none-fits h = both {a = only tableWords ms} refl (both (columns-allowed ∙ lt-leb n 6 h) refl) ∙ and-none (only tableWords ms)
 
   pub table-none : 6 < n → (w : List ℕ) (cell : List ℕ) → TableRead tables w j (record { fits = false; cell = cell }) before after
   table-none h w cell = record { fits = sym (none-fits h); table = λ e. absurd (clash false e refl); few = λ e. absurd (clash false e refl); rest = cs .rest }
@@ -161,29 +161,29 @@ module _ (s : List ℕ) (tables : List (List ℕ)) (j : Json) (f : List ℕ) (k 
 
     -- with what its cell says
     module _ (name : List ℕ) (only : NameOnly name) (root limited : Bool) (most : ℕ) (er : root ≡ truthOr false (slotTree s (getD f 2 0))) (el : limited ≡ not (eqb (getD f 1 0) 0)) (em : most ≡ sizeOr 0 (wholeOf (slotTree s (getD f 1 0))))
-        {a b : Bool} {cell : List ℕ} (ea : a ≡ restTold s f (wholeOf (slotTree s (getD f 1 0))))
+        {a b : Bool} {cell : List ℕ} (ea : a ≡ restAllowed s f (wholeOf (slotTree s (getD f 1 0))))
         (ix : IndexesIn s (getD f 3 0) (membersIn (treeAt s (getD f 0 0))) (map entryName (take n after)) b ((take 25 name ++ headBytes n root limited most) ++ drop 36 name) cell) where
-      indexes-told : may (ascii "indexes") (indexesFit (membersIn (memberValue (ascii "columns") ms))) ms ≡ (eqb (slot 3) 0 || indexesFit (membersIn (treeAt s (slot 0))) (slotTree s (slot 3)))
-      indexes-told =
+      indexes-allowed : may (ascii "indexes") (indexesFit (membersIn (memberValue (ascii "columns") ms))) ms ≡ (eqb (slot 3) 0 || indexesFit (membersIn (treeAt s (slot 0))) (slotTree s (slot 3)))
+      indexes-allowed =
           may-slot k 3 (omega arith) (indexesFit (membersIn (memberValue (ascii "columns") ms)))
           ∙ ap (λ (x : Json). eqb (slot 3) 0 || indexesFit (membersIn x) (slotTree s (slot 3))) (k .value 0 (omega arith) ∙ tree-is)
 
       fits-is : (a && b) ≡ tableFits tables j
-      unfolding tableFits restTold
+      unfolding tableFits restAllowed
       fits-is =
           (λ i. ea i && ix .fits i)
           ∙ shuffle (eqb (slot 9) 0) (eqb (slot 1) 0 || isWithin 1 9223372036854775807 w) (eqb (slot 2) 0 || isTruth (kindOf (slotTree s (slot 2)))) (eqb (slot 3) 0 || indexesFit (membersIn (treeAt s (slot 0))) (slotTree s (slot 3)))
           ∙ sym
           (both (k .listed)
-          (both (columns-told ∙ le-leb n 6 six)
+          (both (columns-allowed ∙ le-leb n 6 six)
           (both (may-slot k 1 (omega arith) (λ (x : Json). isWithin 1 9223372036854775807 (wholeOf x)))
-          (both (may-slot k 2 (omega arith) isBool) (both indexes-told refl)))))
+          (both (may-slot k 2 (omega arith) isBool) (both indexes-allowed refl)))))
 
       -- maxRows is below 2 to the 63
       small : a ≡ true → limited ≡ true → most < 256 ^ 8
-      unfolding restTold
+      unfolding restAllowed
       small h l =
-          let r : restTold s f w ≡ true = sym ea ∙ h in
+          let r : restAllowed s f w ≡ true = sym ea ∙ h in
           let m : (eqb (slot 1) 0 || isWithin 1 9223372036854775807 w) ≡ true = and-l _ _ (and-r (eqb (slot 9) 0) _ r) in
           let z : eqb (slot 1) 0 ≡ false = split (eqb (slot 1) 0) (λ e. absurd (clash limited l (el ∙ ap not e))) (λ e. e) in
           let g = within-size 1 9223372036854775807 0 w (or-false (eqb (slot 1) 0) _ m z) .1 in

@@ -21,8 +21,8 @@ use Rattle.columns.specs.Parts.{memberOf}
 use Rattle.tables.specs.declared.Read.{Read}
 
 -- the tests of a table's members but columns and indexes, by its slots
-unfoldable pub restTold : List ℕ → List ℕ → Whole → Bool
-restTold s f w =
+unfoldable pub restAllowed : List ℕ → List ℕ → Whole → Bool
+restAllowed s f w =
     every (eqb (getD f mostWords 0) 0 ∷ (eqb (getD f 1 0) 0 || isWithin 1 9223372036854775807 w) ∷ (eqb (getD f 2 0) 0 || isTruth (kindOf (slotTree s (getD f 2 0)))) ∷ [])
 
 -- the indexes in a slot, of a table that has the columns ms, whose names are ns; a cell that had none has them now

@@ -22,7 +22,7 @@ ghost use Rattle.model.specs.Catalog.{entryName};
 ghost use Rattle.model.specs.SchemaText.{names, isId};
 ghost use Rattle.members.specs.Fields.{slotTree};
 ghost use Rattle.columns.specs.Columns.{ColumnsRead};
-ghost use Rattle.tables.specs.Tables.{restTold, IndexesIn, NameOnly, TableRead, headAt, Heads, EachRead, TablesRead};
+ghost use Rattle.tables.specs.Tables.{restAllowed, IndexesIn, NameOnly, TableRead, headAt, Heads, EachRead, TablesRead};
 
 // A table: whether it fits, and its cell.
 pub struct Read {
@@ -74,7 +74,7 @@ fn indexes_in(
 
 // Whether the other members fit: f has the table's slots, w is the integer that its maxRows is.
 fn rest_fits(text: &[u8], f: Places, w: Whole) -> bool
-    ensures { λ r. ⌜ r ≡ restTold (now (text .entry)) f w ⌝ }
+    ensures { λ r. ⌜ r ≡ restAllowed (now (text .entry)) f w ⌝ }
 {
     let a = column_types::is_within(1, 9223372036854775807, w);
     let k = members::kind_in(text, f[2]);

@@ -1,22 +1,18 @@
 -- Laws of bytes written one after another. Assumes nothing.
 use mathlib.Core.Path.{_≡_, refl, sym, ap, _∙_}
-use mathlib.Core.List.{List, [], _∷_, _++_, append-nil}
-use Prim.Native.Nat.{ℕ, zero, suc, _+_, _-_, _<_, _≤_}
-use native.Mathlib.Nat.{le-of-suc-le-suc, not-suc-le-zero}
+use mathlib.Core.List.{List, [], _∷_, _++_}
+use Prim.Native.Nat.{ℕ, suc, _+_, _-_, _<_, _≤_}
+use native.Mathlib.Numerals.{add-one}
 use native.Mathlib.Omega.{arith}
 use lib.ListN.{length, set, getD, take, drop, length-set, length-drop}
-use lib.Seq.{take-suc, getD-drop, getD-set-same, append-snoc, take-set-le}
-use native.Mathlib.Decide.{decLt}
-use borrow.Author.Tests.{lt-ltb, le-ltb}
+use lib.Dec.{ltb}
+use lib.Seq.{sets, sets-eq, take-suc, getD-drop, take-append-seam}
+use borrow.Author.Tests.{lt-ltb, ltb-true}
+use Rattle.model.proofs.Tests.{split}
 use Rattle.model.specs.Scan.{between}
 use Rattle.text.specs.declared.Written.{Written}
 use Rattle.text.specs.declared.Written.the-variants.{To, Full}
 use Rattle.text.specs.Push.{pushTo, pushOut, pushAllTo, pushAllOut, Pushed, countOf}
-
-pub set-past : (l : List ℕ) (o b : ℕ) → length l ≤ o → set l o b ≡ l
-set-past [] o b h = refl
-set-past (x ∷ l) zero b h = absurd (not-suc-le-zero h)
-set-past (x ∷ l) (suc o) b h = ap (λ t. x ∷ t) (set-past l o b (le-of-suc-le-suc h))
 
 pub push-length : (out : List ℕ) (w : Written) (b : ℕ) → length (pushOut out w b) ≡ length out
 unfolding pushOut
@@ -57,32 +53,45 @@ pub pushed-none : (out : List ℕ) (w : Written) → Pushed out w [] w out
 unfolding pushAllTo pushAllOut
 pushed-none out w = record { to = refl; out = refl }
 
--- what fits is there
 push-one : (n o : ℕ) → o < n → pushTo n (To o) ≡ To (o + 1)
 unfolding pushTo
 push-one n o h = rw (pushTo, lt-ltb o n h)
 
-take-set : (l : List ℕ) (o b : ℕ) → o < length l → take (o + 1) (set l o b) ≡ take o l ++ (b ∷ [])
-take-set l o b h =
-    let y : o + 1 ≡ suc o = omega arith in
-    let g : o < length (set l o b) = omega (arith, length-set l o b) in
-    rw y (take-suc (set l o b) o 0 g ∙ rw (getD-set-same l o b 0 h) (ap (λ x. x ++ (b ∷ [])) (take-set-le o l o b (omega arith))))
+-- bytes that there is room for
+to-room : (n o : ℕ) (bs : List ℕ) → o + length bs ≤ n → pushAllTo n (To o) bs ≡ To (o + length bs)
+unfolding pushAllTo
+to-room n o [] h = ap To (omega arith)
+to-room n o (b ∷ bs) h = rw (push-one n o (omega arith)) (to-room n (o + 1) bs (omega arith) ∙ ap To (omega arith))
 
-pub pushed-in : (out : List ℕ) (o : ℕ) (bs : List ℕ) → o + length bs ≤ length out →
-    (pushAllTo (length out) (To o) bs ≡ To (o + length bs)) × (take (o + length bs) (pushAllOut out (To o) bs) ≡ take o out ++ bs)
-unfolding pushAllTo pushAllOut pushOut
-pushed-in out o [] h = let z : o + 0 ≡ o = omega arith in (ap To (sym z), rw z (sym (append-nil (take o out))))
-pushed-in out o (b ∷ bs) h =
-    let w = push-one (length out) o (omega arith) in
-    let ih = pushed-in (set out o b) (o + 1) bs (omega (arith, length-set out o b)) in
-    let z : o + suc (length bs) ≡ o + 1 + length bs = omega arith in
-    let first : pushAllTo (length out) (To (o + 1)) bs ≡ To (o + 1 + length bs) = ap (λ n. pushAllTo n (To (o + 1)) bs) (sym (length-set out o b)) ∙ ih .0 in
-    (rw (w, z) first, rw (w, z) (ih .1 ∙ ap (λ x. x ++ bs) (take-set out o b (omega arith)) ∙ append-snoc (take o out) b bs))
+out-room : (out : List ℕ) (o : ℕ) (bs : List ℕ) → o + length bs ≤ length out → pushAllOut out (To o) bs ≡ sets out o bs
+unfolding pushAllOut pushOut
+out-room out o [] h = refl
+out-room out o (b ∷ bs) h =
+    rw (push-one (length out) o (omega arith)) (out-room (set out o b) (o + 1) bs (omega (arith, length-set out o b)) ∙ ap (λ n. sets (set out o b) n bs) (add-one o))
 
--- bytes that there is room for: how many, and that they stand at the front
+-- how many there are, and that they stand in front of what was there
+pub pushed-whole : {before bs after : List ℕ} {r : Written} → Pushed before (To 0) bs r after → length bs ≤ length before → (r ≡ To (length bs)) × (after ≡ bs ++ drop (length bs) before)
+pushed-whole {before} {bs} p h =
+    let z : 0 + length bs ≡ length bs = omega arith in
+    (p .to ∙ to-room (length before) 0 bs (omega arith) ∙ ap To z, p .out ∙ out-room before 0 bs (omega arith) ∙ sets-eq bs before 0 (omega arith) ∙ ap (λ n. bs ++ drop n before) z)
+
 pub held : {before bs after : List ℕ} {r : Written} → Pushed before (To 0) bs r after → length bs ≤ length before → (countOf r ≡ length bs) × (take (length bs) after ≡ bs) × (length after ≡ length before)
 unfolding countOf
-held {before} {bs} {after} {r} p h =
-    let f = pushed-in before 0 bs (omega arith) in
-    let z : 0 + length bs ≡ length bs = omega arith in
-    (ap countOf (p .to ∙ f .0) ∙ z, ap (λ n. take n after) (sym z) ∙ ap (take (0 + length bs)) (p .out) ∙ f .1, ap length (p .out) ∙ all-length before (To 0) bs)
+held {before} {bs} p h =
+    let f = pushed-whole p h in
+    (ap countOf (f .0), ap (take (length bs)) (f .1) ∙ take-append-seam bs (drop (length bs) before), ap length (p .out) ∙ all-length before (To 0) bs)
+
+-- bytes that there is no room for
+all-full : (n : ℕ) (bs : List ℕ) → pushAllTo n Full bs ≡ Full
+unfolding pushAllTo pushTo
+all-full n [] = refl
+all-full n (b ∷ bs) = all-full n bs
+
+pub pushed-over : (n o : ℕ) (bs : List ℕ) → o ≤ n → n < o + length bs → pushAllTo n (To o) bs ≡ Full
+unfolding pushAllTo pushTo
+pushed-over n o [] l h = absurd (omega arith)
+pushed-over n o (b ∷ bs) l h =
+    split
+    (ltb o n)
+    (λ e. rw (pushTo, e) (pushed-over n (o + 1) bs (omega (arith, ltb-true o n e)) (omega arith)))
+    (λ e. rw (pushTo, e) (all-full n bs))

@@ -24,7 +24,7 @@ use Rattle.text.specs.declared.Written.{Written}
 use Rattle.text.specs.declared.Written.the-variants.{To}
 use Rattle.text.specs.Push.{Pushed, countOf}
 use Rattle.text.specs.Match.{Held}
-use Rattle.text.proofs.Pushing.{held}
+use Rattle.text.proofs.Pushing.{held, pushed-whole}
 use Rattle.text.proofs.Sizes.{quote-is, string-size}
 
 -- a string's bytes
@@ -68,9 +68,9 @@ no-string (obj ms) h = refl
 
 -- where a string is held
 module _ (s : List ℕ) (at : ℕ) where
-  pub none-held : (scratch : List ℕ) → isText (kindOf (treeAt s at)) ≡ false → Held s scratch false 0 0 (escaped s at) (wordIn (treeAt s at))
+  pub none-held : (scratch : List ℕ) → isText (kindOf (treeAt s at)) ≡ false → Held s scratch scratch false 0 0 (escaped s at) (wordIn (treeAt s at))
   unfolding escaped
-  none-held scratch t = record { place = rw (escaped, t); fits = omega arith; bytes = sym (no-string (treeAt s at) t) }
+  none-held scratch t = record { place = rw (escaped, t); decoded = rw (escaped, t); fits = omega arith; bytes = sym (no-string (treeAt s at) t) }
 
   module _ (t : isText (kindOf (treeAt s at)) ≡ true) {i : ℕ} (q : i ≡ spacesAt s at) where
     string-is : wordIn (treeAt s at) ≡ bodyAt s (i + 1) .tree
@@ -84,17 +84,19 @@ module _ (s : List ℕ) (at : ℕ) where
     pub plain-from : {e : ℕ} → quoteFrom s (length s) (i + 1) ≡ At e → i + 1 ≤ e
     plain-from {e} h = quote-is s (length s) (i + 1) e h .1
 
-    pub plain-held : (scratch : List ℕ) {e : ℕ} → quoteFrom s (length s) (i + 1) ≡ At e → Held s scratch false (i + 1) (e - (i + 1)) (escaped s at) (wordIn (treeAt s at))
+    pub plain-held : (scratch : List ℕ) {e : ℕ} → quoteFrom s (length s) (i + 1) ≡ At e → Held s scratch scratch false (i + 1) (e - (i + 1)) (escaped s at) (wordIn (treeAt s at))
     unfolding isNothing
     plain-held scratch {e} h =
         let z = quote-is s (length s) (i + 1) e h in
-        record { place = sym (escaped-is ∙ ap isNothing h); fits = omega (arith, z .1, z .2); bytes = sym (string-is ∙ z .0) }
+        let plain : false ≡ escaped s at = sym (escaped-is ∙ ap isNothing h) in
+        record { place = plain; decoded = rw (sym plain); fits = omega (arith, z .1, z .2); bytes = sym (string-is ∙ z .0) }
 
     pub decoded-held : {scratch after : List ℕ} {r : Written} {n : ℕ} → quoteFrom s (length s) (i + 1) ≡ Nothing → length s ≤ length scratch
-        → Pushed scratch (To 0) (bodyAt s (i + 1) .tree) r after → n ≡ countOf r → Held s after true 0 n (escaped s at) (wordIn (treeAt s at))
+        → Pushed scratch (To 0) (bodyAt s (i + 1) .tree) r after → n ≡ countOf r → Held s scratch after true 0 n (escaped s at) (wordIn (treeAt s at))
     unfolding isNothing
     decoded-held {scratch} {after} {r} {n} h l p e =
+        let inside : escaped s at ≡ true = escaped-is ∙ ap isNothing h in
         let k = string-size s (length s) (i + 1) in
         let f = held p (omega (arith, k, l)) in
         let m : n ≡ length (bodyAt s (i + 1) .tree) = e ∙ f .0 in
-        record { place = sym (escaped-is ∙ ap isNothing h); fits = omega (arith, m, f .2, k, l); bytes = ap (λ x. take x after) m ∙ f .1 ∙ sym string-is }
+        record { place = sym inside; decoded = pushed-whole p (omega (arith, k, l)) .1 ∙ rw (inside, string-is); fits = omega (arith, m, f .2, k, l); bytes = ap (λ x. take x after) m ∙ f .1 ∙ sym string-is }

@@ -271,10 +271,10 @@ pub struct Part {
     pub len: usize,
 }
 
-// Where the string at `at` is: one without escapes in the text, one with escapes in the scratch area. A value that is no string is an empty part.
+// Where the string at `at` is: one without escapes in the text, one with escapes in the scratch area. A value that is no string is an empty part. Only a string with escapes changes the scratch area.
 pub fn string_at(text: &[u8], at: usize, scratch: &mut [u8]) -> Part
     requires { ⌜ length (now text) ≤ length (now scratch) ⌝ }
-    ensures { λ r. ⌜ Held (now (text .entry)) (now (scratch .exit)) (r .«in_scratch») (r .start) (r .len) (escaped (now (text .entry)) at) (wordIn (treeAt (now (text .entry)) at)) ⌝ }
+    ensures { λ r. ⌜ Held (now (text .entry)) (now (scratch .entry)) (now (scratch .exit)) (r .«in_scratch») (r .start) (r .len) (escaped (now (text .entry)) at) (wordIn (treeAt (now (text .entry)) at)) ⌝ }
 {
     let k = nav::kind_at(text, at);
     let t = leaf::is_kind(k, Kind::Text);

@@ -1,48 +1,20 @@
 -- Strings decoded into a small buffer. Assumes nothing.
 use mathlib.Core.Path.{_≡_, refl, sym, ap, subst, _∙_}
 use mathlib.Core.Bool.{Bool, true, false}
-use mathlib.Core.List.{List, [], _∷_}
+use mathlib.Core.List.{List}
 use mathlib.Core.Option.{none, some}
-use Prim.Native.Nat.{ℕ, _+_, _<_, _≤_}
+use Prim.Native.Nat.{ℕ, _<_, _≤_}
 use native.Mathlib.Omega.{arith}
 use native.Mathlib.Decide.{decLt}
-use borrow.Author.Tests.{lt-ltb, le-ltb}
 use lib.ListN.{length, take}
 use Rattle.model.specs.Json.{Json, null, bool, num, str, arr, obj}
 use Rattle.model.specs.Nav.{kindOf, isText}
 use Rattle.model.specs.Written.{stringIn, uuidFrom}
 use Rattle.text.specs.declared.Written.{Written}
 use Rattle.text.specs.declared.Written.the-variants.{To, Full}
-use Rattle.text.specs.Push.{pushTo, pushAllTo, Pushed, countOf}
-use Rattle.text.proofs.Pushing.{held}
+use Rattle.text.specs.Push.{Pushed, countOf}
+use Rattle.text.proofs.Pushing.{held, pushed-whole, pushed-over}
 use Rattle.uuids.specs.Ids.{idIn}
-
-push-one : (n o : ℕ) → o < n → pushTo n (To o) ≡ To (o + 1)
-unfolding pushTo
-push-one n o h = rw (pushTo, lt-ltb o n h)
-
-push-full : (n o : ℕ) → n ≤ o → pushTo n (To o) ≡ Full
-unfolding pushTo
-push-full n o h = rw (pushTo, le-ltb o n h)
-
-all-full : (n : ℕ) (bs : List ℕ) → pushAllTo n Full bs ≡ Full
-unfolding pushAllTo pushTo
-all-full n [] = refl
-all-full n (b ∷ bs) = all-full n bs
-
-pushed-over : (n o : ℕ) (bs : List ℕ) → o ≤ n → n < o + length bs → pushAllTo n (To o) bs ≡ Full
-unfolding pushAllTo
-pushed-over n o [] h g = absurd (omega arith)
-pushed-over n o (b ∷ bs) h g = go (decLt o n) (pushed-over n (o + 1) bs)
-  where
-    go : Dec (o < n) → (o + 1 ≤ n → n < o + 1 + length bs → pushAllTo n (To (o + 1)) bs ≡ Full) → pushAllTo n (To o) (b ∷ bs) ≡ Full
-    go (yes p) ih = rw (push-one n o p) (ih (omega arith) (omega arith))
-    go (no p) ih = rw (push-full n o (omega (arith, p))) (all-full n bs)
-
-pushed-to : (n o : ℕ) (bs : List ℕ) → o + length bs ≤ n → pushAllTo n (To o) bs ≡ To (o + length bs)
-unfolding pushAllTo
-pushed-to n o [] h = ap To (omega arith)
-pushed-to n o (b ∷ bs) h = rw (push-one n o (omega arith)) (pushed-to n (o + 1) bs (omega arith) ∙ ap To (omega arith))
 
 -- what was written is the string, or there was no room for it
 module _ {before bs after : List ℕ} {r : Written} (p : Pushed before (To 0) bs r after) where
@@ -63,7 +35,7 @@ module _ {before bs after : List ℕ} {r : Written} (p : Pushed before (To 0) bs
     where
       go : Dec (length before < length bs) → length before < length bs
       go (yes g) = g
-      go (no g) = absurd (let k : Full ≡ To (0 + length bs) = sym q ∙ p .to ∙ pushed-to (length before) 0 bs (omega (arith, g)) in let z : _≡_ {A = ℕ} 0 1 = cc in omega arith)
+      go (no g) = absurd (let k : Full ≡ To (length bs) = sym q ∙ pushed-whole p (omega (arith, g)) .0 in let z : _≡_ {A = ℕ} 0 1 = cc in omega arith)
 
 pub no-string : (j : Json) → isText (kindOf j) ≡ false → stringIn j ≡ none
 unfolding kindOf

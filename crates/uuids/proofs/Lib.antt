@@ -3,3 +3,4 @@ pub mod Spelling
 pub mod Decoded
 pub mod Names
 pub mod Table
+pub mod Atoms

@@ -8,6 +8,7 @@ use Rattle.model.specs.declared.Found.{Found}
 use Rattle.model.specs.declared.Found.the-variants.{At, Nothing}
 use lib.ListN.{length, getD, set}
 use Rattle.model.specs.Limits.{mostRequestBytes, mostOperations, freshBytes}
+use Rattle.model.specs.Base.{isSome}
 use Rattle.model.specs.Json.{Json, Named}
 use Rattle.model.specs.Value.{uuidAtom}
 use Rattle.inner.specs.Positions.{Says, treeAt, itemsFrom}
@@ -75,10 +76,15 @@ pub record Filled (s : List ℕ) (ops : Found) (fresh names : List ℕ) : Type 0
   pub ids : freshIds names ≡ freshIds fresh
   pub places : (w : List ℕ) → placeIn s names w ≡ placeNamed 0 w (operationsAt s ops)
 
--- an atom that was written, or none
-unfoldable pub answered : Bool → List ℕ → Option (List ℕ)
-answered true a = some a
-answered false a = none
+-- the atom that there is, or what was there before
+unfoldable pub atomOr : List ℕ → Option (List ℕ) → List ℕ
+atomOr before none = before
+atomOr before (some a) = a
+
+-- whether there is an atom, which is then written; else nothing is
+pub record Answered (atom : Option (List ℕ)) (before : List ℕ) (r : Bool) (after : List ℕ) : Type 0 where
+  pub found : r ≡ isSome atom
+  pub out : after ≡ atomOr before atom
 
 -- the atom of an id that there is, and of id k of the table
 unfoldable pub atomOf : Option ℕ → Option (List ℕ)

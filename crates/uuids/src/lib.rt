@@ -20,7 +20,7 @@ ghost use Rattle.inner.specs.Positions.{Says, wellAt, treeAt, itemsFrom, itemsF
 ghost use Rattle.model.specs.Members.{membersIn};
 ghost use Rattle.model.specs.Written.{isDash, uuidFrom, atomIn};
 ghost use Rattle.uuids.specs.Ids.{shifted, spelt, Spells, idIn, idAtom};
-ghost use Rattle.uuids.specs.Named.{namesBytes, entryAt, entryPut, isEntry, EntryOf, placeIn, namesAt, Filled, answered, atomOf, freshAtom, namedIn, Running};
+ghost use Rattle.uuids.specs.Named.{namesBytes, entryAt, entryPut, isEntry, EntryOf, placeIn, namesAt, Filled, Answered, atomOf, freshAtom, namedIn, Running};
 
 // Characters of a uuid as written.
 const CHARACTERS: usize = 36;
@@ -230,9 +230,9 @@ fn put_fresh(names: &[u8], k: usize, out: &mut [u8])
     }
 }
 
-// An id's atom, where there is one.
+// An id's atom, where there is one; else nothing is written.
 fn put_uuid(i: Id, out: &mut Atom) -> bool
-    ensures { λ r. ⌜ idAtom i ≡ answered r (now (out .exit)) ⌝ }
+    ensures { λ r. ⌜ Answered (idAtom i) (now (out .entry)) r (now (out .exit)) ⌝ }
 {
     match i {
         Id::Of(high, low) => {
@@ -243,10 +243,10 @@ fn put_uuid(i: Id, out: &mut Atom) -> bool
     }
 }
 
-// The atom of the fresh id that the string at `at` stands for as a uuid-name.
+// The atom of the fresh id that the string at `at` stands for as a uuid-name; nothing is written where it stands for none.
 fn named_at(text: &[u8], names: &[u8], at: usize, out: &mut Atom) -> bool
     requires { ⌜ length (now names) ≡ namesBytes ⌝ }
-    ensures { λ r. ⌜ atomOf (namedIn (namesAt (now (text .entry)) (now (names .entry))) (treeAt (now (text .entry)) at)) ≡ answered r (now (out .exit)) ⌝ }
+    ensures { λ r. ⌜ Answered (atomOf (namedIn (namesAt (now (text .entry)) (now (names .entry))) (treeAt (now (text .entry)) at))) (now (out .entry)) r (now (out .exit)) ⌝ }
 {
     let k = nav::kind_at(text, at);
     let t = leaf::is_kind(k, Kind::Text);
@@ -263,11 +263,11 @@ fn named_at(text: &[u8], names: &[u8], at: usize, out: &mut Atom) -> bool
     false
 }
 
-// The atom of the id at `at`: ["uuid", ..] or ["named-uuid", ..].
+// The atom of the id at `at`: ["uuid", ..] or ["named-uuid", ..]. Nothing is written where there is none.
 pub fn uuid_at(text: &[u8], ends: &[u16], names: &[u8], at: usize, out: &mut Atom) -> bool
     requires { ⌜ Running (now text) (now ends) (now names) ⌝ }
     requires { ⌜ wellAt (now text) at ≡ true ⌝ }
-    ensures { λ r. ⌜ atomIn (namesAt (now (text .entry)) (now (names .entry))) uuid (treeAt (now (text .entry)) at) ≡ answered r (now (out .exit)) ⌝ }
+    ensures { λ r. ⌜ Answered (atomIn (namesAt (now (text .entry)) (now (names .entry))) uuid (treeAt (now (text .entry)) at)) (now (out .entry)) r (now (out .exit)) ⌝ }
 {
     let p = elements::pair_at(text, ends, at);
     let Pair::Of(a, b) = p else {

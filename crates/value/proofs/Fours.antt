@@ -1,6 +1,6 @@
 -- Atoms in four places, of which the first are in use: one more in its place, sorted, some left out. Assumes nothing.
 use mathlib.Core.Path.{_≡_, refl, sym, ap, _∙_}
-use mathlib.Core.Bool.{Bool, true, false, not, _||_}
+use mathlib.Core.Bool.{Bool, true, false, not}
 use mathlib.Core.List.{List, [], _∷_, _++_, append-assoc, append-nil}
 use Prim.Native.Nat.{ℕ, zero, suc, _+_, _-_, _≤_, _<_}
 use native.Mathlib.Nat.{sub-zero}
@@ -8,7 +8,6 @@ use native.Mathlib.Numerals.{add-one}
 use native.Mathlib.Omega.{arith}
 use lib.ListN.{length, take, drop, set, getD, replicate, take-append-drop, drop-of-length-le, length-drop, length-append}
 use lib.Seq.{take-suc, drop-cons, set-at, length-take-le, take-take, take-all, getD-take, take-append-seam, drop-append-seam, drop-append-le}
-use Rattle.model.specs.Octets.{eqBytes}
 use Rattle.model.specs.Base.{if_then_else_, keep, member}
 use Rattle.model.specs.Schema.{Base}
 use Rattle.model.specs.Value.{blank, placed, sorted, valueOf, without}
@@ -89,14 +88,6 @@ module _ (k : Base) (a : List (List ℕ)) (n : ℕ) (size : length a ≡ 4) (few
       ∙ ap (λ (j : List (List ℕ)). padded (sorted k j)) (sym g)
 
 -- ── some left out ──
--- to be among one is to be that one
-pub among-one : (a x : List ℕ) → member a (x ∷ []) ≡ eqBytes a x
-among-one a x = only (eqBytes a x)
-  where
-    only : (b : Bool) → (b || false) ≡ b
-    only true = refl
-    only false = refl
-
 keep-snoc : (q : List ℕ → Bool) (l : List (List ℕ)) (a : List ℕ) → keep q (l ++ (a ∷ [])) ≡ keep q l ++ (if q a then a ∷ [] else [])
 keep-snoc q [] a = refl
 keep-snoc q (b ∷ l) a = split (q b) (λ e. rw e (ap (λ (r : List (List ℕ)). b ∷ r) (keep-snoc q l a))) (λ e. rw e (keep-snoc q l a))
@@ -112,11 +103,6 @@ module _ (gone l : List (List ℕ)) (i : ℕ) (h : i < length l) where
 
   pub left-in : member (getD l i []) gone ≡ false → without gone (take (i + 1) l) ≡ without gone (take i l) ++ (getD l i [] ∷ [])
   left-in e = one-more ∙ rw e
-
-  pub left-count : length (without gone (take (i + 1) l)) ≡ length (without gone (take i l)) + (if member (getD l i []) gone then 0 else 1)
-  left-count = split (member (getD l i []) gone)
-      (λ e. rw e (ap length (left-out e) ∙ omega arith))
-      (λ e. rw e (ap length (left-in e) ∙ length-append (without gone (take i l)) (getD l i [] ∷ [])))
 
 -- an element at the end of a padded list
 pub set-padded : (l s : List (List ℕ)) (m : ℕ) (x : List ℕ) → s ≡ padded l → m ≡ length l → length l < 4 → set s m x ≡ padded (l ++ (x ∷ []))

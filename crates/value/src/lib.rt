@@ -12,7 +12,7 @@ ghost use Rattle.model.specs.Limits.{mostElements};
 ghost use Rattle.model.specs.Base.{if_then_else_, all, member, distinct, eqLists};
 ghost use Rattle.model.specs.Schema.{Base, Column, scalar};
 ghost use Rattle.model.specs.Catalog.{baseNumbered};
-ghost use Rattle.model.specs.Value.{zeros, ascending, placed, sorted, wellAtom, byteAtom, canonicalFor, valueOf, union, without};
+ghost use Rattle.model.specs.Value.{zeros, ascending, placed, sorted, wellAtom, byteAtom, canonicalFor, valueOf, union};
 ghost use Rattle.value.specs.Places.{placeIn};
 
 // Whether x is among the elements.
@@ -217,39 +217,6 @@ pub fn first(atoms: Atoms, n: usize) -> Atoms
         i += 1;
     }
     s
-}
-
-// The first n atoms are a set: the same without x, and zeros.
-pub fn delete(atoms: Atoms, n: usize, x: Atom) -> Atoms
-    requires { ⌜ n ≤ mostElements ⌝ }
-    ensures { λ r. ⌜ r ≡ valueOf (without (x ∷ []) (take n atoms)) .atoms ⌝ }
-{
-    let mut s = [[0u8; ATOM]; ELEMENTS];
-    let mut m = 0;
-    let mut i = 0;
-    while i < n {
-        let a = atoms[i];
-        if !atom::same(&a, &x) {
-            s[m] = a;
-            m += 1;
-        }
-        i += 1;
-    }
-    s
-}
-
-// How many elements the set has without x.
-pub fn delete_count(l: &[Atom], x: &Atom) -> usize
-    ensures { λ r. ⌜ r ≡ length (without (now (x .entry) ∷ []) (now (l .entry))) ⌝ }
-{
-    let mut n = 0;
-    let mut i = 0;
-    while i < l.len() {
-        let m = atom::same(&l[i], x);
-        n += one_unless(m);
-        i += 1;
-    }
-    n
 }
 
 // Whether `count` elements in the atoms of a set are in canonical form for a base type, of a scalar where `one`.

@@ -9,33 +9,6 @@ use borrow.Author.Needs.{needs}
 use Rattle.area.proofs.atoms_at.Statement.{statement}
 use Rattle.area.proofs.atoms_at.Tie as tie
 
-cell-at-requires : tie.Need-cell-at-requires
-cell-at-requires c κs = search needs
-
-add-cell-at : tie.Need-add-cell-at
-add-cell-at c = search needs
-
-cell-at-requires-2 : tie.Need-cell-at-requires-2
-cell-at-requires-2 c κs = search needs
-
-mul-cell-at : tie.Need-mul-cell-at
-mul-cell-at c = search needs
-
-add-cell-at-2 : tie.Need-add-cell-at-2
-add-cell-at-2 c = search needs
-
-cell-at-requires-3 : tie.Need-cell-at-requires-3
-cell-at-requires-3 c κs = search needs
-
-mul-cell-at-2 : tie.Need-mul-cell-at-2
-mul-cell-at-2 c = search needs
-
-add-cell-at-3 : tie.Need-add-cell-at-3
-add-cell-at-3 c = search needs
-
-cell-at-requires-4 : tie.Need-cell-at-requires-4
-cell-at-requires-4 c κs = search needs
-
 returns : tie.Need-returns
 returns c =
     let s = c .before .before .before .before .before in
@@ -53,13 +26,13 @@ pub atoms-at-spec : {M : Type 1} → statement M
 atoms-at-spec =
     tie.close
     (tie.spec
-    cell-at-requires
-    add-cell-at
-    cell-at-requires-2
-    mul-cell-at
-    add-cell-at-2
-    cell-at-requires-3
-    mul-cell-at-2
-    add-cell-at-3
-    cell-at-requires-4
+    (λ c κs. search needs)
+    (λ c. search needs)
+    (λ c κs. search needs)
+    (λ c. search needs)
+    (λ c. search needs)
+    (λ c κs. search needs)
+    (λ c. search needs)
+    (λ c. search needs)
+    (λ c κs. search needs)
     returns)

@@ -6,21 +6,6 @@ use borrow.Author.Needs.{needs}
 use Rattle.area.proofs.canonical_column.Statement.{statement}
 use Rattle.area.proofs.canonical_column.Tie as tie
 
-kind-requires : tie.Need-kind-requires
-kind-requires c κs = search needs
-
-is-scalar-requires : tie.Need-is-scalar-requires
-is-scalar-requires c κs = search needs
-
-count-of-requires : tie.Need-count-of-requires
-count-of-requires c κs = search needs
-
-atoms-in-requires : tie.Need-atoms-in-requires
-atoms-in-requires c κs = search needs
-
-canonical-requires : tie.Need-canonical-requires
-canonical-requires c κs = search needs
-
 returns : tie.Need-returns
 returns c =
     let a = c .before .before .before .before .before .args in
@@ -32,9 +17,9 @@ pub canonical-column-spec : {M : Type 1} → statement M
 canonical-column-spec =
     tie.close
     (tie.spec
-    kind-requires
-    is-scalar-requires
-    count-of-requires
-    atoms-in-requires
-    canonical-requires
+    (λ c κs. search needs)
+    (λ c κs. search needs)
+    (λ c κs. search needs)
+    (λ c κs. search needs)
+    (λ c κs. search needs)
     returns)

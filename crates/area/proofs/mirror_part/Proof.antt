@@ -9,18 +9,6 @@ use borrow.Author.Needs.{needs}
 use Rattle.area.proofs.mirror_part.Statement.{statement}
 use Rattle.area.proofs.mirror_part.Tie as tie
 
-number-of-requires : tie.Need-number-of-requires
-number-of-requires c κs = search needs
-
-top-of-requires : tie.Need-top-of-requires
-top-of-requires c κs = search needs
-
-shared-slice-read-heard : tie.Need-shared-slice-read-heard
-shared-slice-read-heard c = search needs
-
-shared-slice-read-whole : tie.Need-shared-slice-read-whole
-shared-slice-read-whole c = search needs
-
 returns : tie.Need-returns
 unfolding tailGood
 returns c =
@@ -33,8 +21,8 @@ pub mirror-part-spec : {M : Type 1} → statement M
 mirror-part-spec =
     tie.close
     (tie.spec
-    number-of-requires
-    top-of-requires
-    shared-slice-read-heard
-    shared-slice-read-whole
+    (λ c κs. search needs)
+    (λ c κs. search needs)
+    (λ c. search needs)
+    (λ c. search needs)
     returns)

@@ -11,51 +11,6 @@ use borrow.Author.Needs.{needs}
 use Rattle.area.proofs.put_counted.Statement.{statement}
 use Rattle.area.proofs.put_counted.Tie as tie
 
-cast-put-byte : tie.Need-cast-put-byte
-cast-put-byte c = search needs
-
-put-byte-requires : tie.Need-put-byte-requires
-put-byte-requires c κs = search needs
-
-sub-put-rows : tie.Need-sub-put-rows
-sub-put-rows c = search needs
-
-part-put-rows-start : tie.Need-part-put-rows-start
-part-put-rows-start c = search needs
-
-part-put-rows-end : tie.Need-part-put-rows-end
-part-put-rows-end c = search needs
-
-put-rows-requires : tie.Need-put-rows-requires
-put-rows-requires c κs = search needs
-
-mul-put-zeros : tie.Need-mul-put-zeros
-mul-put-zeros c = search needs
-
-add-put-zeros : tie.Need-add-put-zeros
-add-put-zeros c = search needs
-
-sub-put-zeros : tie.Need-sub-put-zeros
-sub-put-zeros c = search needs
-
-part-put-zeros-start : tie.Need-part-put-zeros-start
-part-put-zeros-start c = search needs
-
-part-put-zeros-end : tie.Need-part-put-zeros-end
-part-put-zeros-end c = search needs
-
-sub-put-zeros-2 : tie.Need-sub-put-zeros-2
-sub-put-zeros-2 c = search needs
-
-mul-put-zeros-2 : tie.Need-mul-put-zeros-2
-mul-put-zeros-2 c = search needs
-
-put-zeros-requires : tie.Need-put-zeros-requires
-put-zeros-requires c κs = search needs
-
-same-length : tie.Need-same-length
-same-length c = search needs
-
 returns : tie.Need-returns
 unfolding rowsPart
 returns c =
@@ -77,19 +32,19 @@ pub put-counted-spec : {M : Type 1} → statement M
 put-counted-spec =
     tie.close
     (tie.spec
-    cast-put-byte
-    put-byte-requires
-    sub-put-rows
-    part-put-rows-start
-    part-put-rows-end
-    put-rows-requires
-    mul-put-zeros
-    add-put-zeros
-    sub-put-zeros
-    part-put-zeros-start
-    part-put-zeros-end
-    sub-put-zeros-2
-    mul-put-zeros-2
-    put-zeros-requires
-    same-length
+    (λ c. search needs)
+    (λ c κs. search needs)
+    (λ c. search needs)
+    (λ c. search needs)
+    (λ c. search needs)
+    (λ c κs. search needs)
+    (λ c. search needs)
+    (λ c. search needs)
+    (λ c. search needs)
+    (λ c. search needs)
+    (λ c. search needs)
+    (λ c. search needs)
+    (λ c. search needs)
+    (λ c κs. search needs)
+    (λ c. search needs)
     returns)

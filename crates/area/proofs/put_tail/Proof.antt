@@ -7,39 +7,6 @@ use borrow.Author.Needs.{needs}
 use Rattle.area.proofs.put_tail.Statement.{statement}
 use Rattle.area.proofs.put_tail.Tie as tie
 
-put-number-requires : tie.Need-put-number-requires
-put-number-requires c κs = search needs
-
-sub-put-byte : tie.Need-sub-put-byte
-sub-put-byte c = search needs
-
-part-put-byte-start : tie.Need-part-put-byte-start
-part-put-byte-start c = search needs
-
-part-put-byte-end : tie.Need-part-put-byte-end
-part-put-byte-end c = search needs
-
-put-byte-requires : tie.Need-put-byte-requires
-put-byte-requires c κs = search needs
-
-add-put-byte : tie.Need-add-put-byte
-add-put-byte c = search needs
-
-sub-put-byte-2 : tie.Need-sub-put-byte-2
-sub-put-byte-2 c = search needs
-
-part-put-byte-start-2 : tie.Need-part-put-byte-start-2
-part-put-byte-start-2 c = search needs
-
-part-put-byte-end-2 : tie.Need-part-put-byte-end-2
-part-put-byte-end-2 c = search needs
-
-put-byte-requires-2 : tie.Need-put-byte-requires-2
-put-byte-requires-2 c κs = search needs
-
-same-length : tie.Need-same-length
-same-length c = search needs
-
 returns : tie.Need-returns
 returns c =
     let p2 = c .before .before in
@@ -55,15 +22,15 @@ pub put-tail-spec : {M : Type 1} → statement M
 put-tail-spec =
     tie.close
     (tie.spec
-    put-number-requires
-    sub-put-byte
-    part-put-byte-start
-    part-put-byte-end
-    put-byte-requires
-    add-put-byte
-    sub-put-byte-2
-    part-put-byte-start-2
-    part-put-byte-end-2
-    put-byte-requires-2
-    same-length
+    (λ c κs. search needs)
+    (λ c. search needs)
+    (λ c. search needs)
+    (λ c. search needs)
+    (λ c κs. search needs)
+    (λ c. search needs)
+    (λ c. search needs)
+    (λ c. search needs)
+    (λ c. search needs)
+    (λ c κs. search needs)
+    (λ c. search needs)
     returns)

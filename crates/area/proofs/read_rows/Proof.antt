@@ -3,11 +3,11 @@ use mathlib.Core.Path.{_≡_, refl, sym, ap, _∙_}
 use mathlib.Core.List.{List, [], _++_}
 use Prim.Native.Nat.{ℕ, _+_, _-_, _≤_}
 use native.Mathlib.Omega.{arith}
-use lib.ListN.{length, set, take, drop, length-set}
+use lib.ListN.{length, set, drop, length-set}
 use lib.Seq.{take-all}
 use Rattle.area.specs.Layout.{rowsIn}
 use Rattle.catalog.proofs.Copied.{copied, copied-more}
-use Rattle.area.proofs.Copies.{take-copied, row-from, rows-length}
+use Rattle.area.proofs.Copies.{row-from, rows-length}
 use Rattle.area.proofs.read_rows.Statement.{statement}
 use Rattle.area.proofs.read_rows.Tie as tie
 
@@ -64,9 +64,7 @@ returns c =
     let n = s .args .n in
     let b = drop (s .args .at) (s .args .area .now) in
     let e : l .i ≡ n = omega arith in
-    let w = rows-length n b in
-    ap (take n) (l .inv .2 ∙ ap (copied (s .args .rows .now) (rowsIn n b) []) e ∙ ap (λ (q : List (List (List ℕ))). q ++ drop n (s .args .rows .now)) (take-all n (rowsIn n b) (omega arith)))
-    ∙ take-copied (s .args .rows .now) (rowsIn n b) n w
+    l .inv .2 ∙ ap (copied (s .args .rows .now) (rowsIn n b) []) e ∙ ap (λ (q : List (List (List ℕ))). q ++ drop n (s .args .rows .now)) (take-all n (rowsIn n b) (omega (arith, rows-length n b)))
 
 pub read-rows-spec : {M : Type 1} → statement M
 read-rows-spec =

@@ -9,24 +9,6 @@ use borrow.Author.Needs.{needs}
 use Rattle.area.proofs.rest_blank.Statement.{statement}
 use Rattle.area.proofs.rest_blank.Tie as tie
 
-mul-zeros-from : tie.Need-mul-zeros-from
-mul-zeros-from c = search needs
-
-add-zeros-from : tie.Need-add-zeros-from
-add-zeros-from c = search needs
-
-sub-zeros-from : tie.Need-sub-zeros-from
-sub-zeros-from c = search needs
-
-part-zeros-from-start : tie.Need-part-zeros-from-start
-part-zeros-from-start c = search needs
-
-part-zeros-from-end : tie.Need-part-zeros-from-end
-part-zeros-from-end c = search needs
-
-zeros-from-requires : tie.Need-zeros-from-requires
-zeros-from-requires c κs = search needs
-
 returns : tie.Need-returns
 returns c =
     let s = c .before .before .before in
@@ -38,4 +20,4 @@ returns c =
 pub rest-blank-spec : {M : Type 1} → statement M
 rest-blank-spec =
     tie.close
-    (tie.spec mul-zeros-from add-zeros-from sub-zeros-from part-zeros-from-start part-zeros-from-end zeros-from-requires returns)
+    (tie.spec (λ c. search needs) (λ c. search needs) (λ c. search needs) (λ c. search needs) (λ c. search needs) (λ c κs. search needs) returns)

@@ -14,39 +14,21 @@ use borrow.Author.Needs.{needs}
 use Rattle.area.proofs.row_good.Statement.{statement}
 use Rattle.area.proofs.row_good.Tie as tie
 
-table-of-requires : tie.Need-table-of-requires
-table-of-requires c κs = search needs
-
-index-1-table-count : tie.Need-index-1-table-count
-index-1-table-count c = search needs
-
-table-count-requires : tie.Need-table-count-requires
-table-count-requires c κs = search needs
-
 returns : tie.Need-returns
 returns c =
     let a = c .before .before .before .before .args in
     sym (no-table (a .schema .now) (a .row .now) (omega (arith, c .before .table-count .ensures, c .before .before .before .table-of .ensures)))
-
-has-some-id-requires : tie.Need-has-some-id-requires
-has-some-id-requires c κs = search needs
 
 returns-2 : tie.Need-returns-2
 returns-2 c =
     let a = c .before .before .before .before .before .before .args in
     sym (no-id (a .schema .now) (a .row .now) (sym (c .before .has-some-id .ensures) ∙ not-true _ (c .if2 .taken)))
 
-wide-requires : tie.Need-wide-requires
-wide-requires c κs = search needs
-
 columns-of-requires : tie.Need-columns-of-requires
 columns-of-requires c κs =
     let s = c .before .before .before .before .before .before .before in
     let l : c .wide .result < 4 = omega (arith, few-tables (s .args .schema .now) (s .pre), c .wide .ensures, c .before .before .before .before .table-count .ensures, c .before .before .before .if1 .left) in
     (l, few-columns (s .args .schema .now) (s .pre) (c .wide .result) l)
-
-tidy-row-requires : tie.Need-tidy-row-requires
-tidy-row-requires c κs = search needs
 
 returns-3 : tie.Need-returns-3
 returns-3 c =
@@ -57,9 +39,6 @@ returns-3 c =
     let h : tableIn r < getD (getD x 0 []) 25 0 = omega (arith, t, c .before .before .before .wide .ensures, c .before .before .before .before .before .before .if1 .left, c .before .before .before .before .before .before .before .table-count .ensures) in
     let e = c .before .before .columns-of .ensures .0 ∙ ap (columnsAt x) t in
     sym (not-tidy x r h (ap (λ (l : List (List ℕ)). tidyFrom (length l) r) (sym e) ∙ sym (c .before .tidy-row .ensures) ∙ not-true _ (c .if3 .taken)))
-
-canonical-row-requires : tie.Need-canonical-row-requires
-canonical-row-requires c κs = search needs
 
 returns-4 : tie.Need-returns-4
 returns-4 c =
@@ -77,15 +56,15 @@ pub row-good-spec : {M : Type 1} → statement M
 row-good-spec =
     tie.close
     (tie.spec
-    table-of-requires
-    index-1-table-count
-    table-count-requires
+    (λ c κs. search needs)
+    (λ c. search needs)
+    (λ c κs. search needs)
     returns
-    has-some-id-requires
+    (λ c κs. search needs)
     returns-2
-    wide-requires
+    (λ c κs. search needs)
     columns-of-requires
-    tidy-row-requires
+    (λ c κs. search needs)
     returns-3
-    canonical-row-requires
+    (λ c κs. search needs)
     returns-4)

@@ -7,24 +7,15 @@ use borrow.Author.Needs.{needs}
 use Rattle.area.proofs.rows_good.Statement.{statement}
 use Rattle.area.proofs.rows_good.Tie as tie
 
-each-good-requires : tie.Need-each-good-requires
-each-good-requires c κs = search needs
-
 returns : tie.Need-returns
 returns c =
     let a = c .before .before .args in
     sym (rows-no (a .schema .now) (a .n) (a .rows .now) (sym (c .before .each-good .ensures) ∙ not-true _ (c .if1 .taken)))
 
-ascending-requires : tie.Need-ascending-requires
-ascending-requires c κs = search needs
-
 returns-2 : tie.Need-returns-2
 returns-2 c =
     let a = c .before .before .before .before .args in
     sym (rows-apart (a .schema .now) (a .n) (a .rows .now) (sym (c .before .ascending .ensures (packedTables (a .schema .now))) ∙ not-true _ (c .if2 .taken)))
-
-distinct-requires : tie.Need-distinct-requires
-distinct-requires c κs = search needs
 
 returns-3 : tie.Need-returns-3
 returns-3 c =
@@ -36,4 +27,4 @@ returns-3 c =
 pub rows-good-spec : {M : Type 1} → statement M
 rows-good-spec =
     tie.close
-    (tie.spec each-good-requires returns ascending-requires returns-2 distinct-requires returns-3)
+    (tie.spec (λ c κs. search needs) returns (λ c κs. search needs) returns-2 (λ c κs. search needs) returns-3)

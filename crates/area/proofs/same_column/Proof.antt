@@ -12,24 +12,6 @@ use borrow.Author.Needs.{needs}
 use Rattle.area.proofs.same_column.Statement.{statement}
 use Rattle.area.proofs.same_column.Tie as tie
 
-mul-at : tie.Need-mul-at
-mul-at c = search needs
-
-add-at : tie.Need-add-at
-add-at c = search needs
-
-add-if1 : tie.Need-add-if1
-add-if1 c = search needs
-
-add-if1-2 : tie.Need-add-if1-2
-add-if1-2 c = search needs
-
-shared-slice-read-if1 : tie.Need-shared-slice-read-if1
-shared-slice-read-if1 c = search needs
-
-count-of-requires : tie.Need-count-of-requires
-count-of-requires c κs = search needs
-
 returns : tie.Need-returns
 returns c =
     let s = c .before .before .before .before in
@@ -37,30 +19,6 @@ returns c =
     let v = value-at (a .area .now) (a .i) (a .c) (s .pre .2) in
     sym (value-no (valueIn (a .c) (rowAt (a .area .now) (a .i))) (valueIn (a .c) (a .row .now))
     (λ q. c .if1 .taken (sym (ap (λ (x : Value). x .count) v) ∙ q ∙ sym (c .before .count-of .ensures))))
-
-mul-atoms-at : tie.Need-mul-atoms-at
-mul-atoms-at c = search needs
-
-add-atoms-at : tie.Need-add-atoms-at
-add-atoms-at c = search needs
-
-mul-atoms-at-2 : tie.Need-mul-atoms-at-2
-mul-atoms-at-2 c = search needs
-
-add-atoms-at-2 : tie.Need-add-atoms-at-2
-add-atoms-at-2 c = search needs
-
-atoms-at-requires : tie.Need-atoms-at-requires
-atoms-at-requires c κs = search needs
-
-slice-aggregate-equal : tie.Need-slice-aggregate-equal
-slice-aggregate-equal c = search needs
-
-atoms-in-requires : tie.Need-atoms-in-requires
-atoms-in-requires c κs = search needs
-
-equal-requires : tie.Need-equal-requires
-equal-requires c κs = search needs
 
 returns-2 : tie.Need-returns-2
 returns-2 c =
@@ -76,19 +34,19 @@ pub same-column-spec : {M : Type 1} → statement M
 same-column-spec =
     tie.close
     (tie.spec
-    mul-at
-    add-at
-    add-if1
-    add-if1-2
-    shared-slice-read-if1
-    count-of-requires
+    (λ c. search needs)
+    (λ c. search needs)
+    (λ c. search needs)
+    (λ c. search needs)
+    (λ c. search needs)
+    (λ c κs. search needs)
     returns
-    mul-atoms-at
-    add-atoms-at
-    mul-atoms-at-2
-    add-atoms-at-2
-    atoms-at-requires
-    slice-aggregate-equal
-    atoms-in-requires
-    equal-requires
+    (λ c. search needs)
+    (λ c. search needs)
+    (λ c. search needs)
+    (λ c. search needs)
+    (λ c κs. search needs)
+    (λ c. search needs)
+    (λ c κs. search needs)
+    (λ c κs. search needs)
     returns-2)

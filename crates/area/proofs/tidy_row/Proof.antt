@@ -11,29 +11,11 @@ use borrow.Author.Needs.{needs}
 use Rattle.area.proofs.tidy_row.Statement.{statement}
 use Rattle.area.proofs.tidy_row.Tie as tie
 
-index-1-blank-from : tie.Need-index-1-blank-from
-index-1-blank-from c = search needs
-
-add-blank-from : tie.Need-add-blank-from
-add-blank-from c = search needs
-
-blank-from-requires : tie.Need-blank-from-requires
-blank-from-requires c κs = search needs
-
 returns : tie.Need-returns
 unfolding tidyFrom
 returns c =
     let a = c .before .before .before .args in
     sym (ap (λ (b : Bool). b && all zeros (drop (1 + 4 * a .k) (a .row .now))) (sym (c .before .blank-from .ensures .0) ∙ not-true _ (c .if1 .taken)))
-
-mul-blank-cells : tie.Need-mul-blank-cells
-mul-blank-cells c = search needs
-
-add-blank-cells : tie.Need-add-blank-cells
-add-blank-cells c = search needs
-
-blank-cells-requires : tie.Need-blank-cells-requires
-blank-cells-requires c κs = search needs
 
 returns-2 : tie.Need-returns-2
 unfolding tidyFrom
@@ -45,11 +27,11 @@ pub tidy-row-spec : {M : Type 1} → statement M
 tidy-row-spec =
     tie.close
     (tie.spec
-    index-1-blank-from
-    add-blank-from
-    blank-from-requires
+    (λ c. search needs)
+    (λ c. search needs)
+    (λ c κs. search needs)
     returns
-    mul-blank-cells
-    add-blank-cells
-    blank-cells-requires
+    (λ c. search needs)
+    (λ c. search needs)
+    (λ c κs. search needs)
     returns-2)

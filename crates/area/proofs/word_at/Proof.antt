@@ -10,18 +10,6 @@ use borrow.Author.Needs.{needs}
 use Rattle.area.proofs.word_at.Statement.{statement}
 use Rattle.area.proofs.word_at.Tie as tie
 
-sub-number : tie.Need-sub-number
-sub-number c = search needs
-
-part-number-start : tie.Need-part-number-start
-part-number-start c = search needs
-
-part-number-end : tie.Need-part-number-end
-part-number-end c = search needs
-
-number-requires : tie.Need-number-requires
-number-requires c κs = search needs
-
 read : (c : tie.After-number) → c .number .result ≡ value (part (c .before .before .before .args .at) 4 (c .before .before .before .args .area .now))
 read c = c .number .ensures ∙ ap (λ (l : List ℕ). value (take 4 l)) (mid-rest (c .before .before .before .args .at) (c .before .before .before .args .area .now))
 
@@ -37,4 +25,4 @@ returns c = read c
 pub word-at-spec : {M : Type 1} → statement M
 word-at-spec =
     tie.close
-    (tie.spec sub-number part-number-start part-number-end number-requires cast-result returns)
+    (tie.spec (λ c. search needs) (λ c. search needs) (λ c. search needs) (λ c κs. search needs) cast-result returns)

@@ -5,21 +5,6 @@ use borrow.Author.Needs.{needs}
 use Rattle.area.proofs.write_rows.Statement.{statement}
 use Rattle.area.proofs.write_rows.Tie as tie
 
-sub-put-counted : tie.Need-sub-put-counted
-sub-put-counted c = search needs
-
-part-put-counted-start : tie.Need-part-put-counted-start
-part-put-counted-start c = search needs
-
-part-put-counted-end : tie.Need-part-put-counted-end
-part-put-counted-end c = search needs
-
-put-counted-requires : tie.Need-put-counted-requires
-put-counted-requires c κs = search needs
-
-same-length : tie.Need-same-length
-same-length c = search needs
-
 returns : tie.Need-returns
 returns c = place-rest countOffset 20001 _ _ _ (c .before .before .put-counted .ensures)
 
@@ -27,9 +12,9 @@ pub write-rows-spec : {M : Type 1} → statement M
 write-rows-spec =
     tie.close
     (tie.spec
-    sub-put-counted
-    part-put-counted-start
-    part-put-counted-end
-    put-counted-requires
-    same-length
+    (λ c. search needs)
+    (λ c. search needs)
+    (λ c. search needs)
+    (λ c κs. search needs)
+    (λ c. search needs)
     returns)

@@ -14,48 +14,6 @@ use borrow.Author.Needs.{needs}
 use Rattle.area.proofs.write_store.Statement.{statement}
 use Rattle.area.proofs.write_store.Tie as tie
 
-put-number-requires : tie.Need-put-number-requires
-put-number-requires c κs = search needs
-
-sub-put-number : tie.Need-sub-put-number
-sub-put-number c = search needs
-
-part-put-number-start : tie.Need-part-put-number-start
-part-put-number-start c = search needs
-
-part-put-number-end : tie.Need-part-put-number-end
-part-put-number-end c = search needs
-
-put-number-requires-2 : tie.Need-put-number-requires-2
-put-number-requires-2 c κs = search needs
-
-sub-put-catalog : tie.Need-sub-put-catalog
-sub-put-catalog c = search needs
-
-part-put-catalog-start : tie.Need-part-put-catalog-start
-part-put-catalog-start c = search needs
-
-part-put-catalog-end : tie.Need-part-put-catalog-end
-part-put-catalog-end c = search needs
-
-put-catalog-requires : tie.Need-put-catalog-requires
-put-catalog-requires c κs = search needs
-
-sub-put-counted : tie.Need-sub-put-counted
-sub-put-counted c = search needs
-
-part-put-counted-start : tie.Need-part-put-counted-start
-part-put-counted-start c = search needs
-
-part-put-counted-end : tie.Need-part-put-counted-end
-part-put-counted-end c = search needs
-
-put-counted-requires : tie.Need-put-counted-requires
-put-counted-requires c κs = search needs
-
-same-length : tie.Need-same-length
-same-length c = search needs
-
 returns : tie.Need-returns
 returns c d e t =
     let p3 = c .before .before in
@@ -78,18 +36,18 @@ pub write-store-spec : {M : Type 1} → statement M
 write-store-spec =
     tie.close
     (tie.spec
-    put-number-requires
-    sub-put-number
-    part-put-number-start
-    part-put-number-end
-    put-number-requires-2
-    sub-put-catalog
-    part-put-catalog-start
-    part-put-catalog-end
-    put-catalog-requires
-    sub-put-counted
-    part-put-counted-start
-    part-put-counted-end
-    put-counted-requires
-    same-length
+    (λ c κs. search needs)
+    (λ c. search needs)
+    (λ c. search needs)
+    (λ c. search needs)
+    (λ c κs. search needs)
+    (λ c. search needs)
+    (λ c. search needs)
+    (λ c. search needs)
+    (λ c κs. search needs)
+    (λ c. search needs)
+    (λ c. search needs)
+    (λ c. search needs)
+    (λ c κs. search needs)
+    (λ c. search needs)
     returns)

@@ -9,27 +9,6 @@ use borrow.Author.Needs.{needs}
 use Rattle.area.proofs.write_tail.Statement.{statement}
 use Rattle.area.proofs.write_tail.Tie as tie
 
-bit-requires : tie.Need-bit-requires
-bit-requires c κs = search needs
-
-bit-requires-2 : tie.Need-bit-requires-2
-bit-requires-2 c κs = search needs
-
-sub-put-tail : tie.Need-sub-put-tail
-sub-put-tail c = search needs
-
-part-put-tail-start : tie.Need-part-put-tail-start
-part-put-tail-start c = search needs
-
-part-put-tail-end : tie.Need-part-put-tail-end
-part-put-tail-end c = search needs
-
-put-tail-requires : tie.Need-put-tail-requires
-put-tail-requires c κs = search needs
-
-same-length : tie.Need-same-length
-same-length c = search needs
-
 returns : tie.Need-returns
 unfolding tailBytes
 returns c =
@@ -43,11 +22,11 @@ pub write-tail-spec : {M : Type 1} → statement M
 write-tail-spec =
     tie.close
     (tie.spec
-    bit-requires
-    bit-requires-2
-    sub-put-tail
-    part-put-tail-start
-    part-put-tail-end
-    put-tail-requires
-    same-length
+    (λ c κs. search needs)
+    (λ c κs. search needs)
+    (λ c. search needs)
+    (λ c. search needs)
+    (λ c. search needs)
+    (λ c κs. search needs)
+    (λ c. search needs)
     returns)

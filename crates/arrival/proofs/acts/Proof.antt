@@ -18,9 +18,6 @@ use Rattle.arrival.proofs.Doing.{left-as, narrow, born-known, born-room
 use Rattle.arrival.proofs.acts.Statement.{statement}
 use Rattle.arrival.proofs.acts.Tie as tie
 
-enum-known-arrival : tie.Need-enum-known-arrival
-enum-known-arrival c = search needs
-
 id-of-requires : tie.Need-id-of-requires
 id-of-requires c κs =
     let s = c .before .before .before .before in
@@ -42,19 +39,10 @@ born-requires c κs =
       ),
     )
 
-add-result : tie.Need-add-result
-add-result c = search needs
-
-enum-known-arrival-2 : tie.Need-enum-known-arrival-2
-enum-known-arrival-2 c = search needs
-
 id-of-requires-2 : tie.Need-id-of-requires-2
 id-of-requires-2 c κs =
     let s = c .before .before .before .before in
     omega (arith, gone-size (s .args .arrival) (length (s .args .bytes .now)) (s .pre .1 .1 .0) _ (c .before .arrival2 .given .1))
-
-gone-requires : tie.Need-gone-requires
-gone-requires c κs = search needs
 
 sub-result : tie.Need-sub-result
 sub-result c =
@@ -62,9 +50,6 @@ sub-result c =
     let s = k .before .before .before in
     let a = s .args in
     omega (arith, gone-some (a .schema .now) (s .pre .0) (a .arrival) (a .bytes .now) (working (packedTables (a .schema .now)) (a .count) (a .rows .now)) (s .pre .1 .1 .1) (k .arrival2 .given .0 .0) (k .arrival2 .given .1), working-length (packedTables (a .schema .now)) (a .rows .now) (a .count) (omega (arith, s .pre .1 .0)))
-
-enum-known-arrival-3 : tie.Need-enum-known-arrival-3
-enum-known-arrival-3 c = search needs
 
 id-of-requires-3 : tie.Need-id-of-requires-3
 id-of-requires-3 c κs =
@@ -75,9 +60,6 @@ atoms-requires : tie.Need-atoms-requires
 atoms-requires c κs =
     let s = c .before .before .before .before .before in
     omega (arith, column-size (s .args .arrival) (length (s .args .bytes .now)) (s .pre .1 .1 .0) _ (c .before .before .arrival3 .given .1))
-
-wide-requires : tie.Need-wide-requires
-wide-requires c κs = search needs
 
 set-requires : tie.Need-set-requires
 set-requires c κs =
@@ -92,18 +74,6 @@ set-requires c κs =
       omega (arith, c .before .wide .ensures, column-here (a .schema .now) (s .pre .0) (a .arrival) (a .bytes .now) rows w r e, narrow (a .schema .now) (s .pre .0) (r .table) (value (idIn (a .bytes .now))) (column-known (a .schema .now) (s .pre .0) (a .arrival) (a .bytes .now) rows w r e)),
     )
 
-enum-told : tie.Need-enum-told
-enum-told c = search needs
-
-enum-told-2 : tie.Need-enum-told-2
-enum-told-2 c = search needs
-
-enum-told-3 : tie.Need-enum-told-3
-enum-told-3 c = search needs
-
-same-length : tie.Need-same-length
-same-length c = search needs
-
 returns : tie.Need-returns
 returns c =
     let k = c .before .before .before .before .before .before in
@@ -112,9 +82,6 @@ returns c =
     let t = packedTables (a .schema .now) in
     let rows = working t (a .count) (a .rows .now) in
     left-as t _ _ (a .count) (a .rows .now) _ (c .before .born .last .1 .0) (acts-born t (a .arrival) (a .bytes .now) rows _ (c .before .before .before .before .id-of .ensures) (k .arrival .given .0 .0) (k .arrival .given .1)) (c .before .born .ensures)
-
-same-length-2 : tie.Need-same-length-2
-same-length-2 c = search needs
 
 returns-2 : tie.Need-returns-2
 returns-2 c =
@@ -128,9 +95,6 @@ returns-2 c =
     let p = c .before .before .before .before .id-of2 .ensures in
     left-as t _ _ (a .count) (a .rows .now) _ (c .before .gone .last .0) (acts-gone t (a .arrival) (a .bytes .now) rows _ p r e)
     (c .before .gone .ensures t (ap (λ (l : List ℕ). has (keyOf (r .table) (value l)) rows) p ∙ gone-there (a .schema .now) (s .pre .0) (a .arrival) (a .bytes .now) rows (s .pre .1 .1 .1) r e))
-
-same-length-3 : tie.Need-same-length-3
-same-length-3 c = search needs
 
 returns-3 : tie.Need-returns-3
 returns-3 c =
@@ -166,27 +130,27 @@ pub acts-spec : {M : Type 1} → statement M
 acts-spec =
     tie.close
     (tie.spec
-    enum-known-arrival
+    (λ c. search needs)
     id-of-requires
     born-requires
-    add-result
-    enum-known-arrival-2
+    (λ c. search needs)
+    (λ c. search needs)
     id-of-requires-2
-    gone-requires
+    (λ c κs. search needs)
     sub-result
-    enum-known-arrival-3
+    (λ c. search needs)
     id-of-requires-3
     atoms-requires
-    wide-requires
+    (λ c κs. search needs)
     set-requires
-    enum-told
-    enum-told-2
-    enum-told-3
-    same-length
+    (λ c. search needs)
+    (λ c. search needs)
+    (λ c. search needs)
+    (λ c. search needs)
     returns
-    same-length-2
+    (λ c. search needs)
     returns-2
-    same-length-3
+    (λ c. search needs)
     returns-3
     returns-4
     returns-5

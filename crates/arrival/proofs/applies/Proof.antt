@@ -5,12 +5,9 @@ use Rattle.arrival.specs.Steps.{appliesOf}
 use Rattle.arrival.proofs.applies.Statement.{statement}
 use Rattle.arrival.proofs.applies.Tie as tie
 
-larger-requires : tie.Need-larger-requires
-larger-requires c κs = search needs
-
 returns : tie.Need-returns
 unfolding appliesOf
 returns c = λ j. record { n = c .before .args .number; top = c .larger .ensures j; heard = true; whole = c .before .args .ends }
 
 pub applies-spec : {M : Type 1} → statement M
-applies-spec = tie.close (tie.spec larger-requires returns)
+applies-spec = tie.close (tie.spec (λ c κs. search needs) returns)

@@ -12,17 +12,11 @@ use Rattle.arrival.proofs.Answers.{bad-unsound, bad-mark, bad-zero, bad
 use Rattle.arrival.proofs.bad.Statement.{statement}
 use Rattle.arrival.proofs.bad.Tie as tie
 
-sound-requires : tie.Need-sound-requires
-sound-requires c κs = search needs
-
 returns : tie.Need-returns
 returns c =
     let s = c .before .before .before in
     let a = s .args in
     sym (bad-unsound (packedTables (a .schema .now)) (a .n) (working (packedTables (a .schema .now)) (a .count) (a .rows .now)) (arrivalRecord (a .arrival) (a .bytes .now)) (sym (c .before .sound .ensures) ∙ not-true _ (c .if1 .taken)))
-
-head-of-requires : tie.Need-head-of-requires
-head-of-requires c κs = search needs
 
 returns-2 : tie.Need-returns-2
 returns-2 c =
@@ -40,9 +34,6 @@ returns-3 c =
     sym (bad-zero (packedTables (a .schema .now)) (a .n) (working (packedTables (a .schema .now)) (a .count) (a .rows .now)) (arrivalRecord (a .arrival) (a .bytes .now))
     (sym (ap (λ (h : Head). h .marks) e) ∙ c .before .if2 .left) (sym (ap (λ (h : Head). h .number) e) ∙ c .if3 .taken))
 
-sub-if4 : tie.Need-sub-if4
-sub-if4 c = search needs
-
 returns-4 : tie.Need-returns-4
 returns-4 c =
     let k = c .before .before .before in
@@ -54,9 +45,6 @@ returns-4 c =
     (sym (ap (λ (h : Head). h .marks) e) ∙ c .before .before .if2 .left)
     (λ z. c .before .if3 .left (ap (λ (h : Head). h .number) e ∙ z))
     (λ z. c .if4 .taken (ap (λ (h : Head). h .number - 1) e ∙ z)))
-
-fits-requires : tie.Need-fits-requires
-fits-requires c κs = search needs
 
 returns-5 : tie.Need-returns-5
 returns-5 c =
@@ -76,12 +64,12 @@ pub bad-spec : {M : Type 1} → statement M
 bad-spec =
     tie.close
     (tie.spec
-    sound-requires
+    (λ c κs. search needs)
     returns
-    head-of-requires
+    (λ c κs. search needs)
     returns-2
     returns-3
-    sub-if4
+    (λ c. search needs)
     returns-4
-    fits-requires
+    (λ c κs. search needs)
     returns-5)

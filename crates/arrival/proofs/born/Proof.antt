@@ -16,27 +16,12 @@ use Rattle.arrival.proofs.Doing.{known-here, narrow, added-left}
 use Rattle.arrival.proofs.born.Statement.{statement}
 use Rattle.arrival.proofs.born.Tie as tie
 
-wide-requires : tie.Need-wide-requires
-wide-requires c κs = search needs
-
 columns-of-requires : tie.Need-columns-of-requires
 columns-of-requires c κs =
     let s = c .before in
     let h = known-here (s .args .schema .now) (s .pre .0) (s .args .table) (value (s .args .id .now)) (s .pre .1 .1) in
     let l : c .wide .result < mostTables = omega (arith, c .wide .ensures, h, few-tables _ (s .pre .0)) in
     (l, few-columns _ (s .pre .0) (c .wide .result) l)
-
-minimums-of-requires : tie.Need-minimums-of-requires
-minimums-of-requires c κs = search needs
-
-new-row-requires : tie.Need-new-row-requires
-new-row-requires c κs = search needs
-
-add-requires : tie.Need-add-requires
-add-requires c κs = search needs
-
-same-length : tie.Need-same-length
-same-length c = search needs
 
 returns : tie.Need-returns
 returns c =
@@ -57,10 +42,10 @@ pub born-spec : {M : Type 1} → statement M
 born-spec =
     tie.close
     (tie.spec
-    wide-requires
+    (λ c κs. search needs)
     columns-of-requires
-    minimums-of-requires
-    new-row-requires
-    add-requires
-    same-length
+    (λ c κs. search needs)
+    (λ c κs. search needs)
+    (λ c κs. search needs)
+    (λ c. search needs)
     returns)

@@ -13,21 +13,6 @@ use Rattle.arrival.proofs.Records.{listed-place, canonical-column}
 use Rattle.arrival.proofs.canonical.Statement.{statement}
 use Rattle.arrival.proofs.canonical.Tie as tie
 
-enum-told : tie.Need-enum-told
-enum-told c = search needs
-
-enum-told-2 : tie.Need-enum-told-2
-enum-told-2 c = search needs
-
-enum-known-arrival : tie.Need-enum-known-arrival
-enum-known-arrival c = search needs
-
-wide-requires : tie.Need-wide-requires
-wide-requires c κs = search needs
-
-wide-requires-2 : tie.Need-wide-requires-2
-wide-requires-2 c κs = search needs
-
 atoms-requires : tie.Need-atoms-requires
 atoms-requires c κs =
     let s = c .before .before .before .before .before .before in
@@ -39,21 +24,6 @@ column-requires c κs =
     let s = k .before .before .before in
     let p = listed-place (s .args .schema .now) (s .pre .0) (s .args .arrival) (s .args .bytes .now) (k .arrival .given .0 .0) (k .arrival .given .1) (s .pre .1 .1) in
     (omega (arith, c .before .before .wide .ensures, p .0), omega (arith, c .before .wide2 .ensures, p .1))
-
-slice-aggregate-canonical-by : tie.Need-slice-aggregate-canonical-by
-slice-aggregate-canonical-by c = search needs
-
-canonical-by-requires : tie.Need-canonical-by-requires
-canonical-by-requires c κs = search needs
-
-enum-told-3 : tie.Need-enum-told-3
-enum-told-3 c = search needs
-
-enum-told-4 : tie.Need-enum-told-4
-enum-told-4 c = search needs
-
-enum-told-5 : tie.Need-enum-told-5
-enum-told-5 c = search needs
 
 returns : tie.Need-returns
 unfolding canonicalRecord canonicalIn arrivalRecord
@@ -94,18 +64,18 @@ pub canonical-spec : {M : Type 1} → statement M
 canonical-spec =
     tie.close
     (tie.spec
-    enum-told
-    enum-told-2
-    enum-known-arrival
-    wide-requires
-    wide-requires-2
+    (λ c. search needs)
+    (λ c. search needs)
+    (λ c. search needs)
+    (λ c κs. search needs)
+    (λ c κs. search needs)
     atoms-requires
     column-requires
-    slice-aggregate-canonical-by
-    canonical-by-requires
-    enum-told-3
-    enum-told-4
-    enum-told-5
+    (λ c. search needs)
+    (λ c κs. search needs)
+    (λ c. search needs)
+    (λ c. search needs)
+    (λ c. search needs)
     returns
     returns-2
     returns-3

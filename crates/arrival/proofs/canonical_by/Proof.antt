@@ -5,15 +5,6 @@ use Rattle.model.specs.Catalog.{columnFrom, baseNumbered}
 use Rattle.arrival.proofs.canonical_by.Statement.{statement}
 use Rattle.arrival.proofs.canonical_by.Tie as tie
 
-kind-requires : tie.Need-kind-requires
-kind-requires c κs = search needs
-
-is-scalar-requires : tie.Need-is-scalar-requires
-is-scalar-requires c κs = search needs
-
-canonical-requires : tie.Need-canonical-requires
-canonical-requires c κs = search needs
-
 returns : tie.Need-returns
 returns c =
     let x = c .before .before .before .args .entry .now in
@@ -21,4 +12,4 @@ returns c =
 
 pub canonical-by-spec : {M : Type 1} → statement M
 canonical-by-spec =
-    tie.close (tie.spec kind-requires is-scalar-requires canonical-requires returns)
+    tie.close (tie.spec (λ c κs. search needs) (λ c κs. search needs) (λ c κs. search needs) returns)

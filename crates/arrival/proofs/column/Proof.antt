@@ -16,12 +16,6 @@ use Rattle.arrival.proofs.Changes.{found-column, no-row-column}
 use Rattle.arrival.proofs.column.Statement.{statement}
 use Rattle.arrival.proofs.column.Tie as tie
 
-find-requires : tie.Need-find-requires
-find-requires c κs = search needs
-
-enum-known-found : tie.Need-enum-known-found
-enum-known-found c = search needs
-
 mul-put-column : tie.Need-mul-put-column
 mul-put-column c =
     let k = c .before in
@@ -38,21 +32,6 @@ shared-slice-element-put-column c =
     let w = place-at (keyOf (a .table) (value (a .id .now))) (working [] (a .count) (a .rows .now)) (k .found .given .0 .0) (sym (k .before .before .find .ensures []) ∙ k .found .given .1) in
     omega (arith, w .within, working-length [] (a .rows .now) (a .count) (omega (arith, s .pre .1 .0)), s .pre .1 .0)
 
-wide-requires : tie.Need-wide-requires
-wide-requires c κs = search needs
-
-put-column-requires : tie.Need-put-column-requires
-put-column-requires c κs = search needs
-
-enum-told : tie.Need-enum-told
-enum-told c = search needs
-
-clear-requires : tie.Need-clear-requires
-clear-requires c κs = search needs
-
-same-length : tie.Need-same-length
-same-length c = search needs
-
 returns : tie.Need-returns
 returns c =
     let k = c .before .before .before .before .before .before .before in
@@ -64,9 +43,6 @@ returns c =
     c .before .before .put-column .ensures
     ∙ ap (columnIn t (getD (a .rows .now) i [])) (c .before .before .before .before .wide .ensures)
     ∙ sym (found-column t (a .count) (a .rows .now) (omega (arith, s .pre .1 .0)) (a .table) (value (a .id .now)) (a .c) i w)
-
-same-length-2 : tie.Need-same-length-2
-same-length-2 c = search needs
 
 returns-2 : tie.Need-returns-2
 returns-2 c =
@@ -82,15 +58,15 @@ pub column-spec : {M : Type 1} → statement M
 column-spec =
     tie.close
     (tie.spec
-    find-requires
-    enum-known-found
+    (λ c κs. search needs)
+    (λ c. search needs)
     mul-put-column
     shared-slice-element-put-column
-    wide-requires
-    put-column-requires
-    enum-told
-    clear-requires
-    same-length
+    (λ c κs. search needs)
+    (λ c κs. search needs)
+    (λ c. search needs)
+    (λ c κs. search needs)
+    (λ c. search needs)
     returns
-    same-length-2
+    (λ c. search needs)
     returns-2)

@@ -15,47 +15,20 @@ use Rattle.arrival.proofs.Records.{fits-born, fits-gone, fits-column}
 use Rattle.arrival.proofs.fits.Statement.{statement}
 use Rattle.arrival.proofs.fits.Tie as tie
 
-enum-told : tie.Need-enum-told
-enum-told c = search needs
-
 id-of-requires : tie.Need-id-of-requires
 id-of-requires c κs =
     let s = c .before .before .before in
     omega (arith, born-size (s .args .arrival) (length (s .args .bytes .now)) (s .pre .1) _ (c .enum-told .given .1))
-
-has-id-requires : tie.Need-has-id-requires
-has-id-requires c κs = search needs
-
-enum-known-arrival : tie.Need-enum-known-arrival
-enum-known-arrival c = search needs
 
 id-of-requires-2 : tie.Need-id-of-requires-2
 id-of-requires-2 c κs =
     let s = c .before .before .before .before in
     omega (arith, gone-size (s .args .arrival) (length (s .args .bytes .now)) (s .pre .1) _ (c .before .arrival .given .1))
 
-has-row-requires : tie.Need-has-row-requires
-has-row-requires c κs = search needs
-
-enum-known-arrival-2 : tie.Need-enum-known-arrival-2
-enum-known-arrival-2 c = search needs
-
 id-of-requires-3 : tie.Need-id-of-requires-3
 id-of-requires-3 c κs =
     let s = c .before .before .before .before in
     omega (arith, column-size (s .args .arrival) (length (s .args .bytes .now)) (s .pre .1) _ (c .before .arrival2 .given .1))
-
-has-row-requires-2 : tie.Need-has-row-requires-2
-has-row-requires-2 c κs = search needs
-
-enum-told-2 : tie.Need-enum-told-2
-enum-told-2 c = search needs
-
-enum-told-3 : tie.Need-enum-told-3
-enum-told-3 c = search needs
-
-enum-told-4 : tie.Need-enum-told-4
-enum-told-4 c = search needs
 
 returns : tie.Need-returns
 returns c =
@@ -99,18 +72,18 @@ pub fits-spec : {M : Type 1} → statement M
 fits-spec =
     tie.close
     (tie.spec
-    enum-told
+    (λ c. search needs)
     id-of-requires
-    has-id-requires
-    enum-known-arrival
+    (λ c κs. search needs)
+    (λ c. search needs)
     id-of-requires-2
-    has-row-requires
-    enum-known-arrival-2
+    (λ c κs. search needs)
+    (λ c. search needs)
     id-of-requires-3
-    has-row-requires-2
-    enum-told-2
-    enum-told-3
-    enum-told-4
+    (λ c κs. search needs)
+    (λ c. search needs)
+    (λ c. search needs)
+    (λ c. search needs)
     returns
     returns-2
     returns-3

@@ -12,12 +12,6 @@ use Rattle.inner.specs.Working.{working}
 use Rattle.arrival.proofs.gone.Statement.{statement}
 use Rattle.arrival.proofs.gone.Tie as tie
 
-find-requires : tie.Need-find-requires
-find-requires c κs = search needs
-
-enum-known-found : tie.Need-enum-known-found
-enum-known-found c = search needs
-
 remove-at-requires : tie.Need-remove-at-requires
 remove-at-requires c κs =
     let k = c .before .before in
@@ -25,12 +19,6 @@ remove-at-requires c κs =
     let a = s .args in
     let w = place-at (keyOf (a .table) (value (a .id .now))) (working [] (a .count) (a .rows .now)) (k .found .given .0 .0) (sym (k .before .before .find .ensures []) ∙ k .found .given .1) in
     (omega (arith, w .within, working-length [] (a .rows .now) (a .count) (omega (arith, s .pre))), omega (arith, s .pre))
-
-enum-told : tie.Need-enum-told
-enum-told c = search needs
-
-same-length : tie.Need-same-length
-same-length c = search needs
 
 returns : tie.Need-returns
 returns c =
@@ -45,9 +33,6 @@ returns c =
       tidy = λ g z. e .tidy t z;
     }
 
-same-length-2 : tie.Need-same-length-2
-same-length-2 c = search needs
-
 returns-2 : tie.Need-returns-2
 returns-2 c =
     let s = c .before .before .before .before in
@@ -59,11 +44,11 @@ pub gone-spec : {M : Type 1} → statement M
 gone-spec =
     tie.close
     (tie.spec
-    find-requires
-    enum-known-found
+    (λ c κs. search needs)
+    (λ c. search needs)
     remove-at-requires
-    enum-told
-    same-length
+    (λ c. search needs)
+    (λ c. search needs)
     returns
-    same-length-2
+    (λ c. search needs)
     returns-2)

@@ -5,12 +5,9 @@ use Rattle.arrival.specs.Steps.{hearsOf}
 use Rattle.arrival.proofs.hears.Statement.{statement}
 use Rattle.arrival.proofs.hears.Tie as tie
 
-larger-requires : tie.Need-larger-requires
-larger-requires c κs = search needs
-
 returns : tie.Need-returns
 unfolding hearsOf
 returns c = λ j. record { n = c .before .args .m .n; top = c .larger .ensures j; heard = true; whole = c .before .args .m .whole }
 
 pub hears-spec : {M : Type 1} → statement M
-hears-spec = tie.close (tie.spec larger-requires returns)
+hears-spec = tie.close (tie.spec (λ c κs. search needs) returns)

@@ -11,18 +11,6 @@ use Rattle.record.specs.Reading.{arrivalRecord, listedRecord}
 use Rattle.arrival.proofs.listed.Statement.{statement}
 use Rattle.arrival.proofs.listed.Tie as tie
 
-counts-of-requires : tie.Need-counts-of-requires
-counts-of-requires c κs = search needs
-
-index-1-table-count : tie.Need-index-1-table-count
-index-1-table-count c = search needs
-
-table-count-requires : tie.Need-table-count-requires
-table-count-requires c κs = search needs
-
-wide-requires : tie.Need-wide-requires
-wide-requires c κs = search needs
-
 array-share-prefix-counts : tie.Need-array-share-prefix-counts
 array-share-prefix-counts c =
     let n = few-tables _ (c .before .before .before .before .before .pre .0) in
@@ -34,9 +22,6 @@ slice-aggregate-listed c =
     let r = c .before .before .before .before .counts-of .result in
     let h : c .before .wide .result ≤ length r = omega (arith, c .before .wide .ensures, c .before .before .table-count .ensures, few-tables _ (s .pre .0)) in
     omega (arith, length-take-le (c .before .wide .result) r h)
-
-listed-requires : tie.Need-listed-requires
-listed-requires c κs = search needs
 
 returns : tie.Need-returns
 returns c =
@@ -50,11 +35,11 @@ pub listed-spec : {M : Type 1} → statement M
 listed-spec =
     tie.close
     (tie.spec
-    counts-of-requires
-    index-1-table-count
-    table-count-requires
-    wide-requires
+    (λ c κs. search needs)
+    (λ c. search needs)
+    (λ c κs. search needs)
+    (λ c κs. search needs)
     array-share-prefix-counts
     slice-aggregate-listed
-    listed-requires
+    (λ c κs. search needs)
     returns)

@@ -12,21 +12,6 @@ use Rattle.arrival.proofs.Changes.{no-table, no-column, that-column}
 use Rattle.arrival.proofs.put_column.Statement.{statement}
 use Rattle.arrival.proofs.put_column.Tie as tie
 
-table-of-requires : tie.Need-table-of-requires
-table-of-requires c κs = search needs
-
-wide-requires : tie.Need-wide-requires
-wide-requires c κs = search needs
-
-index-1-table-count : tie.Need-index-1-table-count
-index-1-table-count c = search needs
-
-table-count-requires : tie.Need-table-count-requires
-table-count-requires c κs = search needs
-
-wide-requires-2 : tie.Need-wide-requires-2
-wide-requires-2 c κs = search needs
-
 -- the row's table, and how many tables there are
 module _ (c : tie.After-wide2) where
   abbrev start : tie.Start
@@ -41,12 +26,6 @@ module _ (c : tie.After-wide2) where
   tables : c .wide2 .result ≡ tableCount (start .args .schema .now)
   tables = c .wide2 .ensures ∙ c .before .table-count .ensures
 
-clear-requires : tie.Need-clear-requires
-clear-requires c κs = search needs
-
-same-length : tie.Need-same-length
-same-length c = search needs
-
 returns : tie.Need-returns
 returns c =
     let k = c .before .before .before .before in
@@ -56,29 +35,11 @@ returns c =
     ∙ ap (λ (n : ℕ). replicate n 0) (s .pre .1)
     ∙ sym (no-table (s .args .schema .now) (s .pre .0) (s .args .row .now) (s .args .c) (table e) (here e) (omega (arith, tables e, k .if1 .taken)))
 
-add-width : tie.Need-add-width
-add-width c = search needs
-
-mul-width : tie.Need-mul-width
-mul-width c = search needs
-
 index-1-width : tie.Need-index-1-width
 index-1-width c =
     let e = c .before in
     let n = few-tables _ (start e .pre .0) in
     omega (arith, n, tables e, c .if1 .left)
-
-width-requires : tie.Need-width-requires
-width-requires c κs = search needs
-
-wide-requires-3 : tie.Need-wide-requires-3
-wide-requires-3 c κs = search needs
-
-clear-requires-2 : tie.Need-clear-requires-2
-clear-requires-2 c κs = search needs
-
-same-length-2 : tie.Need-same-length-2
-same-length-2 c = search needs
 
 returns-2 : tie.Need-returns-2
 returns-2 c =
@@ -98,9 +59,6 @@ put-value-requires c κs =
     let h : t < mostTables = omega (arith, tables (e .before), e .if1 .left, few-tables _ (s .pre .0)) in
     (omega (arith, k .if2 .left, k .before .wide3 .ensures, k .before .before .width .ensures, few-columns _ (s .pre .0) t h), s .pre .1)
 
-same-length-3 : tie.Need-same-length-3
-same-length-3 c = search needs
-
 returns-3 : tie.Need-returns-3
 returns-3 c =
     let k = c .before .before .before .before in
@@ -113,22 +71,22 @@ pub put-column-spec : {M : Type 1} → statement M
 put-column-spec =
     tie.close
     (tie.spec
-    table-of-requires
-    wide-requires
-    index-1-table-count
-    table-count-requires
-    wide-requires-2
-    clear-requires
-    same-length
+    (λ c κs. search needs)
+    (λ c κs. search needs)
+    (λ c. search needs)
+    (λ c κs. search needs)
+    (λ c κs. search needs)
+    (λ c κs. search needs)
+    (λ c. search needs)
     returns
-    add-width
-    mul-width
+    (λ c. search needs)
+    (λ c. search needs)
     index-1-width
-    width-requires
-    wide-requires-3
-    clear-requires-2
-    same-length-2
+    (λ c κs. search needs)
+    (λ c κs. search needs)
+    (λ c κs. search needs)
+    (λ c. search needs)
     returns-2
     put-value-requires
-    same-length-3
+    (λ c. search needs)
     returns-3)

@@ -10,23 +10,11 @@ use Rattle.arrival.proofs.Changes.{value-put}
 use Rattle.arrival.proofs.put_value.Statement.{statement}
 use Rattle.arrival.proofs.put_value.Tie as tie
 
-count-of-requires : tie.Need-count-of-requires
-count-of-requires c κs = search needs
-
-slice-write-out : tie.Need-slice-write-out
-slice-write-out c = search needs
-
 sub-put-atoms : tie.Need-sub-put-atoms
 sub-put-atoms c = simp length-set (omega arith)
 
 part-put-atoms-start : tie.Need-part-put-atoms-start
 part-put-atoms-start c = simp length-set (omega arith)
-
-part-put-atoms-end : tie.Need-part-put-atoms-end
-part-put-atoms-end c = search needs
-
-atoms-in-requires : tie.Need-atoms-in-requires
-atoms-in-requires c κs = search needs
 
 put-atoms-requires : tie.Need-put-atoms-requires
 put-atoms-requires c κs =
@@ -56,12 +44,12 @@ pub put-value-spec : {M : Type 1} → statement M
 put-value-spec =
     tie.close
     (tie.spec
-    count-of-requires
-    slice-write-out
+    (λ c κs. search needs)
+    (λ c. search needs)
     sub-put-atoms
     part-put-atoms-start
-    part-put-atoms-end
-    atoms-in-requires
+    (λ c. search needs)
+    (λ c κs. search needs)
     put-atoms-requires
     same-length
     returns)

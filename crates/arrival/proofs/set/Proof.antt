@@ -13,12 +13,6 @@ use Rattle.arrival.proofs.Changes.{set-left}
 use Rattle.arrival.proofs.set.Statement.{statement}
 use Rattle.arrival.proofs.set.Tie as tie
 
-find-requires : tie.Need-find-requires
-find-requires c κs = search needs
-
-enum-known-found : tie.Need-enum-known-found
-enum-known-found c = search needs
-
 mul-set-column : tie.Need-mul-set-column
 mul-set-column c =
     let k = c .before in
@@ -35,15 +29,6 @@ index-1-set-column c =
     let w = place-at (keyOf (a .table) (value (a .id .now))) (working [] (a .count) (a .rows .now)) (k .found .given .0 .0) (sym (k .before .before .find .ensures []) ∙ k .found .given .1) in
     omega (arith, w .within, working-length [] (a .rows .now) (a .count) (omega (arith, s .pre .0)), s .pre .0)
 
-set-column-requires : tie.Need-set-column-requires
-set-column-requires c κs = search needs
-
-enum-told : tie.Need-enum-told
-enum-told c = search needs
-
-same-length : tie.Need-same-length
-same-length c = search needs
-
 returns : tie.Need-returns
 returns c =
     let k = c .before .before .before in
@@ -54,9 +39,6 @@ returns c =
     set-left t (a .table) (value (a .id .now)) (a .c) (record { count = a .elements; atoms = a .atoms .now }) (a .count) (a .rows .now) (omega (arith, s .pre .0)) i
     (place-at (keyOf (a .table) (value (a .id .now))) (working t (a .count) (a .rows .now)) i (sym (k .before .before .find .ensures t) ∙ k .found .given .1))
     (c .set-column .last .0) (c .set-column .ensures) (s .pre .0 .few)
-
-same-length-2 : tie.Need-same-length-2
-same-length-2 c = search needs
 
 returns-2 : tie.Need-returns-2
 returns-2 c =
@@ -74,13 +56,13 @@ pub set-spec : {M : Type 1} → statement M
 set-spec =
     tie.close
     (tie.spec
-    find-requires
-    enum-known-found
+    (λ c κs. search needs)
+    (λ c. search needs)
     mul-set-column
     index-1-set-column
-    set-column-requires
-    enum-told
-    same-length
+    (λ c κs. search needs)
+    (λ c. search needs)
+    (λ c. search needs)
     returns
-    same-length-2
+    (λ c. search needs)
     returns-2)

@@ -8,9 +8,6 @@ use Rattle.arrival.proofs.Records.{sound-not, sound-canonical}
 use Rattle.arrival.proofs.sound.Statement.{statement}
 use Rattle.arrival.proofs.sound.Tie as tie
 
-listed-requires : tie.Need-listed-requires
-listed-requires c κs = search needs
-
 returns : tie.Need-returns
 returns c =
     let s = c .before .before .before in
@@ -27,4 +24,4 @@ returns-2 c =
     c .canonical .ensures ∙ sym (sound-canonical (packedTables (s .args .schema .now)) (arrivalRecord (s .args .arrival) (s .args .bytes .now)) (sym (c .before .before .listed .ensures) ∙ not-false _ (c .before .if1 .left)))
 
 pub sound-spec : {M : Type 1} → statement M
-sound-spec = tie.close (tie.spec listed-requires returns canonical-requires returns-2)
+sound-spec = tie.close (tie.spec (λ c κs. search needs) returns canonical-requires returns-2)

@@ -5,19 +5,13 @@ use borrow.Author.Needs.{needs}
 use Rattle.atom.proofs.due_after.Statement.{statement}
 use Rattle.atom.proofs.due_after.Tie as tie
 
-more-requires : tie.Need-more-requires
-more-requires c κs = search needs
-
 returns : tie.Need-returns
 unfolding dueAfter
 returns c = rw (dueAfter, eq-eqb _ _ (c .before .if1 .taken)) (c .more .ensures)
-
-sub-result : tie.Need-sub-result
-sub-result c = search needs
 
 returns-2 : tie.Need-returns-2
 unfolding dueAfter
 returns-2 c = rw (dueAfter, ne-eqb _ _ (c .if1 .left))
 
 pub due-after-spec : {M : Type 1} → statement M
-due-after-spec = tie.close (tie.spec more-requires returns sub-result returns-2)
+due-after-spec = tie.close (tie.spec (λ c κs. search needs) returns (λ c. search needs) returns-2)

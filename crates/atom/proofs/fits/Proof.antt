@@ -9,9 +9,6 @@ use borrow.Author.Needs.{needs}
 use Rattle.atom.proofs.fits.Statement.{statement}
 use Rattle.atom.proofs.fits.Tie as tie
 
-more-requires : tie.Need-more-requires
-more-requires c κs = search needs
-
 returns : tie.Need-returns
 unfolding fitsAt
 returns c = rw (fitsAt, eq-eqb _ _ (c .before .if1 .taken)) (ap (λ (n : ℕ). not (eqb n 4)) (c .more .ensures))
@@ -21,4 +18,4 @@ unfolding fitsAt
 returns-2 c = rw (fitsAt, ne-eqb _ _ (c .if1 .left))
 
 pub fits-spec : {M : Type 1} → statement M
-fits-spec = tie.close (tie.spec more-requires returns returns-2)
+fits-spec = tie.close (tie.spec (λ c κs. search needs) returns returns-2)

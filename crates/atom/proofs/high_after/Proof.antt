@@ -5,9 +5,6 @@ use borrow.Author.Needs.{needs}
 use Rattle.atom.proofs.high_after.Statement.{statement}
 use Rattle.atom.proofs.high_after.Tie as tie
 
-second-high-requires : tie.Need-second-high-requires
-second-high-requires c κs = search needs
-
 returns : tie.Need-returns
 unfolding highAfter
 returns c = rw (highAfter, eq-eqb _ _ (c .before .if1 .taken)) (c .second-high .ensures)
@@ -17,4 +14,4 @@ unfolding highAfter
 returns-2 c = rw (highAfter, ne-eqb _ _ (c .if1 .left))
 
 pub high-after-spec : {M : Type 1} → statement M
-high-after-spec = tie.close (tie.spec second-high-requires returns returns-2)
+high-after-spec = tie.close (tie.spec (λ c κs. search needs) returns returns-2)

@@ -7,22 +7,10 @@ use borrow.Author.Needs.{needs}
 use Rattle.atom.proofs.less.Statement.{statement}
 use Rattle.atom.proofs.less.Tie as tie
 
-less-integers-requires : tie.Need-less-integers-requires
-less-integers-requires c κs = search needs
-
 returns : tie.Need-returns
 returns c =
     let s = c .before .before in
     c .less-integers .ensures ∙ ap (λ k. lessAtom k (s .args .a .now) (s .args .b .now)) (sym (base-integer (s .args .kind) (c .before .if1 .taken)))
-
-text-of-requires : tie.Need-text-of-requires
-text-of-requires c κs = search needs
-
-text-of-requires-2 : tie.Need-text-of-requires-2
-text-of-requires-2 c κs = search needs
-
-less-requires : tie.Need-less-requires
-less-requires c κs = search needs
 
 returns-2 : tie.Need-returns-2
 returns-2 c =
@@ -31,9 +19,6 @@ returns-2 c =
     let b = s .args .b .now in
     c .less .ensures ∙ ap (λ t. ltBytes t (c .before .text-of2 .result .now)) (c .before .before .text-of .ensures) ∙ ap (ltBytes (textOf a)) (c .before .text-of2 .ensures)
     ∙ ap (λ k. lessAtom k a b) (sym (base-text (s .args .kind) (c .before .before .before .if2 .taken)))
-
-less-requires-2 : tie.Need-less-requires-2
-less-requires-2 c κs = search needs
 
 returns-3 : tie.Need-returns-3
 returns-3 c =
@@ -44,11 +29,11 @@ pub less-spec : {M : Type 1} → statement M
 less-spec =
     tie.close
     (tie.spec
-    less-integers-requires
+    (λ c κs. search needs)
     returns
-    text-of-requires
-    text-of-requires-2
-    less-requires
+    (λ c κs. search needs)
+    (λ c κs. search needs)
+    (λ c κs. search needs)
     returns-2
-    less-requires-2
+    (λ c κs. search needs)
     returns-3)

@@ -11,28 +11,16 @@ use borrow.Author.Needs.{needs}
 use Rattle.atom.proofs.less_integers.Statement.{statement}
 use Rattle.atom.proofs.less_integers.Tie as tie
 
-number-requires : tie.Need-number-requires
-number-requires c κs = search needs
-
-turn-requires : tie.Need-turn-requires
-turn-requires c κs = search needs
-
-number-requires-2 : tie.Need-number-requires-2
-number-requires-2 c κs = search needs
-
-turn-requires-2 : tie.Need-turn-requires-2
-turn-requires-2 c κs = search needs
-
 returns : tie.Need-returns
 returns c =
     let s = c .before .before .before .before .before .before in
     let x = value (take 8 (s .args .a .now)) in
     let y = value (take 8 (s .args .b .now)) in
-    ap (λ (n : ℕ). ltb n (c .turn2 .result)) (c .before .before .before .turn .ensures ∙ ap halves (c .before .before .before .before .number .ensures))
-    ∙ ap (ltb (halves x)) (c .turn2 .ensures ∙ ap halves (c .before .number2 .ensures))
+    ap (λ (n : ℕ). ltb n (c .biased2 .result)) (c .before .before .before .biased .ensures ∙ ap halves (c .before .before .before .before .number .ensures))
+    ∙ ap (ltb (halves x)) (c .biased2 .ensures ∙ ap halves (c .before .number2 .ensures))
     ∙ halves-less x y (omega (arith, c .before .before .before .before .number .ensures)) (omega (arith, c .before .number2 .ensures))
 
 pub less-integers-spec : {M : Type 1} → statement M
 less-integers-spec =
     tie.close
-    (tie.spec number-requires turn-requires number-requires-2 turn-requires-2 returns)
+    (tie.spec (λ c κs. search needs) (λ c κs. search needs) (λ c κs. search needs) (λ c κs. search needs) returns)

@@ -5,9 +5,6 @@ use borrow.Author.Needs.{needs}
 use Rattle.atom.proofs.low_after.Statement.{statement}
 use Rattle.atom.proofs.low_after.Tie as tie
 
-second-low-requires : tie.Need-second-low-requires
-second-low-requires c κs = search needs
-
 returns : tie.Need-returns
 unfolding lowAfter
 returns c = rw (lowAfter, eq-eqb _ _ (c .before .if1 .taken)) (c .second-low .ensures)
@@ -17,4 +14,4 @@ unfolding lowAfter
 returns-2 c = rw (lowAfter, ne-eqb _ _ (c .if1 .left))
 
 pub low-after-spec : {M : Type 1} → statement M
-low-after-spec = tie.close (tie.spec second-low-requires returns returns-2)
+low-after-spec = tie.close (tie.spec (λ c κs. search needs) returns returns-2)

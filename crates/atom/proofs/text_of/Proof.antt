@@ -8,19 +8,10 @@ use borrow.Author.Needs.{needs}
 use Rattle.atom.proofs.text_of.Statement.{statement}
 use Rattle.atom.proofs.text_of.Tie as tie
 
-text-size-requires : tie.Need-text-size-requires
-text-size-requires c κs = search needs
-
 add-result : tie.Need-add-result
 add-result c =
     let a = c .before .before .args .a .now in
     omega (arith, c .before .text-size .ensures, c .t .given .0, length-take (getD a 0 0) (drop 1 a), length-drop 1 a)
-
-sub-result : tie.Need-sub-result
-sub-result c = search needs
-
-part-result-start : tie.Need-part-result-start
-part-result-start c = search needs
 
 part-result-end : tie.Need-part-result-end
 part-result-end c =
@@ -37,4 +28,4 @@ returns c =
 pub text-of-spec : {M : Type 1} → statement M
 text-of-spec =
     tie.close
-    (tie.spec text-size-requires add-result sub-result part-result-start part-result-end returns)
+    (tie.spec (λ c κs. search needs) add-result (λ c. search needs) (λ c. search needs) part-result-end returns)

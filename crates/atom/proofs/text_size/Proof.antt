@@ -5,12 +5,6 @@ use borrow.Author.Needs.{needs}
 use Rattle.atom.proofs.text_size.Statement.{statement}
 use Rattle.atom.proofs.text_size.Tie as tie
 
-shared-slice-read-wide : tie.Need-shared-slice-read-wide
-shared-slice-read-wide c = search needs
-
-wide-requires : tie.Need-wide-requires
-wide-requires c κs = search needs
-
 returns : tie.Need-returns
 returns c =
     let s = c .before .before .before in
@@ -24,4 +18,4 @@ returns-2 c =
     omega (arith, s .x .given .0, c .before .wide .ensures, length-take (getD a 0 0) (drop 1 a), length-drop 1 a)
 
 pub text-size-spec : {M : Type 1} → statement M
-text-size-spec = tie.close (tie.spec shared-slice-read-wide wide-requires returns returns-2)
+text-size-spec = tie.close (tie.spec (λ c. search needs) (λ c κs. search needs) returns returns-2)

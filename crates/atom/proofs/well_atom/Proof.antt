@@ -8,32 +8,20 @@ use borrow.Author.Needs.{needs}
 use Rattle.atom.proofs.well_atom.Statement.{statement}
 use Rattle.atom.proofs.well_atom.Tie as tie
 
-blank-from-requires : tie.Need-blank-from-requires
-blank-from-requires c κs = search needs
-
 returns : tie.Need-returns
 returns c =
     let s = c .before .before in
     (c .blank-from .ensures .0 ∙ ap (λ k. wellAtom k (s .args .a .now)) (sym (base-integer (s .args .kind) (c .before .if1 .taken))), λ _. typed-atom 8 (s .args .a .now) (c .blank-from .ensures .1) (omega arith))
-
-well-boolean-requires : tie.Need-well-boolean-requires
-well-boolean-requires c κs = search needs
 
 returns-2 : tie.Need-returns-2
 returns-2 c =
     let s = c .before .before .before in
     (c .well-boolean .ensures .0 ∙ ap (λ k. wellAtom k (s .args .a .now)) (sym (base-boolean (s .args .kind) (c .before .if2 .taken))), c .well-boolean .ensures .1)
 
-well-text-requires : tie.Need-well-text-requires
-well-text-requires c κs = search needs
-
 returns-3 : tie.Need-returns-3
 returns-3 c =
     let s = c .before .before .before .before in
     (c .well-text .ensures .0 ∙ ap (λ k. wellAtom k (s .args .a .now)) (sym (base-text (s .args .kind) (c .before .if3 .taken))), c .well-text .ensures .1)
-
-blank-from-requires-2 : tie.Need-blank-from-requires-2
-blank-from-requires-2 c κs = search needs
 
 returns-4 : tie.Need-returns-4
 returns-4 c =
@@ -44,11 +32,11 @@ pub well-atom-spec : {M : Type 1} → statement M
 well-atom-spec =
     tie.close
     (tie.spec
-    blank-from-requires
+    (λ c κs. search needs)
     returns
-    well-boolean-requires
+    (λ c κs. search needs)
     returns-2
-    well-text-requires
+    (λ c κs. search needs)
     returns-3
-    blank-from-requires-2
+    (λ c κs. search needs)
     returns-4)

@@ -12,28 +12,10 @@ use borrow.Author.Needs.{needs}
 use Rattle.atom.proofs.well_text.Statement.{statement}
 use Rattle.atom.proofs.well_text.Tie as tie
 
-element-copy-out-wide : tie.Need-element-copy-out-wide
-element-copy-out-wide c = search needs
-
-wide-requires : tie.Need-wide-requires
-wide-requires c κs = search needs
-
 returns : tie.Need-returns
 returns c =
     let a = c .before .before .before .args .a .now in
     (rw (lt-leb (getD a 0 0) 24 (omega (arith, c .before .wide .ensures))), λ h. absurd (clash false h refl))
-
-text-of-requires : tie.Need-text-of-requires
-text-of-requires c κs = search needs
-
-is-utf8-requires : tie.Need-is-utf8-requires
-is-utf8-requires c κs = search needs
-
-add-blank-from : tie.Need-add-blank-from
-add-blank-from c = search needs
-
-blank-from-requires : tie.Need-blank-from-requires
-blank-from-requires c κs = search needs
 
 returns-2 : tie.Need-returns-2
 returns-2 c =
@@ -49,11 +31,11 @@ pub well-text-spec : {M : Type 1} → statement M
 well-text-spec =
     tie.close
     (tie.spec
-    element-copy-out-wide
-    wide-requires
+    (λ c. search needs)
+    (λ c κs. search needs)
     returns
-    text-of-requires
-    is-utf8-requires
-    add-blank-from
-    blank-from-requires
+    (λ c κs. search needs)
+    (λ c κs. search needs)
+    (λ c. search needs)
+    (λ c κs. search needs)
     returns-2)

@@ -7,21 +7,6 @@ use borrow.Author.Needs.{needs}
 use Rattle.capi.proofs.maq_mirror_column.Statement.{statement}
 use Rattle.capi.proofs.maq_mirror_column.Tie as tie
 
-small-requires : tie.Need-small-requires
-small-requires c κs = search needs
-
-small-requires-2 : tie.Need-small-requires-2
-small-requires-2 c κs = search needs
-
-column-requires : tie.Need-column-requires
-column-requires c κs = search needs
-
-number-requires : tie.Need-number-requires
-number-requires c κs = search needs
-
-same-length : tie.Need-same-length
-same-length c = search needs
-
 returns : tie.Need-returns
 returns c =
     let k = c .before .before .before in
@@ -29,9 +14,9 @@ returns c =
     let a = s .before .before .before .before .args in
     let p =
     column-by (a .area .now) (a .table) (a .id .now) (a .column) (a .out .now) (s .before .small .result) (s .small2 .result) _ (s .before .small .ensures) (s .small2 .ensures) (k .column .ensures .1) in
-    (c .number .ensures ∙ k .column .ensures .0, (c .number .ensures ∙ ap (λ (q : Contents). numberOf (q .answer)) (sym p), ap (λ (q : Contents). q .out) (sym p)))
+    (c .number .ensures ∙ k .column .ensures .0, (c .number .ensures ∙ ap (λ (q : Contents). numberOf (q .status)) (sym p), ap (λ (q : Contents). q .out) (sym p)))
 
 pub maq-mirror-column-spec : {M : Type 1} → statement M
 maq-mirror-column-spec =
     tie.close
-    (tie.spec small-requires small-requires-2 column-requires number-requires same-length returns)
+    (tie.spec (λ c κs. search needs) (λ c κs. search needs) (λ c κs. search needs) (λ c κs. search needs) (λ c. search needs) returns)

@@ -6,19 +6,10 @@ use borrow.Author.Needs.{needs}
 use Rattle.capi.proofs.maq_mirror_hear.Statement.{statement}
 use Rattle.capi.proofs.maq_mirror_hear.Tie as tie
 
-hear-requires : tie.Need-hear-requires
-hear-requires c κs = search needs
-
-number-requires : tie.Need-number-requires
-number-requires c κs = search needs
-
-same-length : tie.Need-same-length
-same-length c = search needs
-
 returns : tie.Need-returns
 returns c =
     let p = c .before .before .before .hear .ensures in
-    (c .number .ensures ∙ p .0, (c .number .ensures ∙ ap (λ (q : Arrived). numberOf (q .answer)) (sym (p .1)), ap (λ (q : Arrived). q .area) (sym (p .1))))
+    (c .number .ensures ∙ p .0, (c .number .ensures ∙ ap (λ (q : Arrived). numberOf (q .status)) (sym (p .1)), ap (λ (q : Arrived). q .area) (sym (p .1))))
 
 pub maq-mirror-hear-spec : {M : Type 1} → statement M
-maq-mirror-hear-spec = tie.close (tie.spec hear-requires number-requires same-length returns)
+maq-mirror-hear-spec = tie.close (tie.spec (λ c κs. search needs) (λ c κs. search needs) (λ c. search needs) returns)

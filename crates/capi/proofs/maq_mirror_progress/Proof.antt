@@ -6,16 +6,10 @@ use native.Mathlib.Omega.{arith}
 use lib.ListN.{length, length-set}
 use Rattle.model.specs.Octets.{big}
 use Rattle.model.specs.Catalog.{bit}
-use Rattle.capi.proofs.Telling.{progress-numbered, last-byte, progress-other, progress-told}
+use Rattle.capi.proofs.Telling.{progress-numbered, last-byte, progress-other, progress-output}
 use borrow.Author.Needs.{needs}
 use Rattle.capi.proofs.maq_mirror_progress.Statement.{statement}
 use Rattle.capi.proofs.maq_mirror_progress.Tie as tie
-
-clear-requires : tie.Need-clear-requires
-clear-requires c κs = search needs
-
-same-length : tie.Need-same-length
-same-length c = search needs
 
 returns : tie.Need-returns
 returns c =
@@ -24,27 +18,12 @@ returns c =
     let a = t .before .before .before .args in
     progress-numbered (a .area .now) (a .out .now) (progress-other (a .area .now) (a .out .now) (k .clear .last .0) (t .if1 .taken) (k .clear .ensures))
 
-progress-requires : tie.Need-progress-requires
-progress-requires c κs = search needs
-
-flag-requires : tie.Need-flag-requires
-flag-requires c κs = search needs
-
-slice-write-out : tie.Need-slice-write-out
-slice-write-out c = search needs
-
-cast-put-number : tie.Need-cast-put-number
-cast-put-number c = search needs
-
 put-number-requires : tie.Need-put-number-requires
 put-number-requires c κs =
     let f = c .before .before in
     let e = f .before .before in
     let a = e .before .before .before .args in
     rw (length-set (a .out .now) 4 (f .flag .result)) (omega (arith, e .if1 .left))
-
-number-requires : tie.Need-number-requires
-number-requires c κs = search needs
 
 -- n and whether it is level
 bytes-are : (c : tie.After-number) → c .before .before .before .put-number .last .0 ≡ big 4 (c .before .before .before .before .before .before .before .progress .result .n) ++ bit (c .before .before .before .before .before .before .before .progress .result .level) ∷ []
@@ -64,20 +43,20 @@ returns-2 c =
     let p = c .before .before .before .before .before .before .before in
     let e = p .before in
     let a = e .before .before .before .args in
-    progress-numbered (a .area .now) (a .out .now) (progress-told (a .area .now) (a .out .now) _ _ (c .number .result) (p .progress .ensures .1) (e .if1 .left) (c .number .ensures) (bytes-are c))
+    progress-numbered (a .area .now) (a .out .now) (progress-output (a .area .now) (a .out .now) _ _ (c .number .result) (p .progress .ensures .1) (e .if1 .left) (c .number .ensures) (bytes-are c))
 
 pub maq-mirror-progress-spec : {M : Type 1} → statement M
 maq-mirror-progress-spec =
     tie.close
     (tie.spec
-    clear-requires
-    same-length
+    (λ c κs. search needs)
+    (λ c. search needs)
     returns
-    progress-requires
-    flag-requires
-    slice-write-out
-    cast-put-number
+    (λ c κs. search needs)
+    (λ c κs. search needs)
+    (λ c. search needs)
+    (λ c. search needs)
     put-number-requires
-    number-requires
+    (λ c κs. search needs)
     same-length-2
     returns-2)

@@ -5,19 +5,10 @@ use borrow.Author.Needs.{needs}
 use Rattle.capi.proofs.maq_store_mark.Statement.{statement}
 use Rattle.capi.proofs.maq_store_mark.Tie as tie
 
-mark-requires : tie.Need-mark-requires
-mark-requires c κs = search needs
-
-number-requires : tie.Need-number-requires
-number-requires c κs = search needs
-
-same-length : tie.Need-same-length
-same-length c = search needs
-
 returns : tie.Need-returns
 returns c =
     let p = c .before .before .before .mark .ensures in
     (c .number .ensures ∙ p .0, (c .number .ensures ∙ ap numberOf (p .1 .0), p .1 .1))
 
 pub maq-store-mark-spec : {M : Type 1} → statement M
-maq-store-mark-spec = tie.close (tie.spec mark-requires number-requires same-length returns)
+maq-store-mark-spec = tie.close (tie.spec (λ c κs. search needs) (λ c κs. search needs) (λ c. search needs) returns)

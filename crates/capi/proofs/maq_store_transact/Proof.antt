@@ -6,28 +6,13 @@ use borrow.Author.Needs.{needs}
 use Rattle.capi.proofs.maq_store_transact.Statement.{statement}
 use Rattle.capi.proofs.maq_store_transact.Tie as tie
 
-transact-requires : tie.Need-transact-requires
-transact-requires c κs = search needs
-
-number-requires : tie.Need-number-requires
-number-requires c κs = search needs
-
-same-length : tie.Need-same-length
-same-length c = search needs
-
-same-length-2 : tie.Need-same-length-2
-same-length-2 c = search needs
-
-same-length-3 : tie.Need-same-length-3
-same-length-3 c = search needs
-
 returns : tie.Need-returns
 returns c =
     let p = c .before .before .before .before .before .before .before .transact .ensures in
     let e = sym (p .1) in
-    (c .number .ensures ∙ p .0, (c .number .ensures ∙ ap (λ (q : Transacted). numberOf (q .answer)) e, (ap (λ (q : Transacted). q .area) e, (ap (λ (q : Transacted). q .records) e, ap (λ (q : Transacted). q .text) e))))
+    (c .number .ensures ∙ p .0, (c .number .ensures ∙ ap (λ (q : Transacted). numberOf (q .status)) e, (ap (λ (q : Transacted). q .area) e, (ap (λ (q : Transacted). q .records) e, ap (λ (q : Transacted). q .text) e))))
 
 pub maq-store-transact-spec : {M : Type 1} → statement M
 maq-store-transact-spec =
     tie.close
-    (tie.spec transact-requires number-requires same-length same-length-2 same-length-3 returns)
+    (tie.spec (λ c κs. search needs) (λ c κs. search needs) (λ c. search needs) (λ c. search needs) (λ c. search needs) returns)

@@ -8,15 +8,6 @@ use borrow.Author.Needs.{needs}
 use Rattle.catalog.proofs.database_entry.Statement.{statement}
 use Rattle.catalog.proofs.database_entry.Tie as tie
 
-slice-aggregate-put-bytes : tie.Need-slice-aggregate-put-bytes
-slice-aggregate-put-bytes c = search needs
-
-put-bytes-requires : tie.Need-put-bytes-requires
-put-bytes-requires c κs = search needs
-
-array-write-entry : tie.Need-array-write-entry
-array-write-entry c = search needs
-
 returns : tie.Need-returns
 returns c =
     let p = c .before in
@@ -27,4 +18,4 @@ returns c =
 
 pub database-entry-spec : {M : Type 1} → statement M
 database-entry-spec =
-    tie.close (tie.spec slice-aggregate-put-bytes put-bytes-requires array-write-entry returns)
+    tie.close (tie.spec (λ c. search needs) (λ c κs. search needs) (λ c. search needs) returns)

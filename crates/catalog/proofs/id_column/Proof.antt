@@ -6,33 +6,6 @@ use borrow.Author.Needs.{needs}
 use Rattle.catalog.proofs.id_column.Statement.{statement}
 use Rattle.catalog.proofs.id_column.Tie as tie
 
-array-write-entry : tie.Need-array-write-entry
-array-write-entry c = search needs
-
-array-write-entry-2 : tie.Need-array-write-entry-2
-array-write-entry-2 c = search needs
-
-array-write-entry-3 : tie.Need-array-write-entry-3
-array-write-entry-3 c = search needs
-
-array-write-entry-4 : tie.Need-array-write-entry-4
-array-write-entry-4 c = search needs
-
-array-write-entry-5 : tie.Need-array-write-entry-5
-array-write-entry-5 c = search needs
-
-array-write-entry-6 : tie.Need-array-write-entry-6
-array-write-entry-6 c = search needs
-
-array-write-entry-7 : tie.Need-array-write-entry-7
-array-write-entry-7 c = search needs
-
-array-write-entry-8 : tie.Need-array-write-entry-8
-array-write-entry-8 c = search needs
-
-array-write-entry-9 : tie.Need-array-write-entry-9
-array-write-entry-9 c = search needs
-
 returns : tie.Need-returns
 unfolding baseNumbered refersFrom
 returns c = refl
@@ -41,13 +14,13 @@ pub id-column-spec : {M : Type 1} → statement M
 id-column-spec =
     tie.close
     (tie.spec
-    array-write-entry
-    array-write-entry-2
-    array-write-entry-3
-    array-write-entry-4
-    array-write-entry-5
-    array-write-entry-6
-    array-write-entry-7
-    array-write-entry-8
-    array-write-entry-9
+    (λ c. search needs)
+    (λ c. search needs)
+    (λ c. search needs)
+    (λ c. search needs)
+    (λ c. search needs)
+    (λ c. search needs)
+    (λ c. search needs)
+    (λ c. search needs)
+    (λ c. search needs)
     returns)

@@ -7,12 +7,6 @@ use borrow.Author.Needs.{needs}
 use Rattle.catalog.proofs.name_entry.Statement.{statement}
 use Rattle.catalog.proofs.name_entry.Tie as tie
 
-slice-aggregate-put-bytes : tie.Need-slice-aggregate-put-bytes
-slice-aggregate-put-bytes c = search needs
-
-put-bytes-requires : tie.Need-put-bytes-requires
-put-bytes-requires c κs = search needs
-
 returns : tie.Need-returns
 returns c =
     let p = c .before in
@@ -21,4 +15,4 @@ returns c =
     p .put-bytes .ensures ∙ ap (λ (k : ℕ). name ++ drop k (replicate 48 0)) n
 
 pub name-entry-spec : {M : Type 1} → statement M
-name-entry-spec = tie.close (tie.spec slice-aggregate-put-bytes put-bytes-requires returns)
+name-entry-spec = tie.close (tie.spec (λ c. search needs) (λ c κs. search needs) returns)

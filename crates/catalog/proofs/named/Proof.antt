@@ -19,18 +19,6 @@ abbrev μ-loop : tie.MeasureT-loop
 loop-holds : tie.Need-loop-holds Inv-loop μ-loop
 loop-holds c = (omega arith, named-start (c .before .args .entries .now) (c .before .args .name .now))
 
-mul-name-of : tie.Need-mul-name-of Inv-loop μ-loop
-mul-name-of c = search needs
-
-shared-slice-element-name-of : tie.Need-shared-slice-element-name-of Inv-loop μ-loop
-shared-slice-element-name-of c = search needs
-
-name-of-requires : tie.Need-name-of-requires Inv-loop μ-loop
-name-of-requires c κs = tt
-
-equal-requires : tie.Need-equal-requires Inv-loop μ-loop
-equal-requires c κs = tt
-
 returns : tie.Need-returns Inv-loop μ-loop
 returns c =
     let l = c .before .before .before .before .before in
@@ -62,10 +50,10 @@ named-spec =
     Inv-loop
     μ-loop
     loop-holds
-    mul-name-of
-    shared-slice-element-name-of
-    name-of-requires
-    equal-requires
+    (λ c. search needs)
+    (λ c. search needs)
+    (λ c κs. tt)
+    (λ c κs. tt)
     returns
     add-i
     loop-less

@@ -13,17 +13,8 @@ use borrow.Author.Needs.{needs}
 use Rattle.catalog.proofs.put_head.Statement.{statement}
 use Rattle.catalog.proofs.put_head.Tie as tie
 
-slice-write-out : tie.Need-slice-write-out
-slice-write-out c = search needs
-
-bit-requires : tie.Need-bit-requires
-bit-requires c κs = search needs
-
 slice-write-out-2 : tie.Need-slice-write-out-2
 slice-write-out-2 c = simp length-set (omega arith)
-
-bit-requires-2 : tie.Need-bit-requires-2
-bit-requires-2 c κs = search needs
 
 slice-write-out-3 : tie.Need-slice-write-out-3
 slice-write-out-3 c = simp length-set (omega arith)
@@ -33,9 +24,6 @@ sub-put-number c = simp length-set (omega arith)
 
 part-put-number-start : tie.Need-part-put-number-start
 part-put-number-start c = simp length-set (omega arith)
-
-part-put-number-end : tie.Need-part-put-number-end
-part-put-number-end c = search needs
 
 put-number-requires : tie.Need-put-number-requires
 put-number-requires c κs =
@@ -74,14 +62,14 @@ pub put-head-spec : {M : Type 1} → statement M
 put-head-spec =
     tie.close
     (tie.spec
-    slice-write-out
-    bit-requires
+    (λ c. search needs)
+    (λ c κs. search needs)
     slice-write-out-2
-    bit-requires-2
+    (λ c κs. search needs)
     slice-write-out-3
     sub-put-number
     part-put-number-start
-    part-put-number-end
+    (λ c. search needs)
     put-number-requires
     same-length
     returns)

@@ -13,30 +13,6 @@ use Rattle.catalog.proofs.put_limits.Lts as lts
 use Rattle.octets.proofs.bits.Reads as bits-reads
 use Rattle.octets.proofs.put_number.Reads as put-number-reads
 
-bits-requires : tie.Need-bits-requires
-bits-requires c κs = search needs
-
-put-number-requires : tie.Need-put-number-requires
-put-number-requires c κs = search needs
-
-sub-put-number : tie.Need-sub-put-number
-sub-put-number c = search needs
-
-part-put-number-start : tie.Need-part-put-number-start
-part-put-number-start c = search needs
-
-part-put-number-end : tie.Need-part-put-number-end
-part-put-number-end c = search needs
-
-bits-requires-2 : tie.Need-bits-requires-2
-bits-requires-2 c κs = search needs
-
-put-number-requires-2 : tie.Need-put-number-requires-2
-put-number-requires-2 c κs = search needs
-
-same-length : tie.Need-same-length
-same-length c = search needs
-
 returns : tie.Need-returns
 unfolding limitBytes
 returns c =
@@ -51,12 +27,12 @@ pub put-limits-spec : {M : Type 1} → statement M
 put-limits-spec =
     tie.close
     (tie.spec
-    bits-requires
-    put-number-requires
-    sub-put-number
-    part-put-number-start
-    part-put-number-end
-    bits-requires-2
-    put-number-requires-2
-    same-length
+    (λ c κs. search needs)
+    (λ c κs. search needs)
+    (λ c. search needs)
+    (λ c. search needs)
+    (λ c. search needs)
+    (λ c κs. search needs)
+    (λ c κs. search needs)
+    (λ c. search needs)
     returns)

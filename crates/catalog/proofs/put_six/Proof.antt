@@ -8,9 +8,6 @@ use Rattle.catalog.proofs.put_six.Tie as tie
 use Rattle.catalog.proofs.put_six.Reads as reads
 use Rattle.catalog.proofs.put_six.Lts as lts
 
-slice-write-out : tie.Need-slice-write-out
-slice-write-out c = search needs
-
 slice-write-out-2 : tie.Need-slice-write-out-2
 slice-write-out-2 c = simp length-set (omega arith)
 
@@ -23,12 +20,6 @@ slice-write-out-4 c = simp length-set (omega arith)
 slice-write-out-5 : tie.Need-slice-write-out-5
 slice-write-out-5 c = simp length-set (omega arith)
 
-slice-write-out-6 : tie.Need-slice-write-out-6
-slice-write-out-6 c = search needs
-
-same-length : tie.Need-same-length
-same-length c = search needs
-
 returns : tie.Need-returns
 returns c = six (c .args .out .now) _ _ _ _ _ _ (c .pre)
 
@@ -36,11 +27,11 @@ pub put-six-spec : {M : Type 1} → statement M
 put-six-spec =
     tie.close
     (tie.spec
-    slice-write-out
+    (λ c. search needs)
     slice-write-out-2
     slice-write-out-3
     slice-write-out-4
     slice-write-out-5
-    slice-write-out-6
-    same-length
+    (λ c. search needs)
+    (λ c. search needs)
     returns)

@@ -9,17 +9,11 @@ use borrow.Author.Needs.{needs}
 use Rattle.changes.proofs.is_left.Statement.{statement}
 use Rattle.changes.proofs.is_left.Tie as tie
 
-enum-known-old : tie.Need-enum-known-old
-enum-known-old c = search needs
-
 same-column-requires : tie.Need-same-column-requires
 same-column-requires c κs =
     let s = c .before .before .before .before in
     let k = old-at (s .args .area .now) (s .args .old) _ (c .before .old .given .1) (s .pre .0) in
     (k .0, k .1, s .pre .1)
-
-enum-told : tie.Need-enum-told
-enum-told c = search needs
 
 returns : tie.Need-returns
 unfolding skips oldCells isNothing
@@ -35,4 +29,4 @@ returns-2 c =
     sym (ap (λ (o : Found). skips (isNothing o) (valueIn (a .c) (oldCells (a .area .now) o (a .row .now))) (valueIn (a .c) (a .row .now))) (c .enum-told .given .1))
 
 pub is-left-spec : {M : Type 1} → statement M
-is-left-spec = tie.close (tie.spec enum-known-old same-column-requires enum-told returns returns-2)
+is-left-spec = tie.close (tie.spec (λ c. search needs) same-column-requires (λ c. search needs) returns returns-2)

@@ -21,18 +21,6 @@ returns c =
     let a = s .args in
     λ sc. sym (place-nowhere sc (a .m) (rowsAt (a .m) (a .area .now)) (s .pre .1 .0) (keyIn (a .row .now)) (a .at) (s .pre .1 .1 sc) (λ h. absurd (omega (arith, h, c .if1 .taken))))
 
-table-of-requires : tie.Need-table-of-requires
-table-of-requires c κs = search needs
-
-id-of-requires : tie.Need-id-of-requires
-id-of-requires c κs = search needs
-
-key-at-requires : tie.Need-key-at-requires
-key-at-requires c κs = search needs
-
-same-keys-requires : tie.Need-same-keys-requires
-same-keys-requires c κs = search needs
-
 -- whether the row at the place is the row
 module _ (c : tie.After-same-keys) where
   abbrev start : tie.Start
@@ -65,9 +53,9 @@ old-place-spec =
     tie.close
     (tie.spec
     returns
-    table-of-requires
-    id-of-requires
-    key-at-requires
-    same-keys-requires
+    (λ c κs. search needs)
+    (λ c κs. search needs)
+    (λ c κs. search needs)
+    (λ c κs. search needs)
     returns-2
     returns-3)

@@ -11,54 +11,27 @@ use borrow.Author.Needs.{needs}
 use Rattle.changes.proofs.put_born.Statement.{statement}
 use Rattle.changes.proofs.put_born.Tie as tie
 
-next-requires : tie.Need-next-requires
-next-requires c κs = search needs
-
-new-requires : tie.Need-new-requires
-new-requires c κs = search needs
-
-sub-write : tie.Need-sub-write
-sub-write c = search needs
-
-part-write-start : tie.Need-part-write-start
-part-write-start c = search needs
-
-part-write-end : tie.Need-part-write-end
-part-write-end c = search needs
-
-write-requires : tie.Need-write-requires
-write-requires c κs = search needs
-
-add-t12 : tie.Need-add-t12
-add-t12 c = search needs
-
-add-t15 : tie.Need-add-t15
-add-t15 c = search needs
-
-same-length : tie.Need-same-length
-same-length c = search needs
-
 returns : tie.Need-returns
 returns c =
     let w = c .before .before .before in
     let q = w .before .before in
     let n = q .before in
     let s = n .before .before .before in
-    let same : bornRecord (q .new .result) (s .args .id .now) ≡ numbered (s .args .run) (n .next .result) (born (s .args .table) (value (s .args .id .now))) = ap (λ (r : Born). bornRecord r (s .args .id .now)) (q .new .ensures) in
+    let same : bornRecord (q .new .result) (s .args .id .now) ≡ numbered (s .args .by .run) (n .next .result) (born (s .args .table) (value (s .args .id .now))) = ap (λ (r : Born). bornRecord r (s .args .id .now)) (q .new .ensures) in
     let v = wrote-as same (w .write .ensures) in
-    recorded-one (s .args .run) (s .args .number) (n .next .result) _ (s .args .to) (s .args .records .now) _ 26 (v .size) (n .next .ensures) (s .pre .1) (omega arith) (v .bytes)
+    recorded-one (s .args .by .run) (s .args .by .number) (n .next .result) _ (s .args .to) (s .args .records .now) _ 26 (v .size) (n .next .ensures) (s .pre .1) (omega arith) (v .bytes)
 
 pub put-born-spec : {M : Type 1} → statement M
 put-born-spec =
     tie.close
     (tie.spec
-    next-requires
-    new-requires
-    sub-write
-    part-write-start
-    part-write-end
-    write-requires
-    add-t12
-    add-t15
-    same-length
+    (λ c κs. search needs)
+    (λ c κs. search needs)
+    (λ c. search needs)
+    (λ c. search needs)
+    (λ c. search needs)
+    (λ c κs. search needs)
+    (λ c. search needs)
+    (λ c. search needs)
+    (λ c. search needs)
     returns)

@@ -18,21 +18,18 @@ use Rattle.changes.proofs.put_columns.Statement.{statement}
 use Rattle.changes.proofs.put_columns.Tie as tie
 
 abbrev Inv-loop : tie.InvT-loop
-Inv-loop schema area old row run number records₀ w to₀ c₀ records to c =
+Inv-loop schema area old row by records₀ w to₀ c₀ records to c =
     let o = oldCells area old row in
     let s = packedTables schema in
-    (c ≤ w) × Along run number (columnsLeft (skips (isNothing old)) s o row (tableIn row) (idIn row) 0 0) (128 * c) to₀ records₀ to records (columnsLeft (skips (isNothing old)) s o row (tableIn row) (idIn row) 0 c)
+    (c ≤ w) × Along (by .run) (by .number) (columnsLeft (skips (isNothing old)) s o row (tableIn row) (idIn row) 0 0) (128 * c) to₀ records₀ to records (columnsLeft (skips (isNothing old)) s o row (tableIn row) (idIn row) 0 c)
 
 abbrev μ-loop : tie.MeasureT-loop
-μ-loop schema area old row run number records₀ w to₀ c₀ records to c = w - c
-
-width-of-requires : tie.Need-width-of-requires Inv-loop μ-loop
-width-of-requires c κs = search needs
+μ-loop schema area old row by records₀ w to₀ c₀ records to c = w - c
 
 loop-holds : tie.Need-loop-holds Inv-loop μ-loop
 loop-holds c =
     let s = c .before .before .before in
-    (omega arith, along-is (along-all (s .args .run) (s .args .number) (columnsLeft (skips (isNothing (s .args .old))) (packedTables (s .args .schema .now)) (oldCells (s .args .area .now) (s .args .old) (s .args .row .now)) (s .args .row .now) (tableIn (s .args .row .now)) (idIn (s .args .row .now)) 0 0) (s .args .start) (s .args .records .now) (s .pre .1 .1 .few)) refl (128 * 0) (omega arith))
+    (omega arith, along-is (along-all (s .args .by .run) (s .args .by .number) (columnsLeft (skips (isNothing (s .args .old))) (packedTables (s .args .schema .now)) (oldCells (s .args .area .now) (s .args .old) (s .args .row .now)) (s .args .row .now) (tableIn (s .args .row .now)) (idIn (s .args .row .now)) 0 0) (s .args .start) (s .args .records .now) (s .pre .1 .1 .few)) refl (128 * 0) (omega arith))
 
 -- a column that both rows have is one of six
 six : (c : tie.In-loop Inv-loop μ-loop) → c .before .loop .c < 6
@@ -69,7 +66,7 @@ loop-again c =
     ⊎-elim
     (λ w. (
       omega (arith, k .before .loop-test .taken),
-      rw (w .5, w .6) (along-is (along-next (along-is (l .inv .1) (columns-other (skips (isNothing (s .args .old))) S (oldCells (s .args .area .now) (s .args .old) (s .args .row .now)) (s .args .row .now) (tableIn (s .args .row .now)) (idIn (s .args .row .now)) (l .c) g h (sym (k .is-left .ensures) ∙ not-true _ (w .0 .taken))) (128 * l .c) (omega arith)) (w .2 .ensures) (w .2 .kept .1 .1 .1 .1 .1 .0)) refl (128 * (l .c + 1)) (omega arith)),
+      rw (w .5, w .6) (along-is (along-next (along-is (l .inv .1) (columns-other (skips (isNothing (s .args .old))) S (oldCells (s .args .area .now) (s .args .old) (s .args .row .now)) (s .args .row .now) (tableIn (s .args .row .now)) (idIn (s .args .row .now)) (l .c) g h (sym (k .is-left .ensures) ∙ not-true _ (w .0 .taken))) (128 * l .c) (omega arith)) (w .2 .ensures) (w .2 .kept .1 .1 .1 .1 .0)) refl (128 * (l .c + 1)) (omega arith)),
     ))
     (λ w. (
       omega (arith, k .before .loop-test .taken),
@@ -95,7 +92,7 @@ put-columns-spec =
     (tie.spec
     Inv-loop
     μ-loop
-    width-of-requires
+    (λ c κs. search needs)
     loop-holds
     is-left-requires
     put-column-requires

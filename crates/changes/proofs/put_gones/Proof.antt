@@ -1,12 +1,12 @@
 -- `changes::put_gones` meets its contract. Assumes nothing.
-use mathlib.Core.Path.{_≡_, refl, sym, ap, _∙_}
+use mathlib.Core.Path.{refl, sym, ap, _∙_}
 use mathlib.Core.Logic.{⊎-elim}
-use mathlib.Core.List.{List, [], _∷_}
+use mathlib.Core.List.{[], _∷_}
 use Prim.Native.Nat.{ℕ, _+_, _*_, _-_, _≤_}
 use native.Mathlib.Omega.{arith}
 use borrow.Author.Needs.{needs}
 use borrow.Author.Tests.{not-true, not-false}
-use lib.ListN.{length, getD, drop}
+use lib.ListN.{length, drop}
 use Rattle.model.specs.Limits.{rowsOffset}
 use Rattle.model.specs.Schema.{Schema}
 use Rattle.model.specs.Rows.{has}
@@ -20,16 +20,16 @@ use Rattle.changes.proofs.put_gones.Statement.{statement}
 use Rattle.changes.proofs.put_gones.Tie as tie
 
 abbrev Inv-loop : tie.InvT-loop
-Inv-loop area m after n run number records₀ to₀ i₀ records to i = (i ≤ m) × ((s : Schema) → Along run number (gones (working s n after) (working s m (rowsAt m area))) (26 * i) to₀ records₀ to records (gones (working s n after) (drop i (working s m (rowsAt m area)))))
+Inv-loop area m after n by records₀ to₀ i₀ records to i = (i ≤ m) × ((s : Schema) → Along (by .run) (by .number) (gones (working s n after) (working s m (rowsAt m area))) (26 * i) to₀ records₀ to records (gones (working s n after) (drop i (working s m (rowsAt m area)))))
 
 abbrev μ-loop : tie.MeasureT-loop
-μ-loop area m after n run number records₀ to₀ i₀ records to i = m - i
+μ-loop area m after n by records₀ to₀ i₀ records to i = m - i
 
 loop-holds : tie.Need-loop-holds Inv-loop μ-loop
 loop-holds c =
     let s = c .before .before in
     let a = s .args in
-    (omega arith, λ sc. along-is (along-all (a .run) (a .number) (gones (working sc (a .n) (a .after .now)) (working sc (a .m) (rowsAt (a .m) (a .area .now)))) (a .start) (a .records .now) (s .pre .1 .1 .few)) refl (26 * 0) (omega arith))
+    (omega arith, λ sc. along-is (along-all (a .by .run) (a .by .number) (gones (working sc (a .n) (a .after .now)) (working sc (a .m) (rowsAt (a .m) (a .area .now)))) (a .start) (a .records .now) (s .pre .1 .1 .few)) refl (26 * 0) (omega arith))
 
 key-at-requires : tie.Need-key-at-requires Inv-loop μ-loop
 key-at-requires c κs =
@@ -47,9 +47,6 @@ part-id-start c = omega (arith, c .before .key-at .ensures .size)
 
 part-id-end : tie.Need-part-id-end Inv-loop μ-loop
 part-id-end c = omega (arith, c .before .key-at .ensures .size)
-
-has-key-requires : tie.Need-has-key-requires Inv-loop μ-loop
-has-key-requires c κs = search needs
 
 put-gone-requires : tie.Need-put-gone-requires Inv-loop μ-loop
 put-gone-requires c κs =
@@ -83,7 +80,7 @@ loop-again c =
       omega (arith, k .loop-test .taken),
       λ sc. rw (w .5, w .6) (along-is (along-next
           (along-is (l .inv .1 sc) (gones-other sc (working sc (a .n) (a .after .now)) cells (a .m) size (l .i) (k .loop-test .taken) (ap (λ (x : ℕ). has x (working sc (a .n) (a .after .now))) there ∙ sym (h .has-key .ensures sc) ∙ not-true _ (w .0 .taken))) (26 * l .i) (omega arith))
-          (recorded-is (w .2 .ensures) (λ j. gone ((key-table (q .key-at .ensures) ∙ sym (ap tableIn row)) j) ((key-id (q .key-at .ensures) ∙ sym (ap idIn row)) j) ∷ []) 26 (omega arith)) (w .2 .kept .1 .1 .1 .1 .1 .0)) refl (26 * (l .i + 1)) (omega arith)),
+          (recorded-is (w .2 .ensures) (λ j. gone ((key-table (q .key-at .ensures) ∙ sym (ap tableIn row)) j) ((key-id (q .key-at .ensures) ∙ sym (ap idIn row)) j) ∷ []) 26 (omega arith)) (w .2 .kept .1 .1 .1 .1 .0)) refl (26 * (l .i + 1)) (omega arith)),
     ))
     (λ w. (omega (arith, k .loop-test .taken), λ sc. rw (w .1, w .2) (along-is (l .inv .1 sc) (gones-like sc (working sc (a .n) (a .after .now)) cells (a .m) size (l .i) (k .loop-test .taken) (ap (λ (x : ℕ). has x (working sc (a .n) (a .after .now))) there ∙ sym (h .has-key .ensures sc) ∙ not-false _ (w .0 .left))) (26 * (l .i + 1)) (omega arith))))
     (c .if1 .came)
@@ -110,7 +107,7 @@ put-gones-spec =
     sub-id
     part-id-start
     part-id-end
-    has-key-requires
+    (λ c κs. search needs)
     put-gone-requires
     add-i
     loop-less

@@ -1,7 +1,6 @@
 -- `changes::put_row` meets its contract. Assumes nothing.
-use mathlib.Core.Path.{_≡_, sym, ap, _∙_}
+use mathlib.Core.Path.{sym, ap, _∙_}
 use mathlib.Core.List.{[], _∷_, _++_}
-use Prim.Native.Nat.{ℕ}
 use native.Mathlib.Omega.{arith}
 use Rattle.model.specs.Octets.{value}
 use Rattle.model.specs.Records.{born}
@@ -15,9 +14,6 @@ use borrow.Author.Needs.{needs}
 use Rattle.changes.proofs.put_row.Statement.{statement}
 use Rattle.changes.proofs.put_row.Tie as tie
 
-enum-told : tie.Need-enum-told
-enum-told c = search needs
-
 put-columns-requires : tie.Need-put-columns-requires
 put-columns-requires c κs =
     let e = c .before in
@@ -27,18 +23,6 @@ put-columns-requires c κs =
     let w = old-within (packedTables (a .schema .now)) (a .area .now) (a .m) (a .row .now) _ (sym (s .pre .1 .1 .0) ∙ e .enum-told .given .1) in
     (s .pre .0, (at-old (a .area .now) (a .old) _ (e .enum-told .given .1) (s .pre .1 .0 .0) (omega (arith, w, s .pre .1 .0 .1)), record { few = r .few; room = omega (arith, r .room); enough = r .enough }))
 
-enum-told-2 : tie.Need-enum-told-2
-enum-told-2 c = search needs
-
-table-of-requires : tie.Need-table-of-requires
-table-of-requires c κs = search needs
-
-id-of-requires : tie.Need-id-of-requires
-id-of-requires c κs = search needs
-
-put-born-requires : tie.Need-put-born-requires
-put-born-requires c κs = search needs
-
 put-columns-requires-2 : tie.Need-put-columns-requires-2
 put-columns-requires-2 c κs =
     let b = c .before .before .before in
@@ -46,10 +30,7 @@ put-columns-requires-2 c κs =
     let s = e .before .before .before .before in
     let r = s .pre .1 .1 .1 in
     let w = b .put-born in
-    (s .pre .0, (nothing-old (s .args .area .now) (s .args .old) (e .enum-told2 .given .1), record { few = w .ensures .few; room = omega (arith, w .ensures .short, r .room); enough = omega (arith, w .kept .1 .1 .1 .1 .1 .0, r .enough) }))
-
-same-length : tie.Need-same-length
-same-length c = search needs
+    (s .pre .0, (nothing-old (s .args .area .now) (s .args .old) (e .enum-told2 .given .1), record { few = w .ensures .few; room = omega (arith, w .ensures .short, r .room); enough = omega (arith, w .kept .1 .1 .1 .1 .0, r .enough) }))
 
 returns : tie.Need-returns
 returns c =
@@ -59,9 +40,6 @@ returns c =
     let a = s .args in
     let S = packedTables (a .schema .now) in
     recorded-is (k .put-columns .ensures) (ap (columnsOver S (a .area .now) (a .m) (a .row .now)) (e .enum-told .given .1) ∙ row-changed S (a .area .now) (a .m) (a .row .now) _ (sym (s .pre .1 .1 .0) ∙ e .enum-told .given .1)) rowMost (omega arith)
-
-same-length-2 : tie.Need-same-length-2
-same-length-2 c = search needs
 
 returns-2 : tie.Need-returns-2
 unfolding idIn
@@ -81,14 +59,14 @@ pub put-row-spec : {M : Type 1} → statement M
 put-row-spec =
     tie.close
     (tie.spec
-    enum-told
+    (λ c. search needs)
     put-columns-requires
-    enum-told-2
-    table-of-requires
-    id-of-requires
-    put-born-requires
+    (λ c. search needs)
+    (λ c κs. search needs)
+    (λ c κs. search needs)
+    (λ c κs. search needs)
     put-columns-requires-2
-    same-length
+    (λ c. search needs)
     returns
-    same-length-2
+    (λ c. search needs)
     returns-2)

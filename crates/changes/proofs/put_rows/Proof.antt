@@ -1,5 +1,5 @@
 -- `changes::put_rows` meets its contract. Assumes nothing.
-use mathlib.Core.Path.{_≡_, refl, sym, ap}
+use mathlib.Core.Path.{_≡_, refl, ap}
 use mathlib.Core.List.{List, []}
 use Prim.Native.Nat.{ℕ, suc, _+_, _*_, _-_, _≤_, _<_}
 use native.Mathlib.Numerals.{add-one}
@@ -20,20 +20,20 @@ use Rattle.changes.proofs.put_rows.Statement.{statement}
 use Rattle.changes.proofs.put_rows.Tie as tie
 
 abbrev Inv-loop : tie.InvT-loop
-Inv-loop schema area m after n run number records₀ to₀ j₀ i₀ records to j i =
+Inv-loop schema area m after n by records₀ to₀ j₀ i₀ records to j i =
     let s = packedTables schema in
     let before = working s m (rowsAt m area) in
-    (i ≤ n) × ((z : Schema) → i < n → j ≤ fore (keyIn (getD after i [])) (working z m (rowsAt m area))) × Along run number (walk s before (working s n after)) (794 * i) to₀ records₀ to records (walk s before (drop i (working s n after)))
+    (i ≤ n) × ((z : Schema) → i < n → j ≤ fore (keyIn (getD after i [])) (working z m (rowsAt m area))) × Along (by .run) (by .number) (walk s before (working s n after)) (794 * i) to₀ records₀ to records (walk s before (drop i (working s n after)))
 
 abbrev μ-loop : tie.MeasureT-loop
-μ-loop schema area m after n run number records₀ to₀ j₀ i₀ records to j i = n - i
+μ-loop schema area m after n by records₀ to₀ j₀ i₀ records to j i = n - i
 
 loop-holds : tie.Need-loop-holds Inv-loop μ-loop
 loop-holds c =
     let s = c .before .before in
     let a = s .args in
     let S = packedTables (a .schema .now) in
-    (omega arith, (λ z h. omega arith), along-is (along-all (a .run) (a .number) (walk S (working S (a .m) (rowsAt (a .m) (a .area .now))) (working S (a .n) (a .after .now))) (a .start) (a .records .now) (s .pre .1 .1 .1 .few)) refl (794 * 0) (omega arith))
+    (omega arith, (λ z h. omega arith), along-is (along-all (a .by .run) (a .by .number) (walk S (working S (a .m) (rowsAt (a .m) (a .area .now))) (working S (a .n) (a .after .now))) (a .start) (a .records .now) (s .pre .1 .1 .1 .few)) refl (794 * 0) (omega arith))
 
 mul-skip : tie.Need-mul-skip Inv-loop μ-loop
 mul-skip c =
@@ -109,7 +109,7 @@ loop-again c =
           let up = ordered-next (a .n) (a .after .now) (s .pre .1 .1 .0 .1) (l .i) (omega (arith, h)) in
           let same : keyIn (getD (a .after .now) (l .i + 1) []) ≡ keyIn (getD (a .after .now) (suc (l .i)) []) = ap (λ (x : ℕ). keyIn (getD (a .after .now) x [])) (add-one (l .i)) in
           omega (arith, g .skip .ensures z, fore-up here next (before z) (omega (arith, up, same)))),
-      along-is (along-next (along-is (l .inv .2) (walk-on S (before S) (a .after .now) (a .n) (s .pre .1 .1 .0 .1 .there) (l .i) (k .loop-test .taken)) (794 * l .i) (omega arith)) (p .put-row .ensures) (p .put-row .kept .1 .1 .1 .1 .1 .1 .1 .1 .0)) refl (794 * (l .i + 1)) (omega arith),
+      along-is (along-next (along-is (l .inv .2) (walk-on S (before S) (a .after .now) (a .n) (s .pre .1 .1 .0 .1 .there) (l .i) (k .loop-test .taken)) (794 * l .i) (omega arith)) (p .put-row .ensures) (p .put-row .kept .1 .1 .1 .1 .1 .1 .1 .0)) refl (794 * (l .i + 1)) (omega arith),
     )
 
 same-length : tie.Need-same-length Inv-loop μ-loop

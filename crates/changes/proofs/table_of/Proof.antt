@@ -8,22 +8,10 @@ use borrow.Author.Needs.{needs}
 use Rattle.changes.proofs.table_of.Statement.{statement}
 use Rattle.changes.proofs.table_of.Tie as tie
 
-enum-known-old : tie.Need-enum-known-old
-enum-known-old c = search needs
-
 key-at-requires : tie.Need-key-at-requires
 key-at-requires c κs =
     let s = c .before .before .before .before in
     old-at (s .args .area .now) (s .args .old) _ (c .before .old .given .1) (s .pre)
-
-shared-slice-read-result : tie.Need-shared-slice-read-result
-shared-slice-read-result c = search needs
-
-enum-told : tie.Need-enum-told
-enum-told c = search needs
-
-table-of-requires : tie.Need-table-of-requires
-table-of-requires c κs = search needs
 
 returns : tie.Need-returns
 unfolding oldCells
@@ -41,10 +29,10 @@ pub table-of-spec : {M : Type 1} → statement M
 table-of-spec =
     tie.close
     (tie.spec
-    enum-known-old
+    (λ c. search needs)
     key-at-requires
-    shared-slice-read-result
-    enum-told
-    table-of-requires
+    (λ c. search needs)
+    (λ c. search needs)
+    (λ c κs. search needs)
     returns
     returns-2)

@@ -9,18 +9,6 @@ use borrow.Author.Needs.{needs}
 use Rattle.changes.proofs.width_of.Statement.{statement}
 use Rattle.changes.proofs.width_of.Tie as tie
 
-table-of-requires : tie.Need-table-of-requires
-table-of-requires c κs = search needs
-
-width-requires : tie.Need-width-requires
-width-requires c κs = search needs
-
-table-of-requires-2 : tie.Need-table-of-requires-2
-table-of-requires-2 c κs = search needs
-
-width-requires-2 : tie.Need-width-requires-2
-width-requires-2 c κs = search needs
-
 returns : tie.Need-returns
 returns c =
     let k = c .before in
@@ -43,9 +31,9 @@ pub width-of-spec : {M : Type 1} → statement M
 width-of-spec =
     tie.close
     (tie.spec
-    table-of-requires
-    width-requires
-    table-of-requires-2
-    width-requires-2
+    (λ c κs. search needs)
+    (λ c κs. search needs)
+    (λ c κs. search needs)
+    (λ c κs. search needs)
     returns
     returns-2)

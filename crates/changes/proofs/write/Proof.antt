@@ -1,5 +1,5 @@
 -- `changes::write` meets its contract. Assumes nothing.
-use mathlib.Core.Path.{_≡_, sym, ap, _∙_}
+use mathlib.Core.Path.{_≡_, sym, _∙_}
 use mathlib.Core.List.{List, [], _++_}
 use Prim.Native.Nat.{ℕ, _+_, _*_}
 use native.Mathlib.Omega.{arith}
@@ -7,7 +7,7 @@ use lib.ListN.{length, replicate}
 use Rattle.model.specs.Schema.{Schema}
 use Rattle.model.specs.Catalog.{packedTables}
 use Rattle.model.specs.Rows.{Row}
-use Rattle.model.specs.Records.{Change, gones, walk, closed}
+use Rattle.model.specs.Records.{Change, gones, walk}
 use Rattle.inner.specs.Working.{working}
 use Rattle.area.specs.Layout.{rowsAt}
 use Rattle.changes.specs.Walk.{Recorded, rowMost}
@@ -16,9 +16,6 @@ use Rattle.changes.proofs.Rows.{closed-none, closed-some}
 use borrow.Author.Needs.{needs}
 use Rattle.changes.proofs.write.Statement.{statement}
 use Rattle.changes.proofs.write.Tie as tie
-
-clear-requires : tie.Need-clear-requires
-clear-requires c κs = search needs
 
 put-gones-requires : tie.Need-put-gones-requires
 put-gones-requires c κs =
@@ -33,7 +30,7 @@ put-rows-requires c κs =
     let s = g .before .before .before .before .before .before .before .before in
     let p = s .pre .1 .0 in
     let q = g .put-gones in
-    let l = q .kept .1 .1 .1 .1 .1 .1 .1 .0 ∙ g .before .before .before .before .clear .kept .0 in
+    let l = q .kept .1 .1 .1 .1 .1 .1 .0 ∙ g .before .before .before .before .clear .kept .0 in
     (s .pre .0, ((p .0, p .1), (s .pre .1 .1, record { few = q .ensures [] .few; room = omega (arith, q .ensures [] .short, p); enough = omega (arith, l, p) })))
 
 -- all gone rows, then the new and the changed ones, written into zeros
@@ -56,14 +53,11 @@ module _ (k : tie.After-put-rows) where
   abbrev most : ℕ
   most = 26 * start .args .m + rowMost * start .args .n
 
-  whole : Recorded (start .args .run) (start .args .number) changed most (record { count = 0; at = 0 }) (k .before .before .before .before .before .before .before .before .clear .last .0) (k .put-rows .result) (k .put-rows .last .1 .1 .1 .1 .1 .1 .1 .1 .0)
+  whole : Recorded (start .args .run) (start .args .number) changed most (record { count = 0; at = 0 }) (k .before .before .before .before .before .before .before .before .clear .last .0) (k .put-rows .result) (k .put-rows .last .1 .1 .1 .1 .1 .1 .1 .0)
   whole = recorded-then (k .before .before .before .before .put-gones .ensures schema) (k .put-rows .ensures)
 
   cleared : k .before .before .before .before .before .before .before .before .clear .last .0 ≡ replicate (length (start .args .records .now)) 0
   cleared = k .before .before .before .before .before .before .before .before .clear .ensures
-
-same-length : tie.Need-same-length
-same-length c = search needs
 
 returns : tie.Need-returns
 returns c =
@@ -79,11 +73,8 @@ put-end-requires c κs =
     let p = start k .pre .1 .0 in
     let q = g .put-gones .ensures [] in
     let o = k .put-rows .ensures in
-    let l = k .put-rows .kept .1 .1 .1 .1 .1 .1 .1 .1 .0 ∙ g .put-gones .kept .1 .1 .1 .1 .1 .1 .1 .0 ∙ g .before .before .before .before .clear .kept .0 in
+    let l = k .put-rows .kept .1 .1 .1 .1 .1 .1 .1 .0 ∙ g .put-gones .kept .1 .1 .1 .1 .1 .1 .0 ∙ g .before .before .before .before .clear .kept .0 in
     record { few = o .few; room = omega (arith, q .short, o .short, p); enough = omega (arith, l, p) }
-
-same-length-2 : tie.Need-same-length-2
-same-length-2 c = search needs
 
 returns-2 : tie.Need-returns-2
 returns-2 c =
@@ -97,11 +88,11 @@ pub write-spec : {M : Type 1} → statement M
 write-spec =
     tie.close
     (tie.spec
-    clear-requires
+    (λ c κs. search needs)
     put-gones-requires
     put-rows-requires
-    same-length
+    (λ c. search needs)
     returns
     put-end-requires
-    same-length-2
+    (λ c. search needs)
     returns-2)

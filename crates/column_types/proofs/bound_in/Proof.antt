@@ -5,15 +5,9 @@ use borrow.Author.Needs.{needs}
 use Rattle.column_types.proofs.bound_in.Statement.{statement}
 use Rattle.column_types.proofs.bound_in.Tie as tie
 
-limit-in-requires : tie.Need-limit-in-requires
-limit-in-requires c κs = search needs
-
 returns : tie.Need-returns
 unfolding boundIn
 returns c = rw (boundIn, eq-eqb _ 0 (c .before .if1 .taken)) (c .limit-in .ensures)
-
-limit-in-requires-2 : tie.Need-limit-in-requires-2
-limit-in-requires-2 c κs = search needs
 
 returns-2 : tie.Need-returns-2
 unfolding boundIn
@@ -25,4 +19,4 @@ returns-3 c = rw (boundIn, ne-eqb _ 0 (c .before .if1 .left), ne-eqb _ 2 (c .if2
 
 pub bound-in-spec : {M : Type 1} → statement M
 bound-in-spec =
-    tie.close (tie.spec limit-in-requires returns limit-in-requires-2 returns-2 returns-3)
+    tie.close (tie.spec (λ c κs. search needs) returns (λ c κs. search needs) returns-2 returns-3)

@@ -5,18 +5,9 @@ use borrow.Author.Needs.{needs}
 use Rattle.column_types.proofs.is_within.Statement.{statement}
 use Rattle.column_types.proofs.is_within.Tie as tie
 
-enum-known-w : tie.Need-enum-known-w
-enum-known-w c = search needs
-
 returns : tie.Need-returns
 unfolding isWithin
 returns c = rw (c .before .before .w .given .1, isWithin, lt-leb _ _ (c .if1 .taken))
-
-enum-told : tie.Need-enum-told
-enum-told c = search needs
-
-enum-told-2 : tie.Need-enum-told-2
-enum-told-2 c = search needs
 
 returns-2 : tie.Need-returns-2
 unfolding isWithin
@@ -32,4 +23,4 @@ returns-4 c = rw (c .enum-told2 .given .1)
 
 pub is-within-spec : {M : Type 1} → statement M
 is-within-spec =
-    tie.close (tie.spec enum-known-w returns enum-told enum-told-2 returns-2 returns-3 returns-4)
+    tie.close (tie.spec (λ c. search needs) returns (λ c. search needs) (λ c. search needs) returns-2 returns-3 returns-4)

@@ -15,9 +15,6 @@ use Rattle.column_types.proofs.key_in.Lts as lts
 use Rattle.column_types.proofs.no_key.Reads as no-key-reads
 use Rattle.column_types.proofs.read_key.Reads as read-key-reads
 
-no-key-requires : tie.Need-no-key-requires
-no-key-requires c κs = search needs
-
 returns : tie.Need-returns
 returns c = record { none = λ e. c .no-key .ensures; some = λ e. absurd (eqb-false _ 0 e (c .before .if1 .taken)) }
 
@@ -39,4 +36,4 @@ returns-2 c =
     }
 
 pub key-in-spec : {M : Type 1} → statement M
-key-in-spec = tie.close (tie.spec no-key-requires returns read-key-requires returns-2)
+key-in-spec = tie.close (tie.spec (λ c κs. search needs) returns read-key-requires returns-2)

@@ -9,12 +9,6 @@ use Rattle.column_types.proofs.limit_fits.Tie as tie
 returns : tie.Need-returns
 returns c = rw (eq-eqb _ 0 (c .if1 .taken))
 
-whole-in-requires : tie.Need-whole-in-requires
-whole-in-requires c κs = search needs
-
-is-whole-requires : tie.Need-is-whole-requires
-is-whole-requires c κs = search needs
-
 returns-2 : tie.Need-returns-2
 returns-2 c = rw (ne-eqb _ 0 (c .before .before .before .if1 .left), c .before .before .if2 .taken) (c .is-whole .ensures ∙ ap isWhole (c .before .whole-in .ensures))
 
@@ -23,4 +17,4 @@ returns-3 c = rw (ne-eqb _ 0 (c .before .if1 .left), c .if2 .left)
 
 pub limit-fits-spec : {M : Type 1} → statement M
 limit-fits-spec =
-    tie.close (tie.spec returns whole-in-requires is-whole-requires returns-2 returns-3)
+    tie.close (tie.spec returns (λ c κs. search needs) (λ c κs. search needs) returns-2 returns-3)

@@ -9,12 +9,9 @@ returns : tie.Need-returns
 unfolding limitIn
 returns c = rw (limitIn, eq-eqb _ 0 (c .if1 .taken))
 
-whole-in-requires : tie.Need-whole-in-requires
-whole-in-requires c κs = search needs
-
 returns-2 : tie.Need-returns-2
 unfolding limitIn
 returns-2 c = rw (limitIn, ne-eqb _ 0 (c .before .if1 .left)) (c .whole-in .ensures)
 
 pub limit-in-spec : {M : Type 1} → statement M
-limit-in-spec = tie.close (tie.spec returns whole-in-requires returns-2)
+limit-in-spec = tie.close (tie.spec returns (λ c κs. search needs) returns-2)

@@ -11,12 +11,9 @@ returns : tie.Need-returns
 unfolding maxIn
 returns c = rw (maxIn, eq-eqb _ 0 (c .if1 .taken))
 
-size-or-requires : tie.Need-size-or-requires
-size-or-requires c κs = search needs
-
 returns-2 : tie.Need-returns-2
 unfolding maxIn
 returns-2 c = rw (maxIn, ne-eqb _ 0 (c .before .if1 .left)) (c .size-or .ensures)
 
 pub max-in-spec : {M : Type 1} → statement M
-max-in-spec = tie.close (tie.spec returns size-or-requires returns-2)
+max-in-spec = tie.close (tie.spec returns (λ c κs. search needs) returns-2)

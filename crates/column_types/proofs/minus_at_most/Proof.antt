@@ -4,15 +4,6 @@ use borrow.Author.Needs.{needs}
 use Rattle.column_types.proofs.minus_at_most.Statement.{statement}
 use Rattle.column_types.proofs.minus_at_most.Tie as tie
 
-enum-told : tie.Need-enum-told
-enum-told c = search needs
-
-enum-known-b : tie.Need-enum-known-b
-enum-known-b c = search needs
-
-enum-told-2 : tie.Need-enum-told-2
-enum-told-2 c = search needs
-
 returns : tie.Need-returns
 returns c = rw (c .enum-told .given .1) (minus-plus _ _)
 
@@ -24,4 +15,4 @@ returns-3 c = rw (c .enum-told2 .given .1) (minus-other _)
 
 pub minus-at-most-spec : {M : Type 1} → statement M
 minus-at-most-spec =
-    tie.close (tie.spec enum-told enum-known-b enum-told-2 returns returns-2 returns-3)
+    tie.close (tie.spec (λ c. search needs) (λ c. search needs) (λ c. search needs) returns returns-2 returns-3)

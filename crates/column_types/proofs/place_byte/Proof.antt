@@ -5,18 +5,9 @@ use borrow.Author.Needs.{needs}
 use Rattle.column_types.proofs.place_byte.Statement.{statement}
 use Rattle.column_types.proofs.place_byte.Tie as tie
 
-enum-known-f : tie.Need-enum-known-f
-enum-known-f c = search needs
-
-cast-result : tie.Need-cast-result
-cast-result c = search needs
-
 returns : tie.Need-returns
 unfolding placeByte
 returns c = rw (c .before .before .f .given .1, placeByte, lt-ltb _ _ (c .if1 .taken))
-
-enum-told : tie.Need-enum-told
-enum-told c = search needs
 
 returns-2 : tie.Need-returns-2
 unfolding placeByte
@@ -28,4 +19,4 @@ returns-3 c = rw (c .enum-told .given .1)
 
 pub place-byte-spec : {M : Type 1} → statement M
 place-byte-spec =
-    tie.close (tie.spec enum-known-f cast-result returns enum-told returns-2 returns-3)
+    tie.close (tie.spec (λ c. search needs) (λ c. search needs) returns (λ c. search needs) returns-2 returns-3)

@@ -4,17 +4,8 @@ use borrow.Author.Needs.{needs}
 use Rattle.column_types.proofs.plus_at_most.Statement.{statement}
 use Rattle.column_types.proofs.plus_at_most.Tie as tie
 
-enum-known-b : tie.Need-enum-known-b
-enum-known-b c = search needs
-
-enum-known-b-2 : tie.Need-enum-known-b-2
-enum-known-b-2 c = search needs
-
 returns : tie.Need-returns
 returns c = rw (c .before .before .b2 .given .1) (plus-none _ _ (c .if1 .taken))
-
-enum-told : tie.Need-enum-told
-enum-told c = search needs
 
 returns-2 : tie.Need-returns-2
 returns-2 c = rw (c .before .b .given .1) (plus-plus _ _)
@@ -28,4 +19,4 @@ returns-4 c = rw (c .enum-told .given .1) (plus-other _)
 pub plus-at-most-spec : {M : Type 1} → statement M
 plus-at-most-spec =
     tie.close
-    (tie.spec enum-known-b enum-known-b-2 returns enum-told returns-2 returns-3 returns-4)
+    (tie.spec (λ c. search needs) (λ c. search needs) returns (λ c. search needs) returns-2 returns-3 returns-4)

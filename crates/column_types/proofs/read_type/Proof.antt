@@ -16,47 +16,17 @@ use Rattle.column_types.proofs.max_in.Reads as max-in-reads
 use Rattle.column_types.proofs.size_or.Reads as size-or-reads
 use Rattle.column_types.proofs.type_fits.Reads as type-fits-reads
 
-slice-aggregate-fields-or : tie.Need-slice-aggregate-fields-or
-slice-aggregate-fields-or c = search needs
-
 fields-or-requires : tie.Need-fields-or-requires
 unfolding wordsOf wordsFrom
 fields-or-requires c κs =
     let st = c .before .before .before in
     (st .pre .0, (st .pre .1 .0, (st .pre .1 .1 .0, (refl, (omega arith, omega arith)))))
 
-array-read-key-in : tie.Need-array-read-key-in
-array-read-key-in c = search needs
-
 key-in-requires : tie.Need-key-in-requires
 unfolding wordsOf wordsFrom
 key-in-requires c κs =
     let st = c .before .before .before .before in
     (st .pre .0, (c .fields-or .ensures .well 0 (omega arith), (st .pre .1 .1 .1 .0, st .pre .1 .1 .1 .1)))
-
-array-read-whole-in : tie.Need-array-read-whole-in
-array-read-whole-in c = search needs
-
-whole-in-requires : tie.Need-whole-in-requires
-whole-in-requires c κs = search needs
-
-array-read-whole-in-2 : tie.Need-array-read-whole-in-2
-array-read-whole-in-2 c = search needs
-
-whole-in-requires-2 : tie.Need-whole-in-requires-2
-whole-in-requires-2 c κs = search needs
-
-type-fits-requires : tie.Need-type-fits-requires
-type-fits-requires c κs = search needs
-
-size-or-requires : tie.Need-size-or-requires
-size-or-requires c κs = search needs
-
-array-read-max-in : tie.Need-array-read-max-in
-array-read-max-in c = search needs
-
-max-in-requires : tie.Need-max-in-requires
-max-in-requires c κs = search needs
 
 returns : tie.Need-returns
 unfolding wordsOf wordsFrom
@@ -76,16 +46,16 @@ pub read-type-spec : {M : Type 1} → statement M
 read-type-spec =
     tie.close
     (tie.spec
-    slice-aggregate-fields-or
+    (λ c. search needs)
     fields-or-requires
-    array-read-key-in
+    (λ c. search needs)
     key-in-requires
-    array-read-whole-in
-    whole-in-requires
-    array-read-whole-in-2
-    whole-in-requires-2
-    type-fits-requires
-    size-or-requires
-    array-read-max-in
-    max-in-requires
+    (λ c. search needs)
+    (λ c κs. search needs)
+    (λ c. search needs)
+    (λ c κs. search needs)
+    (λ c κs. search needs)
+    (λ c κs. search needs)
+    (λ c. search needs)
+    (λ c κs. search needs)
     returns)

@@ -4,15 +4,6 @@ use borrow.Author.Needs.{needs}
 use Rattle.column_types.proofs.size_or.Statement.{statement}
 use Rattle.column_types.proofs.size_or.Tie as tie
 
-enum-known-w : tie.Need-enum-known-w
-enum-known-w c = search needs
-
-enum-told : tie.Need-enum-told
-enum-told c = search needs
-
-enum-told-2 : tie.Need-enum-told-2
-enum-told-2 c = search needs
-
 returns : tie.Need-returns
 unfolding sizeOr
 returns c = rw (c .before .w .given .1)
@@ -26,4 +17,4 @@ unfolding sizeOr
 returns-3 c = rw (c .enum-told2 .given .1)
 
 pub size-or-spec : {M : Type 1} → statement M
-size-or-spec = tie.close (tie.spec enum-known-w enum-told enum-told-2 returns returns-2 returns-3)
+size-or-spec = tie.close (tie.spec (λ c. search needs) (λ c. search needs) (λ c. search needs) returns returns-2 returns-3)

@@ -14,15 +14,6 @@ returns : tie.Need-returns
 unfolding tableIn
 returns c = rw (tableIn, eq-eqb _ 0 (c .if1 .taken))
 
-name-at-requires : tie.Need-name-at-requires
-name-at-requires c κs = search needs
-
-text-of-requires : tie.Need-text-of-requires
-text-of-requires c κs = search needs
-
-named-requires : tie.Need-named-requires
-named-requires c κs = search needs
-
 returns-2 : tie.Need-returns-2
 unfolding tableIn
 returns-2 c =
@@ -35,4 +26,4 @@ returns-2 c =
 
 pub table-in-spec : {M : Type 1} → statement M
 table-in-spec =
-    tie.close (tie.spec returns name-at-requires text-of-requires named-requires returns-2)
+    tie.close (tie.spec returns (λ c κs. search needs) (λ c κs. search needs) (λ c κs. search needs) returns-2)

@@ -8,33 +8,18 @@ use borrow.Author.Needs.{needs}
 use Rattle.columns.proofs.put_column.Statement.{statement}
 use Rattle.columns.proofs.put_column.Tie as tie
 
-small-requires : tie.Need-small-requires
-small-requires c κs = search needs
-
-small-requires-2 : tie.Need-small-requires-2
-small-requires-2 c κs = search needs
-
-bit-requires : tie.Need-bit-requires
-bit-requires c κs = search needs
-
-put-column-requires : tie.Need-put-column-requires
-put-column-requires c κs = search needs
-
-same-length : tie.Need-same-length
-same-length c = search needs
-
 returns : tie.Need-returns
 unfolding shapeBytes
 returns c =
     let pc = c .before .before in
-    let b = pc .before in
+    let b = pc .before .before in
     let s2 = b .before in
     let s1 = s2 .before in
-    let st = s1 .before .before .before .before in
+    let st = s1 .before .before .before in
     let k = st .args .t .key in
     pc .put-column .ensures
-    ∙ (λ i. (st .args .name .now ++ columnBytes (k .base) (k .how) (k .target) (s1 .small .ensures i) (s2 .small2 .ensures i) (b .bit .ensures i) (k .low) (k .high)) ++ drop 47 (st .args .out .now))
+    ∙ (λ i. (st .args .name .now ++ columnBytes (record { base = k .base; how = k .how; target = k .target; min = s1 .small .ensures i; max = s2 .small2 .ensures i; mutable = b .bit .ensures i; low = k .low; high = k .high })) ++ drop 47 (st .args .out .now))
 
 pub put-column-spec : {M : Type 1} → statement M
 put-column-spec =
-    tie.close (tie.spec small-requires small-requires-2 bit-requires put-column-requires same-length returns)
+    tie.close (tie.spec (λ c κs. search needs) (λ c κs. search needs) (λ c κs. search needs) (λ c κs. search needs) (λ c. search needs) returns)

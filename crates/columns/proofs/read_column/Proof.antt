@@ -13,20 +13,11 @@ use Rattle.model.specs.Catalog.{entryName}
 use Rattle.model.specs.SchemaText.{truthOr}
 use Rattle.members.specs.Fields.{wordsFrom, wordsOf, slotTree, Slots}
 use Rattle.columns.specs.Parts.{memberOf}
-use Rattle.columns.specs.Columns.{shapeBytes, columnTold, ColumnRead}
+use Rattle.columns.specs.Columns.{shapeBytes, columnAllowed, ColumnRead}
 use Rattle.columns.proofs.Cells.{columnWords, member-value, member-size, member-short, member-name, column-read}
 use borrow.Author.Needs.{needs}
 use Rattle.columns.proofs.read_column.Statement.{statement}
 use Rattle.columns.proofs.read_column.Tie as tie
-
-name-at-requires : tie.Need-name-at-requires
-name-at-requires c κs = search needs
-
-member-value-requires : tie.Need-member-value-requires
-member-value-requires c κs = search needs
-
-slice-aggregate-fields : tie.Need-slice-aggregate-fields
-slice-aggregate-fields c = search needs
 
 fields-requires : tie.Need-fields-requires
 unfolding wordsOf wordsFrom
@@ -35,29 +26,11 @@ fields-requires c κs =
     let s = st .args .text .now in
     (st .pre .0, (rw (c .before .member-value .ensures) (member-value s (st .args .at) (st .pre .1 .0) .1), (refl, omega arith)))
 
-array-read-type-in : tie.Need-array-read-type-in
-array-read-type-in c = search needs
-
 type-in-requires : tie.Need-type-in-requires
 unfolding wordsOf wordsFrom
 type-in-requires c κs =
     let st = c .before .before .before .before .before .before in
     (st .pre .0, (c .fields .ensures .well 0 (omega arith), (st .pre .1 .1 .0, st .pre .1 .1 .1)))
-
-column-fits-requires : tie.Need-column-fits-requires
-column-fits-requires c κs = search needs
-
-array-read-truth-in : tie.Need-array-read-truth-in
-array-read-truth-in c = search needs
-
-truth-in-requires : tie.Need-truth-in-requires
-truth-in-requires c κs = search needs
-
-slice-aggregate-put-column : tie.Need-slice-aggregate-put-column
-slice-aggregate-put-column c = search needs
-
-put-column-requires : tie.Need-put-column-requires
-put-column-requires c κs = search needs
 
 returns : tie.Need-returns
 unfolding wordsOf wordsFrom
@@ -83,7 +56,7 @@ returns c =
     subst (λ (x : Json). Slots s columnWords (membersIn x) f) (ap (treeAt s) (mv .member-value .ensures) ∙ sym (member-value s at well .0)) (fi .fields .ensures) in
     let short : getD name 0 0 ≤ 24 = rw (na .name-at .ensures) (member-short s at well) in
     let r = column-read s tables (memberOf s at) f k t (ty .type-in .ensures) name rest (ap length (na .name-at .ensures) ∙ member-size s at well) short (λ h. ap textOf (na .name-at .ensures) ∙ member-name s at well h) in
-    let q : columnTold s f (t .fits) ≡ cf .column-fits .result = sym (cf .column-fits .ensures) in
+    let q : columnAllowed s f (t .fits) ≡ cf .column-fits .result = sym (cf .column-fits .ensures) in
     let m : (name ++ shapeBytes t (truthOr true (slotTree s (getD f 2 0)))) ++ rest ≡ pc .put-column .last .0 =
     sym (pc .put-column .ensures ∙ ap (λ (b : Bool). (name ++ shapeBytes t b) ++ rest) (tr .truth-in .ensures)) in
     subst (ColumnRead tables (memberOf s at)) (λ i. record { fits = q i; cell = m i }) r
@@ -92,15 +65,15 @@ pub read-column-spec : {M : Type 1} → statement M
 read-column-spec =
     tie.close
     (tie.spec
-    name-at-requires
-    member-value-requires
-    slice-aggregate-fields
+    (λ c κs. search needs)
+    (λ c κs. search needs)
+    (λ c. search needs)
     fields-requires
-    array-read-type-in
+    (λ c. search needs)
     type-in-requires
-    column-fits-requires
-    array-read-truth-in
-    truth-in-requires
-    slice-aggregate-put-column
-    put-column-requires
+    (λ c κs. search needs)
+    (λ c. search needs)
+    (λ c κs. search needs)
+    (λ c. search needs)
+    (λ c κs. search needs)
     returns)

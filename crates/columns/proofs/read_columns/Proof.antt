@@ -11,15 +11,6 @@ use borrow.Author.Needs.{needs}
 use Rattle.columns.proofs.read_columns.Statement.{statement}
 use Rattle.columns.proofs.read_columns.Tie as tie
 
-slice-aggregate-collect : tie.Need-slice-aggregate-collect
-slice-aggregate-collect c = search needs
-
-collect-requires : tie.Need-collect-requires
-collect-requires c κs = search needs
-
-slice-aggregate-put-columns : tie.Need-slice-aggregate-put-columns
-slice-aggregate-put-columns c = search needs
-
 put-columns-requires : tie.Need-put-columns-requires
 put-columns-requires c κs =
     let co = c .before .before .before .before in
@@ -27,9 +18,6 @@ put-columns-requires c κs =
     let l = c .before .before .if1 .taken in
     let k : length (co .collect .last .1 .1 .1 .1 .0) ≡ 6 = co .collect .kept .1 .1 .1 .1 .0 in
     (st .pre .0, (co .collect .ensures .well (le-leb _ 6 l), (st .pre .1 .1 .0, (st .pre .1 .1 .1 .0, (l, (omega arith, st .pre .1 .1 .1 .1))))))
-
-same-length : tie.Need-same-length
-same-length c = search needs
 
 returns : tie.Need-returns
 returns c =
@@ -40,9 +28,6 @@ returns c =
     let l = th .if1 .taken in
     let k : length (co .collect .last .1 .1 .1 .1 .0) ≡ 6 = co .collect .kept .1 .1 .1 .1 .0 in
     all-read (st .args .text .now) (map entryName (st .args .tables .now)) (treeAt (st .args .text .now) (st .args .at)) (st .args .cells .now) (co .collect .ensures) (th .if1 .taken) (pc .put-columns .ensures) (omega arith) (c .if2 .taken)
-
-same-length-2 : tie.Need-same-length-2
-same-length-2 c = search needs
 
 returns-2 : tie.Need-returns-2
 returns-2 c =
@@ -62,12 +47,12 @@ pub read-columns-spec : {M : Type 1} → statement M
 read-columns-spec =
     tie.close
     (tie.spec
-    slice-aggregate-collect
-    collect-requires
-    slice-aggregate-put-columns
+    (λ c. search needs)
+    (λ c κs. search needs)
+    (λ c. search needs)
     put-columns-requires
-    same-length
+    (λ c. search needs)
     returns
-    same-length-2
+    (λ c. search needs)
     returns-2
     returns-3)

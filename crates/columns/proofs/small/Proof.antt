@@ -6,9 +6,6 @@ use Rattle.columns.proofs.small.Tie as tie
 use Rattle.columns.proofs.small.Reads as reads
 use Rattle.columns.proofs.small.Lts as lts
 
-cast-result : tie.Need-cast-result
-cast-result c = search needs
-
 returns : tie.Need-returns
 unfolding small
 returns c = rw (small, lt-ltb _ _ (c .if1 .taken))
@@ -18,4 +15,4 @@ unfolding small
 returns-2 c = rw (small, le-ltb _ _ (c .if1 .left))
 
 pub small-spec : {M : Type 1} → statement M
-small-spec = tie.close (tie.spec cast-result returns returns-2)
+small-spec = tie.close (tie.spec (λ c. search needs) returns returns-2)

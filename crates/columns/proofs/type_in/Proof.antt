@@ -12,9 +12,6 @@ use borrow.Author.Needs.{needs}
 use Rattle.columns.proofs.type_in.Statement.{statement}
 use Rattle.columns.proofs.type_in.Tie as tie
 
-no-type-requires : tie.Need-no-type-requires
-no-type-requires c κs = search needs
-
 returns : tie.Need-returns
 returns c = record { none = λ e. c .no-type .ensures; some = λ e. absurd (eqb-false _ 0 e (c .before .if1 .taken)) }
 
@@ -36,4 +33,4 @@ returns-2 c =
     }
 
 pub type-in-spec : {M : Type 1} → statement M
-type-in-spec = tie.close (tie.spec no-type-requires returns read-type-requires returns-2)
+type-in-spec = tie.close (tie.spec (λ c κs. search needs) returns read-type-requires returns-2)

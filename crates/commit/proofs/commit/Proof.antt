@@ -7,28 +7,10 @@ use Rattle.commit.proofs.Laws.{commit-missing, commit-few, commit-over,
 use Rattle.commit.proofs.commit.Statement.{statement}
 use Rattle.commit.proofs.commit.Tie as tie
 
-all-found-requires : tie.Need-all-found-requires
-all-found-requires c κs = search needs
-
-same-length : tie.Need-same-length
-same-length c = search needs
-
 returns : tie.Need-returns
 returns c =
     let a = c .before .before .before in
     commit-missing (packedTables (a .args .schema .now)) (a .args .n) (a .args .rows .now) (a .pre .1) (sym (c .before .all-found .ensures) ∙ not-true _ (c .if1 .taken))
-
-collect-requires : tie.Need-collect-requires
-collect-requires c κs = search needs
-
-weaken-requires : tie.Need-weaken-requires
-weaken-requires c κs = search needs
-
-all-enough-requires : tie.Need-all-enough-requires
-all-enough-requires c κs = search needs
-
-same-length-2 : tie.Need-same-length-2
-same-length-2 c = search needs
 
 returns-2 : tie.Need-returns-2
 returns-2 c =
@@ -40,12 +22,6 @@ returns-2 c =
     (m .ensures) (w .ensures)
     (sym (c .before .all-enough .ensures) ∙ not-true _ (c .if2 .taken))
 
-tables-good-requires : tie.Need-tables-good-requires
-tables-good-requires c κs = search needs
-
-same-length-3 : tie.Need-same-length-3
-same-length-3 c = search needs
-
 returns-3 : tie.Need-returns-3
 returns-3 c =
     let a = c .before .before .before .before .before .before .before .before .before .before .before .before .before .before .before in
@@ -56,9 +32,6 @@ returns-3 c =
     (m .ensures) (w .ensures)
     (sym (c .before .before .before .before .all-enough .ensures) ∙ not-false _ (c .before .before .before .if2 .left))
     (sym (c .before .tables-good .ensures) ∙ not-true _ (c .if3 .taken))
-
-same-length-4 : tie.Need-same-length-4
-same-length-4 c = search needs
 
 returns-4 : tie.Need-returns-4
 returns-4 c =
@@ -75,16 +48,16 @@ pub commit-spec : {M : Type 1} → statement M
 commit-spec =
     tie.close
     (tie.spec
-    all-found-requires
-    same-length
+    (λ c κs. search needs)
+    (λ c. search needs)
     returns
-    collect-requires
-    weaken-requires
-    all-enough-requires
-    same-length-2
+    (λ c κs. search needs)
+    (λ c κs. search needs)
+    (λ c κs. search needs)
+    (λ c. search needs)
     returns-2
-    tables-good-requires
-    same-length-3
+    (λ c κs. search needs)
+    (λ c. search needs)
     returns-3
-    same-length-4
+    (λ c. search needs)
     returns-4)

@@ -8,18 +8,12 @@ use Rattle.commit.proofs.Laws.{lawful-strong, lawful-loose, lawful-weak
 use Rattle.commit.proofs.lawful.Statement.{statement}
 use Rattle.commit.proofs.lawful.Tie as tie
 
-all-found-requires : tie.Need-all-found-requires
-all-found-requires c κs = search needs
-
 returns : tie.Need-returns
 returns c =
     let a = c .before .before in
     let s = packedTables (a .args .schema .now) in
     lawful-strong s (working s (a .args .n) (a .args .rows .now))
     (sym (c .before .all-found .ensures) ∙ not-true _ (c .if1 .taken))
-
-any-loose-requires : tie.Need-any-loose-requires
-any-loose-requires c κs = search needs
 
 returns-2 : tie.Need-returns-2
 returns-2 c =
@@ -28,9 +22,6 @@ returns-2 c =
     lawful-loose s (working s (a .args .n) (a .args .rows .now))
     (sym (c .before .before .before .all-found .ensures) ∙ not-false _ (c .before .before .if1 .left))
     (sym (c .before .any-loose .ensures) ∙ c .if2 .taken)
-
-all-found-requires-2 : tie.Need-all-found-requires-2
-all-found-requires-2 c κs = search needs
 
 returns-3 : tie.Need-returns-3
 returns-3 c =
@@ -41,9 +32,6 @@ returns-3 c =
     (sym (c .before .before .before .any-loose .ensures) ∙ c .before .before .if2 .left)
     (sym (c .before .all-found2 .ensures) ∙ not-true _ (c .if3 .taken))
 
-all-enough-requires : tie.Need-all-enough-requires
-all-enough-requires c κs = search needs
-
 returns-4 : tie.Need-returns-4
 returns-4 c =
     let a = c .before .before .before .before .before .before .before .before in
@@ -53,9 +41,6 @@ returns-4 c =
     (sym (c .before .before .before .before .before .any-loose .ensures) ∙ c .before .before .before .before .if2 .left)
     (sym (c .before .before .before .all-found2 .ensures) ∙ not-false _ (c .before .before .if3 .left))
     (sym (c .before .all-enough .ensures) ∙ not-true _ (c .if4 .taken))
-
-tables-good-requires : tie.Need-tables-good-requires
-tables-good-requires c κs = search needs
 
 returns-5 : tie.Need-returns-5
 returns-5 c =
@@ -73,13 +58,13 @@ pub lawful-spec : {M : Type 1} → statement M
 lawful-spec =
     tie.close
     (tie.spec
-    all-found-requires
+    (λ c κs. search needs)
     returns
-    any-loose-requires
+    (λ c κs. search needs)
     returns-2
-    all-found-requires-2
+    (λ c κs. search needs)
     returns-3
-    all-enough-requires
+    (λ c κs. search needs)
     returns-4
-    tables-good-requires
+    (λ c κs. search needs)
     returns-5)

@@ -12,12 +12,6 @@ use Rattle.conditions.proofs.is_allowed.Tie as tie
 orders-requires : tie.Need-orders-requires
 orders-requires c κs = tt
 
-kind-requires : tie.Need-kind-requires
-kind-requires c κs = search needs
-
-is-scalar-requires : tie.Need-is-scalar-requires
-is-scalar-requires c κs = search needs
-
 returns : tie.Need-returns
 returns c =
     let t = c .before .before in
@@ -35,7 +29,7 @@ is-allowed-spec =
     tie.close
     (tie.spec
     orders-requires
-    kind-requires
-    is-scalar-requires
+    (λ c κs. search needs)
+    (λ c κs. search needs)
     returns
     returns-2)

@@ -7,12 +7,12 @@ use Rattle.inner.specs.Positions.{left, itemsFine}
 use Rattle.model.specs.Faults.{isFine, earlier}
 use Rattle.model.specs.Catalog.{columnFrom}
 use Rattle.model.specs.Conditions.{Test}
-use Rattle.model.proofs.FaultLaws.{earlier-fine}
+use Rattle.model.proofs.FaultLaws.{earlier-first, earlier-fine}
 use Rattle.nav.proofs.Walk.{walk-fine, walk-less}
 use Rattle.marks.specs.Marks.{OfTable}
 use Rattle.conditions.specs.Tests.{testAt, testsAt}
-use Rattle.conditions.proofs.Faulty.{earlier-first, worst-on, worst-end, got-on, tests-end}
-use Rattle.conditions.proofs.Told.{Going, going-none, going-on, going-end}
+use Rattle.conditions.proofs.Faulty.{worst-on, worst-end, got-on, tests-end}
+use Rattle.conditions.proofs.Narrowing.{Going, going-none, going-on, going-end}
 use borrow.Author.Needs.{needs}
 use Rattle.conditions.proofs.mark_rows.Statement.{statement}
 use Rattle.conditions.proofs.mark_rows.Tie as tie

@@ -8,49 +8,13 @@ use Rattle.model.specs.Catalog.{baseNumbered}
 use Rattle.model.specs.Conditions.{orders, compare}
 use Rattle.model.proofs.Tests.{clash}
 use Rattle.uuids.specs.Named.{namesAt}
-use Rattle.request_values.specs.Weights.{atomsAs}
+use Rattle.request_values.specs.Values.{atomsAs}
 use Rattle.marks.specs.Marks.{every, atomsAt}
 use Rattle.marks.proofs.Meeting.{narrowed-as}
 use Rattle.conditions.proofs.Beyond.{unequal}
 use borrow.Author.Needs.{needs}
 use Rattle.conditions.proofs.narrow_beyond.Statement.{statement}
 use Rattle.conditions.proofs.narrow_beyond.Tie as tie
-
-enum-told : tie.Need-enum-told
-enum-told c = search needs
-
-enum-told-2 : tie.Need-enum-told-2
-enum-told-2 c = search needs
-
-enum-told-3 : tie.Need-enum-told-3
-enum-told-3 c = search needs
-
-narrow-all-requires : tie.Need-narrow-all-requires
-narrow-all-requires c κs = search needs
-
-enum-told-4 : tie.Need-enum-told-4
-enum-told-4 c = search needs
-
-narrow-all-requires-2 : tie.Need-narrow-all-requires-2
-narrow-all-requires-2 c κs = search needs
-
-enum-told-5 : tie.Need-enum-told-5
-enum-told-5 c = search needs
-
-enum-told-6 : tie.Need-enum-told-6
-enum-told-6 c = search needs
-
-enum-told-7 : tie.Need-enum-told-7
-enum-told-7 c = search needs
-
-narrow-each-requires : tie.Need-narrow-each-requires
-narrow-each-requires c κs = search needs
-
-enum-told-8 : tie.Need-enum-told-8
-enum-told-8 c = search needs
-
-narrow-each-requires-2 : tie.Need-narrow-each-requires-2
-narrow-each-requires-2 c κs = search needs
 
 returns : tie.Need-returns
 returns c =
@@ -120,18 +84,18 @@ pub narrow-beyond-spec : {M : Type 1} → statement M
 narrow-beyond-spec =
     tie.close
     (tie.spec
-    enum-told
-    enum-told-2
-    enum-told-3
-    narrow-all-requires
-    enum-told-4
-    narrow-all-requires-2
-    enum-told-5
-    enum-told-6
-    enum-told-7
-    narrow-each-requires
-    enum-told-8
-    narrow-each-requires-2
+    (λ c. search needs)
+    (λ c. search needs)
+    (λ c. search needs)
+    (λ c κs. search needs)
+    (λ c. search needs)
+    (λ c κs. search needs)
+    (λ c. search needs)
+    (λ c. search needs)
+    (λ c. search needs)
+    (λ c κs. search needs)
+    (λ c. search needs)
+    (λ c κs. search needs)
     returns
     returns-2
     returns-3

@@ -11,7 +11,7 @@ use Rattle.elements.specs.Elements.{elementsFrom, elementsFine}
 use Rattle.elements.proofs.Walk.{walk-rest, walk-end, walk-less, walk-fine}
 use Rattle.uuids.specs.Named.{namesAt}
 use Rattle.element_atoms.specs.Atoms.{atomAs, atomsOf}
-use Rattle.request_values.specs.Weights.{atomsAs}
+use Rattle.request_values.specs.Values.{atomsAs}
 use Rattle.marks.specs.Marks.{every, atomsAt}
 use Rattle.marks.proofs.Meeting.{Left, left-none, left-on, left-end, narrowed-as}
 use Rattle.conditions.proofs.Beyond.{every-cons, every-none}

@@ -14,36 +14,6 @@ use borrow.Author.Needs.{needs}
 use Rattle.conditions.proofs.narrow_element.Statement.{statement}
 use Rattle.conditions.proofs.narrow_element.Tie as tie
 
-storing-requires : tie.Need-storing-requires
-storing-requires c κs = search needs
-
-atom-at-requires : tie.Need-atom-at-requires
-atom-at-requires c κs = search needs
-
-enum-told : tie.Need-enum-told
-enum-told c = search needs
-
-slice-aggregate-narrow : tie.Need-slice-aggregate-narrow
-slice-aggregate-narrow c = search needs
-
-narrow-requires : tie.Need-narrow-requires
-narrow-requires c κs = search needs
-
-enum-told-2 : tie.Need-enum-told-2
-enum-told-2 c = search needs
-
-narrow-all-requires : tie.Need-narrow-all-requires
-narrow-all-requires c κs = search needs
-
-enum-told-3 : tie.Need-enum-told-3
-enum-told-3 c = search needs
-
-slice-aggregate-narrow-2 : tie.Need-slice-aggregate-narrow-2
-slice-aggregate-narrow-2 c = search needs
-
-narrow-requires-2 : tie.Need-narrow-requires-2
-narrow-requires-2 c κs = search needs
-
 returns : tie.Need-returns
 returns c =
     let t = c .before .before .before in
@@ -91,16 +61,16 @@ pub narrow-element-spec : {M : Type 1} → statement M
 narrow-element-spec =
     tie.close
     (tie.spec
-    storing-requires
-    atom-at-requires
-    enum-told
-    slice-aggregate-narrow
-    narrow-requires
-    enum-told-2
-    narrow-all-requires
-    enum-told-3
-    slice-aggregate-narrow-2
-    narrow-requires-2
+    (λ c κs. search needs)
+    (λ c κs. search needs)
+    (λ c. search needs)
+    (λ c. search needs)
+    (λ c κs. search needs)
+    (λ c. search needs)
+    (λ c κs. search needs)
+    (λ c. search needs)
+    (λ c. search needs)
+    (λ c κs. search needs)
     returns
     returns-2
     returns-3)

@@ -4,13 +4,10 @@ use borrow.Author.Tests.{not-true, not-false}
 use Rattle.inner.specs.Positions.{treeAt}
 use Rattle.model.specs.Catalog.{baseNumbered, columnFrom}
 use Rattle.uuids.specs.Named.{namesAt}
-use Rattle.conditions.proofs.Told.{told-not, told-fault, few, kept-count, kept-within, told-fit, beyond, told-beyond}
+use Rattle.conditions.proofs.Narrowing.{narrowed-not, narrowed-fault, few, kept-count, kept-within, narrowed-fit, beyond, narrowed-beyond}
 use borrow.Author.Needs.{needs}
 use Rattle.conditions.proofs.narrow_value.Statement.{statement}
 use Rattle.conditions.proofs.narrow_value.Tie as tie
-
-is-allowed-requires : tie.Need-is-allowed-requires
-is-allowed-requires c κs = search needs
 
 returns : tie.Need-returns
 returns c =
@@ -20,13 +17,7 @@ returns c =
     let n = namesAt (a .text .now) (a .names .now) in
     let col = columnFrom (a .column .now) in
     let j = treeAt (a .text .now) (a .at) in
-    told-not n col (a .test .place) (a .test .function) j (a .rows .now) (a .marks .now) (sym (ia .is-allowed .ensures) ∙ not-true _ (c .if1 .taken))
-
-test-value-requires : tie.Need-test-value-requires
-test-value-requires c κs = search needs
-
-is-fine-requires : tie.Need-is-fine-requires
-is-fine-requires c κs = search needs
+    narrowed-not n col (a .test .place) (a .test .function) j (a .rows .now) (a .marks .now) (sym (ia .is-allowed .ensures) ∙ not-true _ (c .if1 .taken))
 
 kept-requires : tie.Need-kept-requires
 kept-requires c κs =
@@ -74,9 +65,6 @@ slice-aggregate-narrow c =
     let ok = sym (ia .is-allowed .ensures) ∙ not-false _ (no .if1 .left) in
     kept-count n col (a .test .place) (a .test .function) j (a .rows .now) (a .marks .now) ok (tv .test-value .ensures) (sym (fi .is-fine .ensures) ∙ t3 .before .if2 .taken) (baseNumbered (a .test .kind)) (st .pre .1 .1 .1) (kp .kept .result) (kp .kept .ensures) (t3 .if3 .taken)
 
-narrow-requires : tie.Need-narrow-requires
-narrow-requires c κs = search needs
-
 narrow-beyond-requires : tie.Need-narrow-beyond-requires
 narrow-beyond-requires c κs =
     let e3 = c .before in
@@ -106,7 +94,7 @@ returns-2 c =
     let col = columnFrom (a .column .now) in
     let j = treeAt (a .text .now) (a .at) in
     let ok = sym (ia .is-allowed .ensures) ∙ not-false _ (no .if1 .left) in
-    told-fit n col (a .test .place) (a .test .function) j (a .rows .now) (a .marks .now) ok (tv .test-value .ensures) (sym (fi .is-fine .ensures) ∙ t3 .before .if2 .taken) (baseNumbered (a .test .kind)) (st .pre .1 .1 .1) (kp .kept .result) (kp .kept .ensures) (t3 .if3 .taken) (c .narrow .ensures)
+    narrowed-fit n col (a .test .place) (a .test .function) j (a .rows .now) (a .marks .now) ok (tv .test-value .ensures) (sym (fi .is-fine .ensures) ∙ t3 .before .if2 .taken) (baseNumbered (a .test .kind)) (st .pre .1 .1 .1) (kp .kept .result) (kp .kept .ensures) (t3 .if3 .taken) (c .narrow .ensures)
 
 returns-3 : tie.Need-returns-3
 returns-3 c =
@@ -121,7 +109,7 @@ returns-3 c =
     let col = columnFrom (a .column .now) in
     let j = treeAt (a .text .now) (a .at) in
     let ok = sym (ia .is-allowed .ensures) ∙ not-false _ (no .if1 .left) in
-    told-beyond n col (a .test .place) (a .test .function) j (a .rows .now) (a .marks .now) ok (tv .test-value .ensures) (sym (fi .is-fine .ensures) ∙ e3 .before .if2 .taken) (baseNumbered (a .test .kind)) (st .pre .1 .1 .1) (e3 .if3 .left) (c .narrow-beyond .ensures)
+    narrowed-beyond n col (a .test .place) (a .test .function) j (a .rows .now) (a .marks .now) ok (tv .test-value .ensures) (sym (fi .is-fine .ensures) ∙ e3 .before .if2 .taken) (baseNumbered (a .test .kind)) (st .pre .1 .1 .1) (e3 .if3 .left) (c .narrow-beyond .ensures)
 
 returns-4 : tie.Need-returns-4
 returns-4 c =
@@ -135,20 +123,20 @@ returns-4 c =
     let col = columnFrom (a .column .now) in
     let j = treeAt (a .text .now) (a .at) in
     let ok = sym (ia .is-allowed .ensures) ∙ not-false _ (no .if1 .left) in
-    told-fault n col (a .test .place) (a .test .function) j (a .rows .now) (a .marks .now) ok (tv .test-value .ensures) (sym (fi .is-fine .ensures) ∙ c .if2 .left)
+    narrowed-fault n col (a .test .place) (a .test .function) j (a .rows .now) (a .marks .now) ok (tv .test-value .ensures) (sym (fi .is-fine .ensures) ∙ c .if2 .left)
 
 pub narrow-value-spec : {M : Type 1} → statement M
 narrow-value-spec =
     tie.close
     (tie.spec
-    is-allowed-requires
+    (λ c κs. search needs)
     returns
-    test-value-requires
-    is-fine-requires
+    (λ c κs. search needs)
+    (λ c κs. search needs)
     kept-requires
     array-share-prefix-l
     slice-aggregate-narrow
-    narrow-requires
+    (λ c κs. search needs)
     narrow-beyond-requires
     returns-2
     returns-3

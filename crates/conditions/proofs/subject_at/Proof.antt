@@ -6,9 +6,6 @@ use borrow.Author.Needs.{needs}
 use Rattle.conditions.proofs.subject_at.Statement.{statement}
 use Rattle.conditions.proofs.subject_at.Tie as tie
 
-slice-aggregate-is-word : tie.Need-slice-aggregate-is-word
-slice-aggregate-is-word c = search needs
-
 is-word-requires : tie.Need-is-word-requires
 is-word-requires c κs = tt
 
@@ -20,12 +17,6 @@ returns c =
 
 column-at-requires : tie.Need-column-at-requires
 column-at-requires c κs = tt
-
-enum-known-f : tie.Need-enum-known-f
-enum-known-f c = search needs
-
-enum-told : tie.Need-enum-told
-enum-told c = search needs
 
 returns-2 : tie.Need-returns-2
 returns-2 c =
@@ -45,11 +36,11 @@ pub subject-at-spec : {M : Type 1} → statement M
 subject-at-spec =
     tie.close
     (tie.spec
-    slice-aggregate-is-word
+    (λ c. search needs)
     is-word-requires
     returns
     column-at-requires
-    enum-known-f
-    enum-told
+    (λ c. search needs)
+    (λ c. search needs)
     returns-2
     returns-3)

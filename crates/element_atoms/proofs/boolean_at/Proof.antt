@@ -4,44 +4,31 @@ use mathlib.Core.Option.{some}
 use Rattle.inner.specs.Positions.{treeAt}
 use Rattle.model.specs.Nav.{isTruth}
 use Rattle.model.specs.Value.{boolAtom}
-use Rattle.uuids.specs.Named.{answered}
+use Rattle.uuids.proofs.Atoms.{atom-there, atom-none}
 use Rattle.element_atoms.proofs.Reading.{boolean-some, boolean-none}
 use borrow.Author.Needs.{needs}
 use Rattle.element_atoms.proofs.boolean_at.Statement.{statement}
 use Rattle.element_atoms.proofs.boolean_at.Tie as tie
 
-kind-at-requires : tie.Need-kind-at-requires
-kind-at-requires c κs = search needs
-
-is-kind-requires : tie.Need-is-kind-requires
-is-kind-requires c κs = search needs
-
-truth-at-requires : tie.Need-truth-at-requires
-truth-at-requires c κs = search needs
-
-put-boolean-requires : tie.Need-put-boolean-requires
-put-boolean-requires c κs = search needs
-
 returns : tie.Need-returns
-unfolding answered
 returns c =
     let a = c .before .before .before .before .before .before .before .args in
-    boolean-some (treeAt (a .text .now) (a .at)) (ap isTruth (sym (c .before .before .before .before .before .kind-at .ensures)) ∙ sym (c .before .before .before .before .is-kind .ensures) ∙ c .before .before .before .if1 .taken)
-    ∙ ap (λ b. some (boolAtom b)) (sym (c .before .before .truth-at .ensures)) ∙ ap some (sym (c .put-boolean .ensures))
+    atom-there
+    (boolean-some (treeAt (a .text .now) (a .at)) (ap isTruth (sym (c .before .before .before .before .before .kind-at .ensures)) ∙ sym (c .before .before .before .before .is-kind .ensures) ∙ c .before .before .before .if1 .taken)
+    ∙ ap (λ b. some (boolAtom b)) (sym (c .before .before .truth-at .ensures)) ∙ ap some (sym (c .put-boolean .ensures)))
 
 returns-2 : tie.Need-returns-2
-unfolding answered
 returns-2 c =
     let a = c .before .before .before .before .args in
-    boolean-none (treeAt (a .text .now) (a .at)) (ap isTruth (sym (c .before .before .kind-at .ensures)) ∙ sym (c .before .is-kind .ensures) ∙ c .if1 .left)
+    atom-none (boolean-none (treeAt (a .text .now) (a .at)) (ap isTruth (sym (c .before .before .kind-at .ensures)) ∙ sym (c .before .is-kind .ensures) ∙ c .if1 .left))
 
 pub boolean-at-spec : {M : Type 1} → statement M
 boolean-at-spec =
     tie.close
     (tie.spec
-    kind-at-requires
-    is-kind-requires
-    truth-at-requires
-    put-boolean-requires
+    (λ c κs. search needs)
+    (λ c κs. search needs)
+    (λ c κs. search needs)
+    (λ c κs. search needs)
     returns
     returns-2)

@@ -2,43 +2,29 @@
 use mathlib.Core.Path.{sym, ap, _∙_}
 use mathlib.Core.Option.{some}
 use Rattle.inner.specs.Positions.{treeAt}
-use Rattle.uuids.specs.Named.{answered}
+use Rattle.uuids.proofs.Atoms.{atom-there, atom-none}
 use Rattle.element_atoms.proofs.Reading.{integer-some, integer-none}
 use borrow.Author.Needs.{needs}
 use Rattle.element_atoms.proofs.integer_at.Statement.{statement}
 use Rattle.element_atoms.proofs.integer_at.Tie as tie
 
-integer-at-requires : tie.Need-integer-at-requires
-integer-at-requires c κs = search needs
-
-is-whole-requires : tie.Need-is-whole-requires
-is-whole-requires c κs = search needs
-
-bits-requires : tie.Need-bits-requires
-bits-requires c κs = search needs
-
-put-integer-requires : tie.Need-put-integer-requires
-put-integer-requires c κs = search needs
-
 returns : tie.Need-returns
-unfolding answered
 returns c =
     let a = c .before .before .before .before .before .before .before .before .args in
-    integer-some (treeAt (a .text .now) (a .at)) (c .before .before .before .before .before .integer-at .ensures) (sym (c .before .before .before .before .is-whole .ensures) ∙ c .before .before .before .if1 .taken) (c .before .before .bits .ensures) ∙ ap some (sym (c .put-integer .ensures))
+    atom-there (integer-some (treeAt (a .text .now) (a .at)) (c .before .before .before .before .before .integer-at .ensures) (sym (c .before .before .before .before .is-whole .ensures) ∙ c .before .before .before .if1 .taken) (c .before .before .bits .ensures) ∙ ap some (sym (c .put-integer .ensures)))
 
 returns-2 : tie.Need-returns-2
-unfolding answered
 returns-2 c =
     let a = c .before .before .before .before .before .args in
-    integer-none (treeAt (a .text .now) (a .at)) (c .before .before .integer-at .ensures) (sym (c .before .is-whole .ensures) ∙ c .if1 .left)
+    atom-none (integer-none (treeAt (a .text .now) (a .at)) (c .before .before .integer-at .ensures) (sym (c .before .is-whole .ensures) ∙ c .if1 .left))
 
 pub integer-at-spec : {M : Type 1} → statement M
 integer-at-spec =
     tie.close
     (tie.spec
-    integer-at-requires
-    is-whole-requires
-    bits-requires
-    put-integer-requires
+    (λ c κs. search needs)
+    (λ c κs. search needs)
+    (λ c κs. search needs)
+    (λ c κs. search needs)
     returns
     returns-2)

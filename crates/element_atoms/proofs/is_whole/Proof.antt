@@ -4,15 +4,6 @@ use borrow.Author.Needs.{needs}
 use Rattle.element_atoms.proofs.is_whole.Statement.{statement}
 use Rattle.element_atoms.proofs.is_whole.Tie as tie
 
-enum-told : tie.Need-enum-told
-enum-told c = search needs
-
-enum-told-2 : tie.Need-enum-told-2
-enum-told-2 c = search needs
-
-enum-told-3 : tie.Need-enum-told-3
-enum-told-3 c = search needs
-
 returns : tie.Need-returns
 unfolding isWhole
 returns c = rw (c .enum-told .given .1)
@@ -29,9 +20,9 @@ pub is-whole-spec : {M : Type 1} → statement M
 is-whole-spec =
     tie.close
     (tie.spec
-    enum-told
-    enum-told-2
-    enum-told-3
+    (λ c. search needs)
+    (λ c. search needs)
+    (λ c. search needs)
     returns
     returns-2
     returns-3)

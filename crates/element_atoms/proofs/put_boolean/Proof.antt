@@ -9,24 +9,15 @@ use borrow.Author.Needs.{needs}
 use Rattle.element_atoms.proofs.put_boolean.Statement.{statement}
 use Rattle.element_atoms.proofs.put_boolean.Tie as tie
 
-clear-requires : tie.Need-clear-requires
-clear-requires c κs = search needs
-
 slice-write-out : tie.Need-slice-write-out
 slice-write-out c =
     let s = c .before .before .before .before .before .before in
     omega (arith, ap length (c .before .before .before .clear .ensures), length-replicate {A = ℕ} (length (s .args .out .now)) 0, s .pre)
 
-same-length : tie.Need-same-length
-same-length c = search needs
-
 returns : tie.Need-returns
 returns c =
     let s = c .before .before .before .before .before .before in
     ap (λ (z : List ℕ). set z 0 1) (c .before .before .before .clear .ensures ∙ ap (λ (n : ℕ). replicate {A = ℕ} n 0) (s .pre)) ∙ ap boolAtom (sym (c .if1 .taken))
-
-same-length-2 : tie.Need-same-length-2
-same-length-2 c = search needs
 
 returns-2 : tie.Need-returns-2
 returns-2 c =
@@ -37,9 +28,9 @@ pub put-boolean-spec : {M : Type 1} → statement M
 put-boolean-spec =
     tie.close
     (tie.spec
-    clear-requires
+    (λ c κs. search needs)
     slice-write-out
-    same-length
+    (λ c. search needs)
     returns
-    same-length-2
+    (λ c. search needs)
     returns-2)

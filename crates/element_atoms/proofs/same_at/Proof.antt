@@ -18,21 +18,6 @@ use Rattle.element_atoms.proofs.same_at.Tie as tie
 atom-at-requires : tie.Need-atom-at-requires
 atom-at-requires c κs = (c .before .before .before .before .before .pre .0, c .before .before .before .before .before .pre .1)
 
-enum-told : tie.Need-enum-told
-enum-told c = search needs
-
-same-requires : tie.Need-same-requires
-same-requires c κs = search needs
-
-enum-told-2 : tie.Need-enum-told-2
-enum-told-2 c = search needs
-
-enum-told-3 : tie.Need-enum-told-3
-enum-told-3 c = search needs
-
-same-requires-2 : tie.Need-same-requires-2
-same-requires-2 c κs = search needs
-
 returns : tie.Need-returns
 returns c =
     let a = c .before .before .before .before .before .before .before .before .before .before .args in
@@ -69,11 +54,11 @@ same-at-spec =
     tie.close
     (tie.spec
     atom-at-requires
-    enum-told
-    same-requires
-    enum-told-2
-    enum-told-3
-    same-requires-2
+    (λ c. search needs)
+    (λ c κs. search needs)
+    (λ c. search needs)
+    (λ c. search needs)
+    (λ c κs. search needs)
     returns
     returns-2
     returns-3)

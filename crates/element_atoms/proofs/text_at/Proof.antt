@@ -14,32 +14,11 @@ use borrow.Author.Needs.{needs}
 use Rattle.element_atoms.proofs.text_at.Statement.{statement}
 use Rattle.element_atoms.proofs.text_at.Tie as tie
 
-clear-requires : tie.Need-clear-requires
-clear-requires c κs = search needs
-
-kind-at-requires : tie.Need-kind-at-requires
-kind-at-requires c κs = search needs
-
-is-kind-requires : tie.Need-is-kind-requires
-is-kind-requires c κs = search needs
-
-spaces-requires : tie.Need-spaces-requires
-spaces-requires c κs = search needs
-
 add-decode : tie.Need-add-decode
 add-decode c =
     let a = c .before .before .before .before .before .before .before .args in
     let t = ap isText (sym (c .before .before .before .kind-at .ensures)) ∙ sym (c .before .before .is-kind .ensures) ∙ c .before .if1 .taken in
     omega (arith, c .spaces .ensures, text-tree (a .text .now) (a .at) t .0)
-
-slice-aggregate-decode : tie.Need-slice-aggregate-decode
-slice-aggregate-decode c = search needs
-
-decode-requires : tie.Need-decode-requires
-decode-requires c κs = search needs
-
-enum-known-w : tie.Need-enum-known-w
-enum-known-w c = search needs
 
 array-share-prefix-buf : tie.Need-array-share-prefix-buf
 array-share-prefix-buf c =
@@ -66,9 +45,6 @@ returns c =
     let q = ap (λ i. bodyAt s (i + 1) .tree) (c .before .before .before .before .before .before .before .before .before .spaces .ensures) ∙ sym (string-str (text-tree s (a .at) t .1)) in
     (t, c .put-text .ensures ∙ ap textAtom (f .2 ∙ q), omega (arith, ap length q, f .1))
 
-enum-told : tie.Need-enum-told
-enum-told c = search needs
-
 returns-2 : tie.Need-returns-2
 unfolding TextReads
 returns-2 c =
@@ -90,18 +66,18 @@ pub text-at-spec : {M : Type 1} → statement M
 text-at-spec =
     tie.close
     (tie.spec
-    clear-requires
-    kind-at-requires
-    is-kind-requires
-    spaces-requires
+    (λ c κs. search needs)
+    (λ c κs. search needs)
+    (λ c κs. search needs)
+    (λ c κs. search needs)
     add-decode
-    slice-aggregate-decode
-    decode-requires
-    enum-known-w
+    (λ c. search needs)
+    (λ c κs. search needs)
+    (λ c. search needs)
     array-share-prefix-buf
     slice-aggregate-put-text
     put-text-requires
     returns
-    enum-told
+    (λ c. search needs)
     returns-2
     returns-3)

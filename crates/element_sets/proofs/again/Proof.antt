@@ -15,20 +15,11 @@ use Rattle.element_sets.proofs.again.Tie as tie
 atom-at-requires : tie.Need-atom-at-requires
 atom-at-requires c κs = (c .before .before .before .before .pre .0, c .before .before .before .before .pre .1 .0)
 
-enum-told : tie.Need-enum-told
-enum-told c = search needs
-
 cell-among-requires : tie.Need-cell-among-requires
 cell-among-requires c κs = (c .before .before .before .before .before .before .before .before .pre .0, c .before .before .before .before .before .before .before .before .pre .1 .1)
 
-enum-told-2 : tie.Need-enum-told-2
-enum-told-2 c = search needs
-
 long-among-requires : tie.Need-long-among-requires
 long-among-requires c κs = c .before .before .before .before .before .before .before .pre .0 .says
-
-enum-told-3 : tie.Need-enum-told-3
-enum-told-3 c = search needs
 
 cell-among-requires-2 : tie.Need-cell-among-requires-2
 cell-among-requires-2 c κs = (c .before .before .before .before .before .before .before .before .pre .0, c .before .before .before .before .before .before .before .before .pre .1 .1)
@@ -68,11 +59,11 @@ again-spec =
     tie.close
     (tie.spec
     atom-at-requires
-    enum-told
+    (λ c. search needs)
     cell-among-requires
-    enum-told-2
+    (λ c. search needs)
     long-among-requires
-    enum-told-3
+    (λ c. search needs)
     cell-among-requires-2
     returns
     returns-2

@@ -8,22 +8,16 @@ use borrow.Author.Needs.{needs}
 use Rattle.element_sets.proofs.at_most.Statement.{statement}
 use Rattle.element_sets.proofs.at_most.Tie as tie
 
-turn-requires : tie.Need-turn-requires
-turn-requires c κs = search needs
-
-turn-requires-2 : tie.Need-turn-requires-2
-turn-requires-2 c κs = search needs
-
 returns : tie.Need-returns
 returns c =
     let a = c .before .before .args in
     let f = c .before .before .fits in
-    ap (λ x. not (ltb (c .turn2 .result) x)) (c .before .turn .ensures) ∙ ap (λ y. not (ltb y (halves (a .x)))) (c .turn2 .ensures) ∙ at-most-is (a .x) (a .y) (f .x .fits) (f .y .fits)
+    ap (λ x. not (ltb (c .biased2 .result) x)) (c .before .biased .ensures) ∙ ap (λ y. not (ltb y (halves (a .x)))) (c .biased2 .ensures) ∙ at-most-is (a .x) (a .y) (f .x .fits) (f .y .fits)
 
 pub at-most-spec : {M : Type 1} → statement M
 at-most-spec =
     tie.close
     (tie.spec
-    turn-requires
-    turn-requires-2
+    (λ c κs. search needs)
+    (λ c κs. search needs)
     returns)

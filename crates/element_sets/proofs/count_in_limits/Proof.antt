@@ -11,12 +11,6 @@ use borrow.Author.Needs.{needs}
 use Rattle.element_sets.proofs.count_in_limits.Statement.{statement}
 use Rattle.element_sets.proofs.count_in_limits.Tie as tie
 
-low-requires : tie.Need-low-requires
-low-requires c κs = search needs
-
-high-requires : tie.Need-high-requires
-high-requires c κs = search needs
-
 returns : tie.Need-returns
 returns c =
     let a = c .before .before .args in
@@ -30,6 +24,6 @@ pub count-in-limits-spec : {M : Type 1} → statement M
 count-in-limits-spec =
     tie.close
     (tie.spec
-    low-requires
-    high-requires
+    (λ c κs. search needs)
+    (λ c κs. search needs)
     returns)

@@ -5,12 +5,6 @@ use borrow.Author.Needs.{needs}
 use Rattle.element_sets.proofs.put_atom.Statement.{statement}
 use Rattle.element_sets.proofs.put_atom.Tie as tie
 
-mul-x : tie.Need-mul-x
-mul-x c = search needs
-
-element-set-from-x : tie.Need-element-set-from-x
-element-set-from-x c = search needs
-
 returns : tie.Need-returns
 returns c =
     let a = c .before .before .args in
@@ -22,4 +16,4 @@ returns-2 c =
     sym (put-past (a .i) (a .cell .now) (a .atoms .now) (c .if1 .left))
 
 pub put-atom-spec : {M : Type 1} → statement M
-put-atom-spec = tie.close (tie.spec mul-x element-set-from-x returns returns-2)
+put-atom-spec = tie.close (tie.spec (λ c. search needs) (λ c. search needs) returns returns-2)

@@ -10,33 +10,6 @@ use borrow.Author.Needs.{needs}
 use Rattle.element_sets.proofs.see.Statement.{statement}
 use Rattle.element_sets.proofs.see.Tie as tie
 
-kind-requires : tie.Need-kind-requires
-kind-requires c κs = search needs
-
-atom-at-requires : tie.Need-atom-at-requires
-atom-at-requires c κs = search needs
-
-enum-told : tie.Need-enum-told
-enum-told c = search needs
-
-within-requires : tie.Need-within-requires
-within-requires c κs = search needs
-
-enum-told-2 : tie.Need-enum-told-2
-enum-told-2 c = search needs
-
-long-chars-requires : tie.Need-long-chars-requires
-long-chars-requires c κs = search needs
-
-count-in-limits-requires : tie.Need-count-in-limits-requires
-count-in-limits-requires c κs = search needs
-
-enum-told-3 : tie.Need-enum-told-3
-enum-told-3 c = search needs
-
-within-requires-2 : tie.Need-within-requires-2
-within-requires-2 c κs = search needs
-
 returns : tie.Need-returns
 returns c =
     let a = c .before .before .before .before .before .before .before .before .before .before .args in
@@ -77,15 +50,15 @@ pub see-spec : {M : Type 1} → statement M
 see-spec =
     tie.close
     (tie.spec
-    kind-requires
-    atom-at-requires
-    enum-told
-    within-requires
-    enum-told-2
-    long-chars-requires
-    count-in-limits-requires
-    enum-told-3
-    within-requires-2
+    (λ c κs. search needs)
+    (λ c κs. search needs)
+    (λ c. search needs)
+    (λ c κs. search needs)
+    (λ c. search needs)
+    (λ c κs. search needs)
+    (λ c κs. search needs)
+    (λ c. search needs)
+    (λ c κs. search needs)
     returns
     returns-2
     returns-3)

@@ -11,29 +11,11 @@ use borrow.Author.Needs.{needs}
 use Rattle.element_sets.proofs.within.Statement.{statement}
 use Rattle.element_sets.proofs.within.Tie as tie
 
-kind-requires : tie.Need-kind-requires
-kind-requires c κs = search needs
-
-number-requires : tie.Need-number-requires
-number-requires c κs = search needs
-
-in-limits-requires : tie.Need-in-limits-requires
-in-limits-requires c κs = search needs
-
 returns : tie.Need-returns
 returns c =
     let a = c .before .before .before .before .before .args in
     let z = columnFrom (a .column .now) in
     c .in-limits .ensures ∙ ap (λ v. inLimits z (fromTwos v)) (c .before .number .ensures) ∙ ap (λ b. atomInLimits z b (a .cell .now)) (sym (base-integer (getD (a .column .now) 25 0) (sym (c .before .before .before .before .kind .ensures) ∙ c .before .before .before .if1 .taken)))
-
-text-of-requires : tie.Need-text-of-requires
-text-of-requires c κs = search needs
-
-count-chars-requires : tie.Need-count-chars-requires
-count-chars-requires c κs = search needs
-
-count-in-limits-requires : tie.Need-count-in-limits-requires
-count-in-limits-requires c κs = search needs
 
 returns-2 : tie.Need-returns-2
 returns-2 c =
@@ -51,12 +33,12 @@ pub within-spec : {M : Type 1} → statement M
 within-spec =
     tie.close
     (tie.spec
-    kind-requires
-    number-requires
-    in-limits-requires
+    (λ c κs. search needs)
+    (λ c κs. search needs)
+    (λ c κs. search needs)
     returns
-    text-of-requires
-    count-chars-requires
-    count-in-limits-requires
+    (λ c κs. search needs)
+    (λ c κs. search needs)
+    (λ c κs. search needs)
     returns-2
     returns-3)

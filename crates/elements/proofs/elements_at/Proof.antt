@@ -6,27 +6,6 @@ use borrow.Author.Needs.{needs}
 use Rattle.elements.proofs.elements_at.Statement.{statement}
 use Rattle.elements.proofs.elements_at.Tie as tie
 
-pair-at-requires : tie.Need-pair-at-requires
-pair-at-requires c κs = search needs
-
-enum-known-p : tie.Need-enum-known-p
-enum-known-p c = search needs
-
-slice-aggregate-is-word : tie.Need-slice-aggregate-is-word
-slice-aggregate-is-word c = search needs
-
-is-word-requires : tie.Need-is-word-requires
-is-word-requires c κs = search needs
-
-kind-at-requires : tie.Need-kind-at-requires
-kind-at-requires c κs = search needs
-
-is-kind-requires : tie.Need-is-kind-requires
-is-kind-requires c κs = search needs
-
-first-requires : tie.Need-first-requires
-first-requires c κs = search needs
-
 returns : tie.Need-returns
 returns c =
     let ia = c .before .before in
@@ -35,9 +14,6 @@ returns c =
     let pa = pp .before .before in
     let st = pa .before .before .before in
     begins-set (st .args .text .now) (st .args .at) (pa .pair-at .ensures) (pp .p .given .1) (iw .is-word .ensures) (ia .is-kind .ensures ∙ ap isArray (ia .before .kind-at .ensures)) (c .before .if1 .taken) (c .first .ensures)
-
-enum-told : tie.Need-enum-told
-enum-told c = search needs
 
 returns-2 : tie.Need-returns-2
 returns-2 c =
@@ -58,14 +34,14 @@ pub elements-at-spec : {M : Type 1} → statement M
 elements-at-spec =
     tie.close
     (tie.spec
-    pair-at-requires
-    enum-known-p
-    slice-aggregate-is-word
-    is-word-requires
-    kind-at-requires
-    is-kind-requires
-    first-requires
+    (λ c κs. search needs)
+    (λ c. search needs)
+    (λ c. search needs)
+    (λ c κs. search needs)
+    (λ c κs. search needs)
+    (λ c κs. search needs)
+    (λ c κs. search needs)
     returns
-    enum-told
+    (λ c. search needs)
     returns-2
     returns-3)

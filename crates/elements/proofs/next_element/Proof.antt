@@ -4,9 +4,6 @@ use borrow.Author.Needs.{needs}
 use Rattle.elements.proofs.next_element.Statement.{statement}
 use Rattle.elements.proofs.next_element.Tie as tie
 
-next-item-requires : tie.Need-next-item-requires
-next-item-requires c κs = search needs
-
 returns : tie.Need-returns
 unfolding nextElement
 returns c = rw (c .before .if1 .taken) (c .next-item .ensures)
@@ -16,4 +13,4 @@ unfolding nextElement
 returns-2 c = rw (c .if1 .left)
 
 pub next-element-spec : {M : Type 1} → statement M
-next-element-spec = tie.close (tie.spec next-item-requires returns returns-2)
+next-element-spec = tie.close (tie.spec (λ c κs. search needs) returns returns-2)

@@ -5,44 +5,17 @@ use borrow.Author.Needs.{needs}
 use Rattle.elements.proofs.pair_at.Statement.{statement}
 use Rattle.elements.proofs.pair_at.Tie as tie
 
-first-requires : tie.Need-first-requires
-first-requires c κs = search needs
-
-enum-known-f : tie.Need-enum-known-f
-enum-known-f c = search needs
-
-enum-told : tie.Need-enum-told
-enum-told c = search needs
-
 returns : tie.Need-returns
 returns c =
     let f = c .before .before in
     let st = f .before .before .before in
     no-first (st .args .text .now) (st .args .at) (st .pre .1) (sym (f .first .ensures) ∙ c .enum-told .given .1)
 
-next-item-requires : tie.Need-next-item-requires
-next-item-requires c κs = search needs
-
-enum-known-g : tie.Need-enum-known-g
-enum-known-g c = search needs
-
-enum-told-2 : tie.Need-enum-told-2
-enum-told-2 c = search needs
-
 returns-2 : tie.Need-returns-2
 returns-2 c =
     let f = c .before .before .before .before .before .before in
     let st = f .before .before .before in
     no-second (st .args .text .now) (st .args .at) (st .pre .1) (sym (f .first .ensures) ∙ c .before .before .before .before .f .given .1) (sym (c .before .before .next-item .ensures) ∙ c .enum-told2 .given .1)
-
-next-item-requires-2 : tie.Need-next-item-requires-2
-next-item-requires-2 c κs = search needs
-
-enum-told-3 : tie.Need-enum-told-3
-enum-told-3 c = search needs
-
-enum-told-4 : tie.Need-enum-told-4
-enum-told-4 c = search needs
 
 returns-3 : tie.Need-returns-3
 returns-3 c =
@@ -64,16 +37,16 @@ pub pair-at-spec : {M : Type 1} → statement M
 pair-at-spec =
     tie.close
     (tie.spec
-    first-requires
-    enum-known-f
-    enum-told
+    (λ c κs. search needs)
+    (λ c. search needs)
+    (λ c. search needs)
     returns
-    next-item-requires
-    enum-known-g
-    enum-told-2
+    (λ c κs. search needs)
+    (λ c. search needs)
+    (λ c. search needs)
     returns-2
-    next-item-requires-2
-    enum-told-3
-    enum-told-4
+    (λ c κs. search needs)
+    (λ c. search needs)
+    (λ c. search needs)
     returns-3
     returns-4)

@@ -15,30 +15,6 @@ use borrow.Author.Needs.{needs}
 use Rattle.fresh.proofs.id_good.Statement.{statement}
 use Rattle.fresh.proofs.id_good.Tie as tie
 
-id-at-requires : tie.Need-id-at-requires
-id-at-requires c κs = search needs
-
-slice-aggregate-same : tie.Need-slice-aggregate-same
-slice-aggregate-same c = search needs
-
-same-requires : tie.Need-same-requires
-same-requires c κs = search needs
-
-slice-aggregate-put-bytes : tie.Need-slice-aggregate-put-bytes
-slice-aggregate-put-bytes c = search needs
-
-put-bytes-requires : tie.Need-put-bytes-requires
-put-bytes-requires c κs = search needs
-
-has-id-requires : tie.Need-has-id-requires
-has-id-requires c κs = search needs
-
-add-among : tie.Need-add-among
-add-among c = search needs
-
-among-requires : tie.Need-among-requires
-among-requires c κs = search needs
-
 returns : tie.Need-returns
 returns c s =
     let a = c .before .before .before .before .before .before .before .before .before .before in
@@ -56,12 +32,12 @@ pub id-good-spec : {M : Type 1} → statement M
 id-good-spec =
     tie.close
     (tie.spec
-    id-at-requires
-    slice-aggregate-same
-    same-requires
-    slice-aggregate-put-bytes
-    put-bytes-requires
-    has-id-requires
-    add-among
-    among-requires
+    (λ c κs. search needs)
+    (λ c. search needs)
+    (λ c κs. search needs)
+    (λ c. search needs)
+    (λ c κs. search needs)
+    (λ c κs. search needs)
+    (λ c. search needs)
+    (λ c κs. search needs)
     returns)

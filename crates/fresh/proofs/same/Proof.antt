@@ -7,9 +7,6 @@ use borrow.Author.Needs.{needs}
 use Rattle.fresh.proofs.same.Statement.{statement}
 use Rattle.fresh.proofs.same.Tie as tie
 
-equal-requires : tie.Need-equal-requires
-equal-requires c κs = search needs
-
 returns : tie.Need-returns
 returns c =
     let s = c .before .before .before in
@@ -18,4 +15,4 @@ returns c =
     c .equal .ensures ∙ sym (eqb-value x y (omega arith) (octets x (λ i. omega (arith, c .before .before .shared-slice-known .given i))) (octets y (λ i. omega (arith, c .before .shared-slice-known2 .given i))))
 
 pub same-spec : {M : Type 1} → statement M
-same-spec = tie.close (tie.spec equal-requires returns)
+same-spec = tie.close (tie.spec (λ c κs. search needs) returns)

@@ -7,18 +7,12 @@ use borrow.Author.Needs.{needs}
 use Rattle.garbage.proofs.holds_row.Statement.{statement}
 use Rattle.garbage.proofs.holds_row.Tie as tie
 
-same-row-requires : tie.Need-same-row-requires
-same-row-requires c κs = search needs
-
 returns : tie.Need-returns
 unfolding holds
 returns c =
     let s = c .before .before in
     let sc = packedTables (s .args .schema .now) in
     rw (holds, row-key sc (s .args .row .now), sym (c .before .same-row .ensures) ∙ c .if1 .taken)
-
-refers-to-requires : tie.Need-refers-to-requires
-refers-to-requires c κs = search needs
 
 returns-2 : tie.Need-returns-2
 unfolding holds
@@ -28,4 +22,4 @@ returns-2 c =
     rw (holds, row-key sc (s .args .row .now), sym (c .before .before .same-row .ensures) ∙ c .before .if1 .left) (c .refers-to .ensures)
 
 pub holds-row-spec : {M : Type 1} → statement M
-holds-row-spec = tie.close (tie.spec same-row-requires returns refers-to-requires returns-2)
+holds-row-spec = tie.close (tie.spec (λ c κs. search needs) returns (λ c κs. search needs) returns-2)

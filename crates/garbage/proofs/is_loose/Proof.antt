@@ -12,12 +12,6 @@ use borrow.Author.Needs.{needs}
 use Rattle.garbage.proofs.is_loose.Statement.{statement}
 use Rattle.garbage.proofs.is_loose.Tie as tie
 
-table-of-requires : tie.Need-table-of-requires
-table-of-requires c κs = search needs
-
-is-root-requires : tie.Need-is-root-requires
-is-root-requires c κs = search needs
-
 returns : tie.Need-returns
 unfolding holds
 returns c =
@@ -25,9 +19,6 @@ returns c =
     let sc = packedTables (s .args .schema .now) in
     let e = sym (c .before .is-root .ensures ∙ ap (isRoot sc) (c .before .before .table-of .ensures ∙ sym (row-table sc (s .args .row .now)))) ∙ c .if1 .taken in
     rw e
-
-is-held-requires : tie.Need-is-held-requires
-is-held-requires c κs = search needs
 
 returns-2 : tie.Need-returns-2
 unfolding holds
@@ -39,4 +30,4 @@ returns-2 c =
 
 pub is-loose-spec : {M : Type 1} → statement M
 is-loose-spec =
-    tie.close (tie.spec table-of-requires is-root-requires returns is-held-requires returns-2)
+    tie.close (tie.spec (λ c κs. search needs) (λ c κs. search needs) returns (λ c κs. search needs) returns-2)

@@ -10,33 +10,15 @@ use borrow.Author.Needs.{needs}
 use Rattle.garbage.proofs.is_root.Statement.{statement}
 use Rattle.garbage.proofs.is_root.Tie as tie
 
-index-1-table-count : tie.Need-index-1-table-count
-index-1-table-count c = search needs
-
-table-count-requires : tie.Need-table-count-requires
-table-count-requires c κs = search needs
-
 returns : tie.Need-returns
 returns c =
     let s = c .before .before .before in
     sym (is-root-past (s .args .schema .now) (s .args .table) (omega (arith, c .before .table-count .ensures, c .if1 .taken)))
 
-wide-requires : tie.Need-wide-requires
-wide-requires c κs = search needs
-
-add-says-root : tie.Need-add-says-root
-add-says-root c = search needs
-
-mul-says-root : tie.Need-mul-says-root
-mul-says-root c = search needs
-
 index-1-says-root : tie.Need-index-1-says-root
 index-1-says-root c =
     let s = c .before .before .before .before in
     omega (arith, few-tables (s .args .schema .now) (s .pre), c .wide .ensures, c .before .before .table-count .ensures, c .before .if1 .left)
-
-says-root-requires : tie.Need-says-root-requires
-says-root-requires c κs = search needs
 
 -- the table is one of the schema's, and what its entry says
 module _ (c : tie.After-says-root) where
@@ -54,9 +36,6 @@ returns-2 c =
     let s = start (c .before) in
     sym (is-root-says (s .args .schema .now) (s .args .table) (there (c .before)) (said (c .before) ∙ c .if2 .taken))
 
-some-root-requires : tie.Need-some-root-requires
-some-root-requires c κs = search needs
-
 returns-3 : tie.Need-returns-3
 returns-3 c =
     let k = c .before .before in
@@ -67,14 +46,14 @@ pub is-root-spec : {M : Type 1} → statement M
 is-root-spec =
     tie.close
     (tie.spec
-    index-1-table-count
-    table-count-requires
+    (λ c. search needs)
+    (λ c κs. search needs)
     returns
-    wide-requires
-    add-says-root
-    mul-says-root
+    (λ c κs. search needs)
+    (λ c. search needs)
+    (λ c. search needs)
     index-1-says-root
-    says-root-requires
+    (λ c κs. search needs)
     returns-2
-    some-root-requires
+    (λ c κs. search needs)
     returns-3)

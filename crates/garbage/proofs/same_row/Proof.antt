@@ -11,18 +11,6 @@ use borrow.Author.Needs.{needs}
 use Rattle.garbage.proofs.same_row.Statement.{statement}
 use Rattle.garbage.proofs.same_row.Tie as tie
 
-table-of-requires : tie.Need-table-of-requires
-table-of-requires c κs = search needs
-
-id-of-requires : tie.Need-id-of-requires
-id-of-requires c κs = search needs
-
-key-of-requires : tie.Need-key-of-requires
-key-of-requires c κs = search needs
-
-same-keys-requires : tie.Need-same-keys-requires
-same-keys-requires c κs = search needs
-
 returns : tie.Need-returns
 unfolding keyIn idIn
 returns c =
@@ -38,4 +26,4 @@ returns c =
 pub same-row-spec : {M : Type 1} → statement M
 same-row-spec =
     tie.close
-    (tie.spec table-of-requires id-of-requires key-of-requires same-keys-requires returns)
+    (tie.spec (λ c κs. search needs) (λ c κs. search needs) (λ c κs. search needs) (λ c κs. search needs) returns)

@@ -13,31 +13,13 @@ use Rattle.model.specs.Commit.{present}
 use Rattle.model.specs.Areas.{rowFrom}
 use Rattle.inner.specs.Working.{working, valueIn}
 use Rattle.model.proofs.Lists.{length-keep}
-use Rattle.references.specs.Links.{told}
+use Rattle.references.specs.Links.{targetTable}
 use Rattle.references.proofs.Links.{elements-few}
 use Rattle.garbage.specs.Weak.{keptValue}
 use Rattle.garbage.proofs.Weakly.{column-stays}
 use borrow.Author.Needs.{needs}
 use Rattle.garbage.proofs.weaken_column.Statement.{statement}
 use Rattle.garbage.proofs.weaken_column.Tie as tie
-
-enum-known-to : tie.Need-enum-known-to
-enum-known-to c = search needs
-
-count-of-requires : tie.Need-count-of-requires
-count-of-requires c κs = search needs
-
-size-requires : tie.Need-size-requires
-size-requires c κs = search needs
-
-atoms-in-requires : tie.Need-atoms-in-requires
-atoms-in-requires c κs = search needs
-
-slice-aggregate-keep-named : tie.Need-slice-aggregate-keep-named
-slice-aggregate-keep-named c = search needs
-
-keep-named-requires : tie.Need-keep-named-requires
-keep-named-requires c κs = search needs
 
 cast-set-column : tie.Need-cast-set-column
 cast-set-column c =
@@ -48,14 +30,8 @@ cast-set-column c =
     let l = take (k .before .before .before .before .size .result) (k .before .before .atoms-in .result .now) in
     omega (arith, k .keep-named .ensures .0 [], length-keep q l, length-take (k .before .before .before .before .size .result) (k .before .before .atoms-in .result .now), k .before .before .before .before .size .ensures)
 
-set-column-requires : tie.Need-set-column-requires
-set-column-requires c κs = search needs
-
-enum-told : tie.Need-enum-told
-enum-told c = search needs
-
 returns : tie.Need-returns
-unfolding told keptValue
+unfolding targetTable keptValue
 returns c =
     let k = c .before .before .before .before in
     let s = k .before .before .before .before .before .before .before .before .before .before in
@@ -69,16 +45,16 @@ returns c =
     record {
       row = λ sc h. c .set-column .ensures .row sc
           ∙ ap (λ (w : Value). setColumn (a .c) w (rowFrom sc (a .row .now))) (kept-value (present (working sc (a .n) (a .rows .now)) (u .0 .0)) v (k .before .before .atoms-in .result .now) (k .keep-named .last .1 .1 .1 .1 .1 .0) (z .result) (k .keep-named .result) l (k .keep-named .ensures .0 sc) (k .keep-named .ensures .1 sc))
-          ∙ ap (λ (o : Option ℕ). setColumn (a .c) (keptValue (working sc (a .n) (a .rows .now)) o v) (rowFrom sc (a .row .now))) (sym (ap told (u .1)));
+          ∙ ap (λ (o : Option ℕ). setColumn (a .c) (keptValue (working sc (a .n) (a .rows .now)) o v) (rowFrom sc (a .row .now))) (sym (ap targetTable (u .1)));
       tidy = λ sc h w t. c .set-column .ensures .tidy sc h w t;
     }
 
 returns-2 : tie.Need-returns-2
-unfolding told keptValue
+unfolding targetTable keptValue
 returns-2 c =
     let a = c .before .before .args in
     record {
-      row = λ s h. column-stays s (a .row .now) (a .c) h ∙ ap (λ (o : Option ℕ). setColumn (a .c) (keptValue (working s (a .n) (a .rows .now)) o (valueIn (a .c) (a .row .now))) (rowFrom s (a .row .now))) (sym (ap told (c .enum-told .given .1)));
+      row = λ s h. column-stays s (a .row .now) (a .c) h ∙ ap (λ (o : Option ℕ). setColumn (a .c) (keptValue (working s (a .n) (a .rows .now)) o (valueIn (a .c) (a .row .now))) (rowFrom s (a .row .now))) (sym (ap targetTable (c .enum-told .given .1)));
       tidy = λ s h w t. t;
     }
 
@@ -86,14 +62,14 @@ pub weaken-column-spec : {M : Type 1} → statement M
 weaken-column-spec =
     tie.close
     (tie.spec
-    enum-known-to
-    count-of-requires
-    size-requires
-    atoms-in-requires
-    slice-aggregate-keep-named
-    keep-named-requires
+    (λ c. search needs)
+    (λ c κs. search needs)
+    (λ c κs. search needs)
+    (λ c κs. search needs)
+    (λ c. search needs)
+    (λ c κs. search needs)
     cast-set-column
-    set-column-requires
-    enum-told
+    (λ c κs. search needs)
+    (λ c. search needs)
     returns
     returns-2)

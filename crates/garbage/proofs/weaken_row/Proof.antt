@@ -7,7 +7,7 @@ use lib.ListN.{length}
 use Rattle.model.specs.Schema.{columnsOf}
 use Rattle.model.specs.Catalog.{packedTables}
 use Rattle.inner.specs.Working.{tableIn}
-use Rattle.references.specs.Links.{told}
+use Rattle.references.specs.Links.{targetTable}
 use Rattle.catalog.specs.Accepted.{Accepted}
 use Rattle.references.proofs.Packs.{few-columns}
 use Rattle.garbage.proofs.Weakly.{Weakening, weakening-none, weakening-on, weakening-end}
@@ -54,7 +54,7 @@ loop-again c =
     let t = c .before .before .before .before .before .before .table-of in
     let h : l .c < length (columnsOf (packedTables (s .args .schema .now)) (tableIn (s .args .row .now))) =
     omega (arith, c .before .before .before .loop-test .taken, c .before .before .before .before .before .width .ensures, ap (λ (x : ℕ). length (columnsOf (packedTables (s .args .schema .now)) x)) (t .ensures)) in
-    (omega arith, λ ok. weakening-on (s .args .schema .now) ok (s .args .n) (s .args .rows .now) (s .args .row .now) (l .c) (t .result) (told (c .before .before .refers .result)) (l .row) (c .weaken-column .last .0) h (t .ensures) (c .before .before .refers .ensures) (c .weaken-column .ensures) (l .inv .1 ok))
+    (omega arith, λ ok. weakening-on (s .args .schema .now) ok (s .args .n) (s .args .rows .now) (s .args .row .now) (l .c) (t .result) (targetTable (c .before .before .refers .result)) (l .row) (c .weaken-column .last .0) h (t .ensures) (c .before .before .refers .ensures) (c .weaken-column .ensures) (l .inv .1 ok))
 
 returns : tie.Need-returns Inv-loop μ-loop
 returns c =

@@ -8,15 +8,6 @@ use borrow.Author.Needs.{needs}
 use Rattle.indexes.proofs.fits.Statement.{statement}
 use Rattle.indexes.proofs.fits.Tie as tie
 
-kind-at-requires : tie.Need-kind-at-requires
-kind-at-requires c κs = search needs
-
-is-kind-requires : tie.Need-is-kind-requires
-is-kind-requires c κs = search needs
-
-few-fit-requires : tie.Need-few-fit-requires
-few-fit-requires c κs = search needs
-
 returns : tie.Need-returns
 returns c =
     let k = c .before .before in
@@ -35,4 +26,4 @@ returns-2 c =
 
 pub fits-spec : {M : Type 1} → statement M
 fits-spec =
-    tie.close (tie.spec kind-at-requires is-kind-requires few-fit-requires returns returns-2)
+    tie.close (tie.spec (λ c κs. search needs) (λ c κs. search needs) (λ c κs. search needs) returns returns-2)

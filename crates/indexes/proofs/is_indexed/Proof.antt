@@ -9,24 +9,6 @@ use borrow.Author.Needs.{needs}
 use Rattle.indexes.proofs.is_indexed.Statement.{statement}
 use Rattle.indexes.proofs.is_indexed.Tie as tie
 
-kind-at-requires : tie.Need-kind-at-requires
-kind-at-requires c κs = search needs
-
-is-kind-requires : tie.Need-is-kind-requires
-is-kind-requires c κs = search needs
-
-name-at-requires : tie.Need-name-at-requires
-name-at-requires c κs = search needs
-
-text-of-requires : tie.Need-text-of-requires
-text-of-requires c κs = search needs
-
-find-requires : tie.Need-find-requires
-find-requires c κs = search needs
-
-enum-known-f : tie.Need-enum-known-f
-enum-known-f c = search needs
-
 is-lasting-requires : tie.Need-is-lasting-requires
 is-lasting-requires c κs =
     let f = c .before .before .before in
@@ -48,9 +30,6 @@ returns c =
     let t = sym (k .is-kind .ensures ∙ ap isText (k .before .kind-at .ensures)) ∙ n .before .if1 .taken in
     let q = f .before .text-of .ensures ∙ ap textOf (n .name-at .ensures) in
     c .is-lasting .ensures ∙ indexed-at s (membersIn (treeAt s (st .args .columns))) (st .pre .1 .1) (treeAt s (st .args .at)) t q (f .find .result) (f .find .ensures) (c .before .before .f .given .1)
-
-enum-told : tie.Need-enum-told
-enum-told c = search needs
 
 returns-2 : tie.Need-returns-2
 returns-2 c =
@@ -75,14 +54,14 @@ pub is-indexed-spec : {M : Type 1} → statement M
 is-indexed-spec =
     tie.close
     (tie.spec
-    kind-at-requires
-    is-kind-requires
-    name-at-requires
-    text-of-requires
-    find-requires
-    enum-known-f
+    (λ c κs. search needs)
+    (λ c κs. search needs)
+    (λ c κs. search needs)
+    (λ c κs. search needs)
+    (λ c κs. search needs)
+    (λ c. search needs)
     is-lasting-requires
     returns
-    enum-told
+    (λ c. search needs)
     returns-2
     returns-3)

@@ -7,21 +7,6 @@ use borrow.Author.Needs.{needs}
 use Rattle.indexes.proofs.is_lasting.Statement.{statement}
 use Rattle.indexes.proofs.is_lasting.Tie as tie
 
-slice-aggregate-find : tie.Need-slice-aggregate-find
-slice-aggregate-find c = search needs
-
-find-requires : tie.Need-find-requires
-find-requires c κs = search needs
-
-enum-known-f : tie.Need-enum-known-f
-enum-known-f c = search needs
-
-truth-at-requires : tie.Need-truth-at-requires
-truth-at-requires c κs = search needs
-
-enum-told : tie.Need-enum-told
-enum-told c = search needs
-
 returns : tie.Need-returns
 returns c =
     let f = c .before .before .before .before in
@@ -38,10 +23,10 @@ pub is-lasting-spec : {M : Type 1} → statement M
 is-lasting-spec =
     tie.close
     (tie.spec
-    slice-aggregate-find
-    find-requires
-    enum-known-f
-    truth-at-requires
-    enum-told
+    (λ c. search needs)
+    (λ c κs. search needs)
+    (λ c. search needs)
+    (λ c κs. search needs)
+    (λ c. search needs)
     returns
     returns-2)

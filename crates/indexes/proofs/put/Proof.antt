@@ -6,23 +6,11 @@ use borrow.Author.Needs.{needs}
 use Rattle.indexes.proofs.put.Statement.{statement}
 use Rattle.indexes.proofs.put.Tie as tie
 
-first-requires : tie.Need-first-requires
-first-requires c κs = search needs
-
-enum-known-f : tie.Need-enum-known-f
-enum-known-f c = search needs
-
 index-requires : tie.Need-index-requires
 index-requires c κs =
     let f = c .before .before .before in
     let st = f .before .before .before .before in
     (st .pre .0, (first-well (st .args .text .now) (st .args .at) (st .pre .1 .0) (st .pre .1 .1 .0) (f .first .ensures) (c .before .f .given .1), (first-short (st .args .text .now) (st .args .at) (st .pre .1 .0) (st .pre .1 .1 .0) (f .first .ensures) (c .before .f .given .1), st .pre .1 .1 .1)))
-
-next-item-requires : tie.Need-next-item-requires
-next-item-requires c κs = search needs
-
-enum-known-g : tie.Need-enum-known-g
-enum-known-g c = search needs
 
 index-requires-2 : tie.Need-index-requires-2
 index-requires-2 c κs =
@@ -31,21 +19,6 @@ index-requires-2 c κs =
     let f = k .before .before in
     let st = f .before .before .before .before in
     (st .pre .0, (second-well (st .args .text .now) (st .args .at) (st .pre .1 .0) (st .pre .1 .1 .0) (f .first .ensures) (k .f .given .1) (n .next-item .ensures) (c .before .g .given .1), (second-short (st .args .text .now) (st .args .at) (st .pre .1 .0) (st .pre .1 .1 .0) (f .first .ensures) (k .f .given .1) (n .next-item .ensures) (c .before .g .given .1), st .pre .1 .1 .1)))
-
-with-indexes-requires : tie.Need-with-indexes-requires
-with-indexes-requires c κs = search needs
-
-enum-told : tie.Need-enum-told
-enum-told c = search needs
-
-with-indexes-requires-2 : tie.Need-with-indexes-requires-2
-with-indexes-requires-2 c κs = search needs
-
-enum-told-2 : tie.Need-enum-told-2
-enum-told-2 c = search needs
-
-with-indexes-requires-3 : tie.Need-with-indexes-requires-3
-with-indexes-requires-3 c κs = search needs
 
 returns : tie.Need-returns
 returns c =
@@ -77,17 +50,17 @@ pub put-spec : {M : Type 1} → statement M
 put-spec =
     tie.close
     (tie.spec
-    first-requires
-    enum-known-f
+    (λ c κs. search needs)
+    (λ c. search needs)
     index-requires
-    next-item-requires
-    enum-known-g
+    (λ c κs. search needs)
+    (λ c. search needs)
     index-requires-2
-    with-indexes-requires
-    enum-told
-    with-indexes-requires-2
-    enum-told-2
-    with-indexes-requires-3
+    (λ c κs. search needs)
+    (λ c. search needs)
+    (λ c κs. search needs)
+    (λ c. search needs)
+    (λ c κs. search needs)
     returns
     returns-2
     returns-3)

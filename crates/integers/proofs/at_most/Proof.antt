@@ -7,11 +7,8 @@ use borrow.Author.Needs.{needs}
 use Rattle.integers.proofs.at_most.Statement.{statement}
 use Rattle.integers.proofs.at_most.Tie as tie
 
-less-parts-requires : tie.Need-less-parts-requires
-less-parts-requires c κs = search needs
-
 returns : tie.Need-returns
 returns c = ap not (c .less-parts .ensures) ∙ sym (leZ-is (intIn (c .before .args .a)) (intIn (c .before .args .b)))
 
 pub at-most-spec : {M : Type 1} → statement M
-at-most-spec = tie.close (tie.spec less-parts-requires returns)
+at-most-spec = tie.close (tie.spec (λ c κs. search needs) returns)

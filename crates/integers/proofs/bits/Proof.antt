@@ -7,9 +7,6 @@ use borrow.Author.Needs.{needs}
 use Rattle.integers.proofs.bits.Statement.{statement}
 use Rattle.integers.proofs.bits.Tie as tie
 
-sub-result : tie.Need-sub-result
-sub-result c = search needs
-
 add-result : tie.Need-add-result
 add-result c = omega (arith, below (c .before .args .minus) (c .before .args .size) (c .if1 .taken) .0)
 
@@ -20,4 +17,4 @@ returns-2 : tie.Need-returns-2
 returns-2 c = ap (twos 64) (sym (above (c .before .args .minus) (c .before .args .size) (c .if1 .left)))
 
 pub bits-spec : {M : Type 1} → statement M
-bits-spec = tie.close (tie.spec sub-result add-result returns returns-2)
+bits-spec = tie.close (tie.spec (λ c. search needs) add-result returns returns-2)

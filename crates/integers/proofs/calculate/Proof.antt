@@ -8,48 +8,6 @@ use borrow.Author.Needs.{needs}
 use Rattle.integers.proofs.calculate.Statement.{statement}
 use Rattle.integers.proofs.calculate.Tie as tie
 
-enum-told : tie.Need-enum-told
-enum-told c = search needs
-
-sum-requires : tie.Need-sum-requires
-sum-requires c κs = search needs
-
-enum-told-2 : tie.Need-enum-told-2
-enum-told-2 c = search needs
-
-sum-requires-2 : tie.Need-sum-requires-2
-sum-requires-2 c κs = search needs
-
-enum-told-3 : tie.Need-enum-told-3
-enum-told-3 c = search needs
-
-product-requires : tie.Need-product-requires
-product-requires c κs = search needs
-
-enum-told-4 : tie.Need-enum-told-4
-enum-told-4 c = search needs
-
-quotient-requires : tie.Need-quotient-requires
-quotient-requires c κs = search needs
-
-enum-told-5 : tie.Need-enum-told-5
-enum-told-5 c = search needs
-
-remainder-requires : tie.Need-remainder-requires
-remainder-requires c κs = search needs
-
-enum-told-6 : tie.Need-enum-told-6
-enum-told-6 c = search needs
-
-fit-requires : tie.Need-fit-requires
-fit-requires c κs = search needs
-
-enum-told-7 : tie.Need-enum-told-7
-enum-told-7 c = search needs
-
-fit-requires-2 : tie.Need-fit-requires-2
-fit-requires-2 c κs = search needs
-
 returns : tie.Need-returns
 returns c =
     let e = c .before in
@@ -96,20 +54,20 @@ pub calculate-spec : {M : Type 1} → statement M
 calculate-spec =
     tie.close
     (tie.spec
-    enum-told
-    sum-requires
-    enum-told-2
-    sum-requires-2
-    enum-told-3
-    product-requires
-    enum-told-4
-    quotient-requires
-    enum-told-5
-    remainder-requires
-    enum-told-6
-    fit-requires
-    enum-told-7
-    fit-requires-2
+    (λ c. search needs)
+    (λ c κs. search needs)
+    (λ c. search needs)
+    (λ c κs. search needs)
+    (λ c. search needs)
+    (λ c κs. search needs)
+    (λ c. search needs)
+    (λ c κs. search needs)
+    (λ c. search needs)
+    (λ c κs. search needs)
+    (λ c. search needs)
+    (λ c κs. search needs)
+    (λ c. search needs)
+    (λ c κs. search needs)
     returns
     returns-2
     returns-3

@@ -7,14 +7,8 @@ use borrow.Author.Needs.{needs}
 use Rattle.integers.proofs.of_atom.Statement.{statement}
 use Rattle.integers.proofs.of_atom.Tie as tie
 
-number-requires : tie.Need-number-requires
-number-requires c κs = search needs
-
-of-bits-requires : tie.Need-of-bits-requires
-of-bits-requires c κs = search needs
-
 returns : tie.Need-returns
 returns c = c .of-bits .ensures ∙ ap (λ (x : ℕ). asInt (fromTwos x)) (c .before .number .ensures)
 
 pub of-atom-spec : {M : Type 1} → statement M
-of-atom-spec = tie.close (tie.spec number-requires of-bits-requires returns)
+of-atom-spec = tie.close (tie.spec (λ c κs. search needs) (λ c κs. search needs) returns)

@@ -8,14 +8,8 @@ use Rattle.integers.proofs.of_bits.Tie as tie
 returns : tie.Need-returns
 returns c = plain-int (c .before .args .x) (c .if1 .taken)
 
-sub-t3 : tie.Need-sub-t3
-sub-t3 c = search needs
-
-add-t4 : tie.Need-add-t4
-add-t4 c = search needs
-
 returns-2 : tie.Need-returns-2
 returns-2 c = bits-int (c .before .args .x) (c .if1 .left) (omega arith)
 
 pub of-bits-spec : {M : Type 1} → statement M
-of-bits-spec = tie.close (tie.spec returns sub-t3 add-t4 returns-2)
+of-bits-spec = tie.close (tie.spec returns (λ c. search needs) (λ c. search needs) returns-2)

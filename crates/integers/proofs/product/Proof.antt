@@ -10,26 +10,17 @@ use borrow.Author.Needs.{needs}
 use Rattle.integers.proofs.product.Statement.{statement}
 use Rattle.integers.proofs.product.Tie as tie
 
-wraps-requires : tie.Need-wraps-requires
-wraps-requires c κs = search needs
-
 returns : tie.Need-returns
 returns c =
     let s = c .before .before .args in
     let h = ltb-true 18446744073709551615 (s .m * s .n) (sym (c .before .wraps .ensures) ∙ c .if1 .taken) in
     sym (ap fitted (times (s .a) (s .b) (s .m) (s .n)) ∙ fit-big (differ (s .a) (s .b)) (s .m * s .n) (omega arith))
 
-differ-requires : tie.Need-differ-requires
-differ-requires c κs = search needs
-
 mul-fit : tie.Need-mul-fit
 mul-fit c =
     let s = c .before .before .before .args in
     let h = ltb-false 18446744073709551615 (s .m * s .n) (sym (c .before .before .wraps .ensures) ∙ c .before .if1 .left) in
     record { fits = omega arith }
-
-fit-requires : tie.Need-fit-requires
-fit-requires c κs = search needs
 
 returns-2 : tie.Need-returns-2
 returns-2 c =
@@ -38,4 +29,4 @@ returns-2 c =
 
 pub product-spec : {M : Type 1} → statement M
 product-spec =
-    tie.close (tie.spec wraps-requires returns differ-requires mul-fit fit-requires returns-2)
+    tie.close (tie.spec (λ c κs. search needs) returns (λ c κs. search needs) mul-fit (λ c κs. search needs) returns-2)

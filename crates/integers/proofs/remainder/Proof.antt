@@ -10,16 +10,10 @@ returns c =
     let s = c .before .args in
     sym (zero-divisor (s .a) (s .b) (s .m) (s .n) (c .if1 .taken) .1)
 
-rem-fit : tie.Need-rem-fit
-rem-fit c = search needs
-
-fit-requires : tie.Need-fit-requires
-fit-requires c κs = search needs
-
 returns-2 : tie.Need-returns-2
 returns-2 c =
     let s = c .before .before .args in
     c .fit .ensures ∙ sym (remainder-is (s .a) (s .b) (s .m) (s .n) (c .before .if1 .left))
 
 pub remainder-spec : {M : Type 1} → statement M
-remainder-spec = tie.close (tie.spec returns rem-fit fit-requires returns-2)
+remainder-spec = tie.close (tie.spec returns (λ c. search needs) (λ c κs. search needs) returns-2)

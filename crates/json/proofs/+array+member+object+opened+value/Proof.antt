@@ -14,7 +14,7 @@ use Rattle.scan.proofs.Items.{turn, done, spent}
 use Rattle.scan.proofs.Values.{nested, nested-is, value-is}
 use Rattle.scan.proofs.Ends.{then-not}
 use Rattle.inner.specs.Positions.{Says}
-use Rattle.json.proofs.Told.{says-level}
+use Rattle.json.proofs.Levels.{says-level}
 use borrow.Fn.Kinds.{In}
 use borrow.Fn.PlainCycle.{Measures, is, falls, and}
 use Rattle.json.proofs.array.Reads as array

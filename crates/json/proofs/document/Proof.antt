@@ -10,17 +10,8 @@ use borrow.Author.Needs.{needs}
 use Rattle.json.proofs.document.Statement.{statement}
 use Rattle.json.proofs.document.Tie as tie
 
-clear-requires : tie.Need-clear-requires
-clear-requires c κs = search needs
-
 value-requires : tie.Need-value-requires
 value-requires c κs = (omega arith, rw (c .before .before .before .clear .ensures) (says-nothing _ (length (c .before .before .before .before .before .before .before .args .ends .now))))
-
-enum-known-v : tie.Need-enum-known-v
-enum-known-v c = search needs
-
-same-length : tie.Need-same-length
-same-length c = search needs
 
 returns : tie.Need-returns
 unfolding textAt
@@ -28,20 +19,11 @@ returns c =
     let v = c .before .before .before in
     (rw (← v .value .ensures .0) (then-not _ _ _ (c .match .keys2)), v .value .ensures .1)
 
-spaces-requires : tie.Need-spaces-requires
-spaces-requires c κs = search needs
-
-same-length-2 : tie.Need-same-length-2
-same-length-2 c = search needs
-
 returns-2 : tie.Need-returns-2
 unfolding textAt andThen
 returns-2 c =
     let v = c .before .before .before .before .before .before .before in
     (rw (← v .value .ensures .0, c .before .before .before .v .given .1, ← c .before .spaces .ensures) (unfold endAt in rw (endAt, eq-eqb _ _ (c .if1 .taken))), v .value .ensures .1)
-
-same-length-3 : tie.Need-same-length-3
-same-length-3 c = search needs
 
 returns-3 : tie.Need-returns-3
 unfolding textAt andThen
@@ -53,13 +35,13 @@ pub document-spec : {M : Type 1} → statement M
 document-spec =
     tie.close
     (tie.spec
-    clear-requires
+    (λ c κs. search needs)
     value-requires
-    enum-known-v
-    same-length
+    (λ c. search needs)
+    (λ c. search needs)
     returns
-    spaces-requires
-    same-length-2
+    (λ c κs. search needs)
+    (λ c. search needs)
     returns-2
-    same-length-3
+    (λ c. search needs)
     returns-3)

@@ -5,14 +5,8 @@ use borrow.Author.Needs.{needs}
 use Rattle.json.proofs.end_at.Statement.{statement}
 use Rattle.json.proofs.end_at.Tie as tie
 
-slice-aggregate-value : tie.Need-slice-aggregate-value
-slice-aggregate-value c = search needs
-
 value-requires : tie.Need-value-requires
 value-requires c κs = (omega arith, says-nothing _ 1)
 
-returns : tie.Need-returns
-returns c = search needs
-
 pub end-at-spec : {M : Type 1} → statement M
-end-at-spec = tie.close (tie.spec slice-aggregate-value value-requires returns)
+end-at-spec = tie.close (tie.spec (λ c. search needs) value-requires (λ c. search needs))

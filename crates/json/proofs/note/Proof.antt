@@ -8,27 +8,6 @@ use borrow.Author.Needs.{needs}
 use Rattle.json.proofs.note.Statement.{statement}
 use Rattle.json.proofs.note.Tie as tie
 
-enum-known-r : tie.Need-enum-known-r
-enum-known-r c = search needs
-
-cast-ends : tie.Need-cast-ends
-cast-ends c = search needs
-
-mul-ends : tie.Need-mul-ends
-mul-ends c = search needs
-
-slice-write-ends : tie.Need-slice-write-ends
-slice-write-ends c = search needs
-
-enum-told : tie.Need-enum-told
-enum-told c = search needs
-
-enum-told-2 : tie.Need-enum-told-2
-enum-told-2 c = search needs
-
-same-length : tie.Need-same-length
-same-length c = search needs
-
 returns : tie.Need-returns
 unfolding noted
 returns c = rw (c .before .before .before .r .given .1, noted, lt-ltb _ _ (c .before .if1 .taken))
@@ -53,13 +32,13 @@ pub note-spec : {M : Type 1} → statement M
 note-spec =
     tie.close
     (tie.spec
-    enum-known-r
-    cast-ends
-    mul-ends
-    slice-write-ends
-    enum-told
-    enum-told-2
-    same-length
+    (λ c. search needs)
+    (λ c. search needs)
+    (λ c. search needs)
+    (λ c. search needs)
+    (λ c. search needs)
+    (λ c. search needs)
+    (λ c. search needs)
     returns
     returns-2
     returns-3

@@ -4,14 +4,8 @@ use Rattle.leaf.proofs.First.{first}
 use Rattle.leaf.proofs.put_byte.Statement.{statement}
 use Rattle.leaf.proofs.put_byte.Tie as tie
 
-slice-write-out : tie.Need-slice-write-out
-slice-write-out c = search needs
-
-same-length : tie.Need-same-length
-same-length c = search needs
-
 returns : tie.Need-returns
 returns c = first (c .args .out .now) (c .args .b) (c .pre)
 
 pub put-byte-spec : {M : Type 1} → statement M
-put-byte-spec = tie.close (tie.spec slice-write-out same-length returns)
+put-byte-spec = tie.close (tie.spec (λ c. search needs) (λ c. search needs) returns)

@@ -6,12 +6,9 @@ use borrow.Author.Needs.{needs}
 use Rattle.limits.proofs.is_of.Statement.{statement}
 use Rattle.limits.proofs.is_of.Tie as tie
 
-table-of-requires : tie.Need-table-of-requires
-table-of-requires c κs = search needs
-
 returns : tie.Need-returns
 unfolding ofT
 returns c = ap (eqb (c .before .args .table)) (c .table-of .ensures)
 
 pub is-of-spec : {M : Type 1} → statement M
-is-of-spec = tie.close (tie.spec table-of-requires returns)
+is-of-spec = tie.close (tie.spec (λ c κs. search needs) returns)

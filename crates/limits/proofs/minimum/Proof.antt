@@ -11,18 +11,12 @@ use borrow.Author.Needs.{needs}
 use Rattle.limits.proofs.minimum.Statement.{statement}
 use Rattle.limits.proofs.minimum.Tie as tie
 
-wide-requires : tie.Need-wide-requires
-wide-requires c κs = search needs
-
 column-requires : tie.Need-column-requires
 column-requires c κs =
     let s = c .before in
     let cells = s .args .schema .now in
     let t = s .args .table in
     (omega (arith, few-tables cells (s .pre .0), has-columns cells (s .pre .0) t (s .args .c) (s .pre .1), c .wide .ensures), omega (arith, few-columns cells (s .pre .0) t, s .pre .1))
-
-minimum-requires : tie.Need-minimum-requires
-minimum-requires c κs = search needs
 
 returns : tie.Need-returns
 returns c =
@@ -31,4 +25,4 @@ returns c =
     c .minimum .ensures ∙ ap (λ (x : List ℕ). getD x minOffset 0) e
 
 pub minimum-spec : {M : Type 1} → statement M
-minimum-spec = tie.close (tie.spec wide-requires column-requires minimum-requires returns)
+minimum-spec = tie.close (tie.spec (λ c κs. search needs) column-requires (λ c κs. search needs) returns)

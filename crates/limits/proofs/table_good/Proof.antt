@@ -16,25 +16,10 @@ use borrow.Author.Needs.{needs}
 use Rattle.limits.proofs.table_good.Statement.{statement}
 use Rattle.limits.proofs.table_good.Tie as tie
 
-wide-requires : tie.Need-wide-requires
-wide-requires c κs = search needs
-
-add-entry : tie.Need-add-entry
-add-entry c = search needs
-
-mul-entry : tie.Need-mul-entry
-mul-entry c = search needs
-
 index-1-entry : tie.Need-index-1-entry
 index-1-entry c =
     let s = c .before in
     omega (arith, c .wide .ensures, s .pre .1 .0, tables-length (s .args .schema .now) 0 (tableCount (s .args .schema .now)), few-tables (s .args .schema .now) (s .pre .0))
-
-rows-of-requires : tie.Need-rows-of-requires
-rows-of-requires c κs = search needs
-
-within-requires : tie.Need-within-requires
-within-requires c κs = search needs
 
 -- the table's entry, and whether its rows are few enough
 module _ (c : tie.After-within) where
@@ -118,17 +103,11 @@ returns c =
     let s = start k in
     sym (good-over (s .args .schema .now) (s .args .table) (s .args .n) (s .args .rows .now) (over k ∙ not-true _ (c .if1 .taken)))
 
-index-count-requires : tie.Need-index-count-requires
-index-count-requires c κs = search needs
-
 returns-2 : tie.Need-returns-2
 returns-2 c =
     let k = c .before in
     let s = start (at k) in
     sym (good-none (s .args .schema .now) (s .args .table) (s .args .n) (s .args .rows .now) (few k) (sym (number k) ∙ c .if2 .taken))
-
-first-index-requires : tie.Need-first-index-requires
-first-index-requires c κs = search needs
 
 unique-requires : tie.Need-unique-requires
 unique-requires c κs =
@@ -151,9 +130,6 @@ returns-4 c =
     let n0 = f .before .if2 .left in
     sym (good-one (s .args .schema .now) (s .args .table) (s .args .n) (s .args .rows .now) (few k) (first-fits k n0 .1) (sym (number k) ∙ c .if4 .taken) (ap (differ k) (sym (first-is f)) ∙ sym (c .before .before .unique .ensures) ∙ not-false _ (c .before .if3 .left)))
 
-second-index-requires : tie.Need-second-index-requires
-second-index-requires c κs = search needs
-
 unique-requires-2 : tie.Need-unique-requires-2
 unique-requires-2 c κs =
     let k = counted (begun c) in
@@ -175,19 +151,19 @@ pub table-good-spec : {M : Type 1} → statement M
 table-good-spec =
     tie.close
     (tie.spec
-    wide-requires
-    add-entry
-    mul-entry
+    (λ c κs. search needs)
+    (λ c. search needs)
+    (λ c. search needs)
     index-1-entry
-    rows-of-requires
-    within-requires
+    (λ c κs. search needs)
+    (λ c κs. search needs)
     returns
-    index-count-requires
+    (λ c κs. search needs)
     returns-2
-    first-index-requires
+    (λ c κs. search needs)
     unique-requires
     returns-3
     returns-4
-    second-index-requires
+    (λ c κs. search needs)
     unique-requires-2
     returns-5)

@@ -7,16 +7,10 @@ use Rattle.limits.proofs.Enough.{limit-none, limit-some}
 use Rattle.limits.proofs.within.Statement.{statement}
 use Rattle.limits.proofs.within.Tie as tie
 
-is-limited-requires : tie.Need-is-limited-requires
-is-limited-requires c κs = search needs
-
 returns : tie.Need-returns
 returns c =
     let a = c .before .before .args in
     sym (limit-none (a .entry .now) (a .k) (sym (c .before .is-limited .ensures) ∙ not-true _ (c .if1 .taken)))
-
-max-rows-requires : tie.Need-max-rows-requires
-max-rows-requires c κs = search needs
 
 returns-2 : tie.Need-returns-2
 returns-2 c =
@@ -24,4 +18,4 @@ returns-2 c =
     ap (leb (a .k)) (c .max-rows .ensures) ∙ sym (limit-some (a .entry .now) (a .k) (sym (c .before .before .is-limited .ensures) ∙ not-false _ (c .before .if1 .left)))
 
 pub within-spec : {M : Type 1} → statement M
-within-spec = tie.close (tie.spec is-limited-requires returns max-rows-requires returns-2)
+within-spec = tie.close (tie.spec (λ c κs. search needs) returns (λ c κs. search needs) returns-2)

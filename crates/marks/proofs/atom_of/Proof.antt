@@ -7,9 +7,6 @@ use borrow.Author.Needs.{needs}
 use Rattle.marks.proofs.atom_of.Statement.{statement}
 use Rattle.marks.proofs.atom_of.Tie as tie
 
-slice-aggregate-put-bytes : tie.Need-slice-aggregate-put-bytes
-slice-aggregate-put-bytes c = search needs
-
 put-bytes-requires : tie.Need-put-bytes-requires
 put-bytes-requires c κs = omega (arith, c .before .before .pre)
 
@@ -23,6 +20,6 @@ pub atom-of-spec : {M : Type 1} → statement M
 atom-of-spec =
     tie.close
     (tie.spec
-    slice-aggregate-put-bytes
+    (λ c. search needs)
     put-bytes-requires
     returns)

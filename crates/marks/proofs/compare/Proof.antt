@@ -6,54 +6,6 @@ use borrow.Author.Needs.{needs}
 use Rattle.marks.proofs.compare.Statement.{statement}
 use Rattle.marks.proofs.compare.Tie as tie
 
-enum-told : tie.Need-enum-told
-enum-told c = search needs
-
-less-requires : tie.Need-less-requires
-less-requires c κs = search needs
-
-enum-told-2 : tie.Need-enum-told-2
-enum-told-2 c = search needs
-
-at-most-requires : tie.Need-at-most-requires
-at-most-requires c κs = search needs
-
-enum-told-3 : tie.Need-enum-told-3
-enum-told-3 c = search needs
-
-equal-requires : tie.Need-equal-requires
-equal-requires c κs = search needs
-
-enum-told-4 : tie.Need-enum-told-4
-enum-told-4 c = search needs
-
-equal-requires-2 : tie.Need-equal-requires-2
-equal-requires-2 c κs = search needs
-
-enum-told-5 : tie.Need-enum-told-5
-enum-told-5 c = search needs
-
-at-most-requires-2 : tie.Need-at-most-requires-2
-at-most-requires-2 c κs = search needs
-
-enum-told-6 : tie.Need-enum-told-6
-enum-told-6 c = search needs
-
-less-requires-2 : tie.Need-less-requires-2
-less-requires-2 c κs = search needs
-
-enum-told-7 : tie.Need-enum-told-7
-enum-told-7 c = search needs
-
-every-requires : tie.Need-every-requires
-every-requires c κs = search needs
-
-enum-told-8 : tie.Need-enum-told-8
-enum-told-8 c = search needs
-
-every-requires-2 : tie.Need-every-requires-2
-every-requires-2 c κs = search needs
-
 returns : tie.Need-returns
 unfolding met
 returns c =
@@ -114,22 +66,22 @@ pub compare-spec : {M : Type 1} → statement M
 compare-spec =
     tie.close
     (tie.spec
-    enum-told
-    less-requires
-    enum-told-2
-    at-most-requires
-    enum-told-3
-    equal-requires
-    enum-told-4
-    equal-requires-2
-    enum-told-5
-    at-most-requires-2
-    enum-told-6
-    less-requires-2
-    enum-told-7
-    every-requires
-    enum-told-8
-    every-requires-2
+    (λ c. search needs)
+    (λ c κs. search needs)
+    (λ c. search needs)
+    (λ c κs. search needs)
+    (λ c. search needs)
+    (λ c κs. search needs)
+    (λ c. search needs)
+    (λ c κs. search needs)
+    (λ c. search needs)
+    (λ c κs. search needs)
+    (λ c. search needs)
+    (λ c κs. search needs)
+    (λ c. search needs)
+    (λ c κs. search needs)
+    (λ c. search needs)
+    (λ c κs. search needs)
     returns
     returns-2
     returns-3

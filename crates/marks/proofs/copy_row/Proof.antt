@@ -26,9 +26,6 @@ mul-r-2 c = omega (arith, c .before .before .pre, c .before .before .good)
 slice-set-from-r : tie.Need-slice-set-from-r
 slice-set-from-r c = omega (arith, c .before .before .pre)
 
-same-length : tie.Need-same-length
-same-length c = search needs
-
 returns-2 : tie.Need-returns-2
 returns-2 c = refl
 
@@ -41,5 +38,5 @@ copy-row-spec =
     slice-copy-out-r
     mul-r-2
     slice-set-from-r
-    same-length
+    (λ c. search needs)
     returns-2)

@@ -18,19 +18,10 @@ none : (xs : List (List ℕ)) → length xs ≤ 0 → blank ≡ getD xs 0 blank
 none [] h = refl
 none (x ∷ xs) h = absurd (omega arith)
 
-shared-slice-element-of-atom : tie.Need-shared-slice-element-of-atom
-shared-slice-element-of-atom c = search needs
-
-of-atom-requires : tie.Need-of-atom-requires
-of-atom-requires c κs = search needs
-
 returns : tie.Need-returns
 returns c =
     let s = c .before .before .before in
     c .of-atom .ensures ∙ ap (λ x. asInt (intOf x)) (some (s .args .xs .now) (c .before .before .if1 .taken))
-
-of-atom-requires-2 : tie.Need-of-atom-requires-2
-of-atom-requires-2 c κs = search needs
 
 returns-2 : tie.Need-returns-2
 returns-2 c =
@@ -41,8 +32,8 @@ pub first-of-spec : {M : Type 1} → statement M
 first-of-spec =
     tie.close
     (tie.spec
-    shared-slice-element-of-atom
-    of-atom-requires
+    (λ c. search needs)
+    (λ c κs. search needs)
     returns
-    of-atom-requires-2
+    (λ c κs. search needs)
     returns-2)

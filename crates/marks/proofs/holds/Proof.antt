@@ -12,9 +12,6 @@ use borrow.Author.Needs.{needs}
 use Rattle.marks.proofs.holds.Statement.{statement}
 use Rattle.marks.proofs.holds.Tie as tie
 
-enum-known-place : tie.Need-enum-known-place
-enum-known-place c = search needs
-
 atoms-in-requires : tie.Need-atoms-in-requires
 unfolding InRow
 atoms-in-requires c κs =
@@ -27,32 +24,11 @@ count-of-requires c κs =
     let p = c .before .before in
     subst InRow (p .place .given .1) (p .before .before .pre)
 
-size-requires : tie.Need-size-requires
-size-requires c κs = search needs
-
 slice-aggregate-compare : tie.Need-slice-aggregate-compare
 slice-aggregate-compare c =
     let s = c .before in
     let p = s .before .before .before .before in
     elements-min (valueIn (p .place .given .0 .0) (p .before .before .args .row .now)) (s .before .before .atoms-in .ensures .0) (s .before .before .atoms-in .ensures .1) (s .size .ensures ∙ ap (λ x. min x 4) (s .before .count-of .ensures)) .1
-
-compare-requires : tie.Need-compare-requires
-compare-requires c κs = search needs
-
-enum-told : tie.Need-enum-told
-enum-told c = search needs
-
-id-of-requires : tie.Need-id-of-requires
-id-of-requires c κs = search needs
-
-atom-of-requires : tie.Need-atom-of-requires
-atom-of-requires c κs = search needs
-
-slice-aggregate-compare-2 : tie.Need-slice-aggregate-compare-2
-slice-aggregate-compare-2 c = search needs
-
-compare-requires-2 : tie.Need-compare-requires-2
-compare-requires-2 c κs = search needs
 
 returns : tie.Need-returns
 unfolding atomsAt
@@ -75,16 +51,16 @@ pub holds-spec : {M : Type 1} → statement M
 holds-spec =
     tie.close
     (tie.spec
-    enum-known-place
+    (λ c. search needs)
     atoms-in-requires
     count-of-requires
-    size-requires
+    (λ c κs. search needs)
     slice-aggregate-compare
-    compare-requires
-    enum-told
-    id-of-requires
-    atom-of-requires
-    slice-aggregate-compare-2
-    compare-requires-2
+    (λ c κs. search needs)
+    (λ c. search needs)
+    (λ c κs. search needs)
+    (λ c κs. search needs)
+    (λ c. search needs)
+    (λ c κs. search needs)
     returns
     returns-2)

@@ -12,9 +12,6 @@ use borrow.Author.Needs.{needs}
 use Rattle.marks.proofs.sized_at.Statement.{statement}
 use Rattle.marks.proofs.sized_at.Tie as tie
 
-enum-known-place : tie.Need-enum-known-place
-enum-known-place c = search needs
-
 atoms-in-requires : tie.Need-atoms-in-requires
 unfolding InRow
 atoms-in-requires c κs =
@@ -27,32 +24,11 @@ count-of-requires c κs =
     let p = c .before .before in
     subst InRow (p .place .given .1) (p .before .before .pre)
 
-size-requires : tie.Need-size-requires
-size-requires c κs = search needs
-
 slice-aggregate-is-sized : tie.Need-slice-aggregate-is-sized
 slice-aggregate-is-sized c =
     let s = c .before in
     let p = s .before .before .before .before in
     elements-min (valueIn (p .place .given .0 .0) (p .before .before .args .row .now)) (s .before .before .atoms-in .ensures .0) (s .before .before .atoms-in .ensures .1) (s .size .ensures ∙ ap (λ x. min x 4) (s .before .count-of .ensures)) .1
-
-is-sized-requires : tie.Need-is-sized-requires
-is-sized-requires c κs = search needs
-
-enum-told : tie.Need-enum-told
-enum-told c = search needs
-
-id-of-requires : tie.Need-id-of-requires
-id-of-requires c κs = search needs
-
-atom-of-requires : tie.Need-atom-of-requires
-atom-of-requires c κs = search needs
-
-slice-aggregate-is-sized-2 : tie.Need-slice-aggregate-is-sized-2
-slice-aggregate-is-sized-2 c = search needs
-
-is-sized-requires-2 : tie.Need-is-sized-requires-2
-is-sized-requires-2 c κs = search needs
 
 returns : tie.Need-returns
 unfolding atomsAt
@@ -77,16 +53,16 @@ pub sized-at-spec : {M : Type 1} → statement M
 sized-at-spec =
     tie.close
     (tie.spec
-    enum-known-place
+    (λ c. search needs)
     atoms-in-requires
     count-of-requires
-    size-requires
+    (λ c κs. search needs)
     slice-aggregate-is-sized
-    is-sized-requires
-    enum-told
-    id-of-requires
-    atom-of-requires
-    slice-aggregate-is-sized-2
-    is-sized-requires-2
+    (λ c κs. search needs)
+    (λ c. search needs)
+    (λ c κs. search needs)
+    (λ c κs. search needs)
+    (λ c. search needs)
+    (λ c κs. search needs)
     returns
     returns-2)

@@ -11,13 +11,10 @@ returns c =
     let st = c .before .before .before in
     choice-none (st .args .text .now) (wordsOf (st .args .words .now)) (c .if1 .taken)
 
-choose-requires : tie.Need-choose-requires
-choose-requires c κs = search needs
-
 returns-2 : tie.Need-returns-2
 returns-2 c =
     let st = c .before .before .before .before in
     c .choose .ensures ∙ ap (choice (wordsOf (st .args .words .now))) (sym (at-some (st .args .text .now) (c .before .if1 .left)))
 
 pub choice-in-spec : {M : Type 1} → statement M
-choice-in-spec = tie.close (tie.spec returns choose-requires returns-2)
+choice-in-spec = tie.close (tie.spec returns (λ c κs. search needs) returns-2)

@@ -7,15 +7,6 @@ use borrow.Author.Needs.{needs}
 use Rattle.members.proofs.fields_or.Statement.{statement}
 use Rattle.members.proofs.fields_or.Tie as tie
 
-kind-at-requires : tie.Need-kind-at-requires
-kind-at-requires c κs = search needs
-
-is-kind-requires : tie.Need-is-kind-requires
-is-kind-requires c κs = search needs
-
-fields-requires : tie.Need-fields-requires
-fields-requires c κs = search needs
-
 returns : tie.Need-returns
 returns c =
     let st = c .before .before .before .before .before .before .before in
@@ -25,9 +16,6 @@ returns c =
     (st .args .at)
     (sym (c .before .before .is-kind .ensures ∙ ap isObject (c .before .before .before .kind-at .ensures)) ∙ c .before .if1 .taken)
     (c .fields .ensures)
-
-array-write-slots : tie.Need-array-write-slots
-array-write-slots c = search needs
 
 returns-2 : tie.Need-returns-2
 returns-2 c =
@@ -47,9 +35,9 @@ pub fields-or-spec : {M : Type 1} → statement M
 fields-or-spec =
     tie.close
     (tie.spec
-    kind-at-requires
-    is-kind-requires
-    fields-requires
+    (λ c κs. search needs)
+    (λ c κs. search needs)
+    (λ c κs. search needs)
     returns
-    array-write-slots
+    (λ c. search needs)
     returns-2)

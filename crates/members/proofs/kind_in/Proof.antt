@@ -9,11 +9,8 @@ use Rattle.members.proofs.kind_in.Tie as tie
 returns : tie.Need-returns
 returns c = kind-none (c .before .before .args .text .now) (c .if1 .taken)
 
-kind-at-requires : tie.Need-kind-at-requires
-kind-at-requires c κs = search needs
-
 returns-2 : tie.Need-returns-2
 returns-2 c = c .kind-at .ensures ∙ ap kindOf (sym (at-some (c .before .before .before .args .text .now) (c .before .if1 .left)))
 
 pub kind-in-spec : {M : Type 1} → statement M
-kind-in-spec = tie.close (tie.spec returns kind-at-requires returns-2)
+kind-in-spec = tie.close (tie.spec returns (λ c κs. search needs) returns-2)

@@ -1,19 +1,10 @@
 -- `members::truth_in` meets its contract. Assumes nothing.
 use mathlib.Core.Path.{sym, ap, _∙_}
-use Rattle.members.proofs.Slotted.{slot-truth, slot-untold}
+use Rattle.members.proofs.Slotted.{slot-truth, slot-default}
 use Rattle.model.specs.Nav.{isTruth}
 use borrow.Author.Needs.{needs}
 use Rattle.members.proofs.truth_in.Statement.{statement}
 use Rattle.members.proofs.truth_in.Tie as tie
-
-kind-in-requires : tie.Need-kind-in-requires
-kind-in-requires c κs = search needs
-
-is-kind-requires : tie.Need-is-kind-requires
-is-kind-requires c κs = search needs
-
-truth-at-requires : tie.Need-truth-at-requires
-truth-at-requires c κs = search needs
 
 returns : tie.Need-returns
 returns c =
@@ -25,8 +16,8 @@ returns-2 : tie.Need-returns-2
 returns-2 c =
     let k = c .before .before in
     let st = k .before .before in
-    slot-untold (st .args .text .now) (st .args .p) (st .args .d) (sym (c .before .is-kind .ensures ∙ ap isTruth (k .kind-in .ensures)) ∙ c .if1 .left)
+    slot-default (st .args .text .now) (st .args .p) (st .args .d) (sym (c .before .is-kind .ensures ∙ ap isTruth (k .kind-in .ensures)) ∙ c .if1 .left)
 
 pub truth-in-spec : {M : Type 1} → statement M
 truth-in-spec =
-    tie.close (tie.spec kind-in-requires is-kind-requires truth-at-requires returns returns-2)
+    tie.close (tie.spec (λ c κs. search needs) (λ c κs. search needs) (λ c κs. search needs) returns returns-2)

@@ -9,11 +9,8 @@ use Rattle.members.proofs.whole_in.Tie as tie
 returns : tie.Need-returns
 returns c = whole-none (c .before .before .before .args .text .now) (c .if1 .taken)
 
-integer-at-requires : tie.Need-integer-at-requires
-integer-at-requires c κs = search needs
-
 returns-2 : tie.Need-returns-2
 returns-2 c = c .integer-at .ensures ∙ ap wholeOf (sym (at-some (c .before .before .before .before .args .text .now) (c .before .if1 .left)))
 
 pub whole-in-spec : {M : Type 1} → statement M
-whole-in-spec = tie.close (tie.spec returns integer-at-requires returns-2)
+whole-in-spec = tie.close (tie.spec returns (λ c κs. search needs) returns-2)

@@ -11,34 +11,19 @@ use borrow.Author.Needs.{needs}
 use Rattle.mirror.proofs.column.Statement.{statement}
 use Rattle.mirror.proofs.column.Tie as tie
 
-no-contents-requires : tie.Need-no-contents-requires
-no-contents-requires c κs = search needs
-
-same-length : tie.Need-same-length
-same-length c = search needs
-
 returns : tie.Need-returns
 returns c =
     let q = c .before .before in
     let t = q .before .before in
     let a = t .before .before .before .args in
     let z = q .no-contents .ensures in
-    column-numbered (a .area .now) (a .table) (a .id .now) (a .column) (a .out .now) (column-other (a .area .now) (a .table) (a .id .now) (a .column) (a .out .now) (t .if1 .taken) ∙ (λ j. record { answer = sym (z .0) j; out = sym (z .1) j }))
-
-slice-aggregate-opened : tie.Need-slice-aggregate-opened
-slice-aggregate-opened c = search needs
+    column-numbered (a .area .now) (a .table) (a .id .now) (a .column) (a .out .now) (column-other (a .area .now) (a .table) (a .id .now) (a .column) (a .out .now) (t .if1 .taken) ∙ (λ j. record { status = sym (z .0) j; out = sym (z .1) j }))
 
 opened-requires : tie.Need-opened-requires
 opened-requires c κs =
     let e = c .before .before in
     let a = e .before .before .before .args in
     (both-sized (length (a .out .now)) (length (a .area .now)) (e .if1 .left) .1, omega arith)
-
-no-contents-requires-2 : tie.Need-no-contents-requires-2
-no-contents-requires-2 c κs = search needs
-
-same-length-2 : tie.Need-same-length-2
-same-length-2 c = search needs
 
 returns-2 : tie.Need-returns-2
 returns-2 c =
@@ -51,16 +36,13 @@ returns-2 c =
     let z = q .no-contents2 .ensures in
     column-numbered (a .area .now) (a .table) (a .id .now) (a .column) (a .out .now) (column-asked (a .area .now) (a .table) (a .id .now) (a .column) (a .out .now) (l .0)
     ∙ ask-bad (a .area .now) (noContents (a .out .now)) (contentsOf (a .table) (a .id .now) (a .column)) (l .1) (state-bad (o .opened .ensures) (not-true _ (t .if2 .taken)))
-    ∙ (λ j. record { answer = sym (z .0) j; out = sym (z .1) j }))
+    ∙ (λ j. record { status = sym (z .0) j; out = sym (z .1) j }))
 
 row-count-requires : tie.Need-row-count-requires
 row-count-requires c κs =
     let e = c .before .before .before .before .before in
     let a = e .before .before .before .args in
     omega (arith, both-sized (length (a .out .now)) (length (a .area .now)) (e .if1 .left) .1)
-
-slice-aggregate-column : tie.Need-slice-aggregate-column
-slice-aggregate-column c = search needs
 
 column-requires : tie.Need-column-requires
 column-requires c κs =
@@ -71,9 +53,6 @@ column-requires c κs =
     let a = e .before .before .before .args in
     let h = o .opened .ensures .held (not-false _ (f .if2 .left)) in
     (h .accepted, (record { few = omega (arith, h .few, k .row-count .ensures); room = search needs; ordered = held-ordered h (k .row-count .result) (k .row-count .ensures) }, both-sized (length (a .out .now)) (length (a .area .now)) (e .if1 .left) .0))
-
-same-length-3 : tie.Need-same-length-3
-same-length-3 c = search needs
 
 returns-3 : tie.Need-returns-3
 returns-3 c =
@@ -93,16 +72,16 @@ pub column-spec : {M : Type 1} → statement M
 column-spec =
     tie.close
     (tie.spec
-    no-contents-requires
-    same-length
+    (λ c κs. search needs)
+    (λ c. search needs)
     returns
-    slice-aggregate-opened
+    (λ c. search needs)
     opened-requires
-    no-contents-requires-2
-    same-length-2
+    (λ c κs. search needs)
+    (λ c. search needs)
     returns-2
     row-count-requires
-    slice-aggregate-column
+    (λ c. search needs)
     column-requires
-    same-length-3
+    (λ c. search needs)
     returns-3)

@@ -10,24 +10,12 @@ use borrow.Author.Needs.{needs}
 use Rattle.mirror.proofs.has_row.Statement.{statement}
 use Rattle.mirror.proofs.has_row.Tie as tie
 
-no-presence-requires : tie.Need-no-presence-requires
-no-presence-requires c κs = search needs
-
 returns : tie.Need-returns
 unfolding mirrorHasRow
 returns c =
     let t = c .before in
     let a = t .before .before .args in
     row-numbered (a .area .now) (a .table) (a .id .now) (ask-other (a .area .now) noPresence (presenceOf (a .table) (a .id .now)) (t .if1 .taken) ∙ ap presenceIn (sym (c .no-presence .ensures)))
-
-slice-aggregate-opened : tie.Need-slice-aggregate-opened
-slice-aggregate-opened c = search needs
-
-opened-requires : tie.Need-opened-requires
-opened-requires c κs = search needs
-
-no-presence-requires-2 : tie.Need-no-presence-requires-2
-no-presence-requires-2 c κs = search needs
 
 returns-2 : tie.Need-returns-2
 unfolding mirrorHasRow
@@ -37,12 +25,6 @@ returns-2 c =
     let e = o .before .before .before in
     let a = e .before .before .args in
     row-numbered (a .area .now) (a .table) (a .id .now) (ask-bad (a .area .now) noPresence (presenceOf (a .table) (a .id .now)) (e .if1 .left) (state-bad (o .opened .ensures) (not-true _ (t .if2 .taken))) ∙ ap presenceIn (sym (c .no-presence2 .ensures)))
-
-row-count-requires : tie.Need-row-count-requires
-row-count-requires c κs = search needs
-
-slice-aggregate-has-row : tie.Need-slice-aggregate-has-row
-slice-aggregate-has-row c = search needs
 
 has-row-requires : tie.Need-has-row-requires
 has-row-requires c κs =
@@ -67,13 +49,13 @@ pub has-row-spec : {M : Type 1} → statement M
 has-row-spec =
     tie.close
     (tie.spec
-    no-presence-requires
+    (λ c κs. search needs)
     returns
-    slice-aggregate-opened
-    opened-requires
-    no-presence-requires-2
+    (λ c. search needs)
+    (λ c κs. search needs)
+    (λ c κs. search needs)
     returns-2
-    row-count-requires
-    slice-aggregate-has-row
+    (λ c κs. search needs)
+    (λ c. search needs)
     has-row-requires
     returns-3)

@@ -14,15 +14,6 @@ returns c =
     let a = c .before .before .before .args in
     hear-numbered (a .area .now) (a .bytes .now) (hear-other (a .area .now) (a .bytes .now) (c .if1 .taken))
 
-slice-aggregate-opened : tie.Need-slice-aggregate-opened
-slice-aggregate-opened c = search needs
-
-opened-requires : tie.Need-opened-requires
-opened-requires c κs = search needs
-
-same-length : tie.Need-same-length
-same-length c = search needs
-
 returns-2 : tie.Need-returns-2
 returns-2 c =
     let o = c .before .before in
@@ -30,33 +21,12 @@ returns-2 c =
     let a = e .before .before .before .args in
     hear-numbered (a .area .now) (a .bytes .now) (hear-bad (a .area .now) (a .bytes .now) (e .if1 .left) (state-bad (o .opened .ensures) (not-true _ (c .if2 .taken))))
 
-numbers-of-requires : tie.Need-numbers-of-requires
-numbers-of-requires c κs = search needs
-
-row-count-requires : tie.Need-row-count-requires
-row-count-requires c κs = search needs
-
-run-of-requires : tie.Need-run-of-requires
-run-of-requires c κs = search needs
-
-slice-aggregate-step : tie.Need-slice-aggregate-step
-slice-aggregate-step c = search needs
-
 step-requires : tie.Need-step-requires
 step-requires c κs =
     let k = c .before .before .before .before in
     let f = k .before .before .before .before in
     let h = f .before .before .opened .ensures .held (not-false _ (f .if2 .left)) in
     (h .accepted, record { few = omega (arith, h .few, k .row-count .ensures); room = search needs; ordered = held-ordered h (k .row-count .result) (k .row-count .ensures) })
-
-slice-aggregate-rewrite : tie.Need-slice-aggregate-rewrite
-slice-aggregate-rewrite c = search needs
-
-rewrite-requires : tie.Need-rewrite-requires
-rewrite-requires c κs = search needs
-
-same-length-2 : tie.Need-same-length-2
-same-length-2 c = search needs
 
 returns-3 : tie.Need-returns-3
 returns-3 c =
@@ -79,16 +49,16 @@ hear-spec =
     tie.close
     (tie.spec
     returns
-    slice-aggregate-opened
-    opened-requires
-    same-length
+    (λ c. search needs)
+    (λ c κs. search needs)
+    (λ c. search needs)
     returns-2
-    numbers-of-requires
-    row-count-requires
-    run-of-requires
-    slice-aggregate-step
+    (λ c κs. search needs)
+    (λ c κs. search needs)
+    (λ c κs. search needs)
+    (λ c. search needs)
     step-requires
-    slice-aggregate-rewrite
-    rewrite-requires
-    same-length-2
+    (λ c. search needs)
+    (λ c κs. search needs)
+    (λ c. search needs)
     returns-3)

@@ -7,18 +7,6 @@ use borrow.Author.Needs.{needs}
 use Rattle.mirror.proofs.numbers_of.Statement.{statement}
 use Rattle.mirror.proofs.numbers_of.Tie as tie
 
-number-of-requires : tie.Need-number-of-requires
-number-of-requires c κs = search needs
-
-top-of-requires : tie.Need-top-of-requires
-top-of-requires c κs = search needs
-
-shared-slice-read-t5 : tie.Need-shared-slice-read-t5
-shared-slice-read-t5 c = search needs
-
-shared-slice-read-t8 : tie.Need-shared-slice-read-t8
-shared-slice-read-t8 c = search needs
-
 returns : tie.Need-returns
 unfolding numbersIn
 returns c =
@@ -30,4 +18,4 @@ returns c =
 pub numbers-of-spec : {M : Type 1} → statement M
 numbers-of-spec =
     tie.close
-    (tie.spec number-of-requires top-of-requires shared-slice-read-t5 shared-slice-read-t8 returns)
+    (tie.spec (λ c κs. search needs) (λ c κs. search needs) (λ c. search needs) (λ c. search needs) returns)

@@ -8,12 +8,6 @@ use Rattle.mirror.proofs.Opening.{open-refused, catalog-accepted, open-
 use Rattle.mirror.proofs.opened.Statement.{statement}
 use Rattle.mirror.proofs.opened.Tie as tie
 
-catalog-of-requires : tie.Need-catalog-of-requires
-catalog-of-requires c κs = search needs
-
-is-accepted-requires : tie.Need-is-accepted-requires
-is-accepted-requires c κs = search needs
-
 returns : tie.Need-returns
 returns c =
     let s = c .before .before .before .before .before in
@@ -24,9 +18,6 @@ part-good-requires c κs =
     let s = c .before .before .before .before .before .before .before in
     (catalog-accepted (s .args .area .now) (s .pre .0) _ [] (c .before .before .before .before .before .catalog-of .ensures) (sym (c .before .before .before .is-accepted .ensures) ∙ not-false _ (c .before .before .if1 .left)), search needs)
 
-same-length : tie.Need-same-length
-same-length c = search needs
-
 returns-2 : tie.Need-returns-2
 returns-2 c =
     let s = c .before .before .before .before .before .before .before .before .before .before in
@@ -34,29 +25,23 @@ returns-2 c =
     open-bad a (s .pre .0) _ _ (c .before .before .before .before .before .before .before .before .catalog-of .ensures) (octets a (λ i. c .before .before .before .before .before .before .before .before .before .shared-slice-known .given i .fits))
     (sym (c .before .before .before .before .before .before .is-accepted .ensures) ∙ not-false _ (c .before .before .before .before .before .if1 .left)) (sym (not-true _ (c .if2 .taken)) ∙ c .before .before .part-good .ensures .good)
 
-mirror-part-requires : tie.Need-mirror-part-requires
-mirror-part-requires c κs = search needs
-
-same-length-2 : tie.Need-same-length-2
-same-length-2 c = search needs
-
 returns-3 : tie.Need-returns-3
 returns-3 c =
     let s = c .before .before .before .before .before .before .before .before .before .before .before in
     let a = s .args .area .now in
     open-good a (s .pre .0) _ _ (c .before .before .before .before .before .before .before .before .before .catalog-of .ensures) (octets a (λ i. c .before .before .before .before .before .before .before .before .before .before .shared-slice-known .given i .fits))
-    (sym (c .before .before .before .before .before .before .before .is-accepted .ensures) ∙ not-false _ (c .before .before .before .before .before .before .if1 .left)) (c .before .before .before .part-good .result) (not-false _ (c .before .if2 .left)) (c .before .before .before .part-good .ensures) (c .mirror-part .result) (c .mirror-part .ensures)
+    (sym (c .before .before .before .before .before .before .before .is-accepted .ensures) ∙ not-false _ (c .before .before .before .before .before .before .if1 .left)) (s .args .rows .now) (c .before .before .before .part-good .result) (not-false _ (c .before .if2 .left)) (c .before .before .before .part-good .ensures) (c .mirror-part .result) (c .mirror-part .ensures)
 
 pub opened-spec : {M : Type 1} → statement M
 opened-spec =
     tie.close
     (tie.spec
-    catalog-of-requires
-    is-accepted-requires
+    (λ c κs. search needs)
+    (λ c κs. search needs)
     returns
     part-good-requires
-    same-length
+    (λ c. search needs)
     returns-2
-    mirror-part-requires
-    same-length-2
+    (λ c κs. search needs)
+    (λ c. search needs)
     returns-3)

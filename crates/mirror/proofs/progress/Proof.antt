@@ -9,22 +9,10 @@ use borrow.Author.Needs.{needs}
 use Rattle.mirror.proofs.progress.Statement.{statement}
 use Rattle.mirror.proofs.progress.Tie as tie
 
-no-standing-requires : tie.Need-no-standing-requires
-no-standing-requires c κs = search needs
-
 returns : tie.Need-returns
 unfolding mirrorProgress
 returns c =
     progress-numbered (c .before .before .before .args .area .now) (ask-other (c .before .before .before .args .area .now) noProgress progressOf (c .before .if1 .taken) ∙ ap progressIn (sym (c .no-standing .ensures)))
-
-slice-aggregate-opened : tie.Need-slice-aggregate-opened
-slice-aggregate-opened c = search needs
-
-opened-requires : tie.Need-opened-requires
-opened-requires c κs = search needs
-
-no-standing-requires-2 : tie.Need-no-standing-requires-2
-no-standing-requires-2 c κs = search needs
 
 returns-2 : tie.Need-returns-2
 unfolding mirrorProgress
@@ -33,12 +21,6 @@ returns-2 c =
     let o = t .before .before in
     let e = o .before .before .before in
     progress-numbered (e .before .before .args .area .now) (ask-bad (e .before .before .args .area .now) noProgress progressOf (e .if1 .left) (state-bad (o .opened .ensures) (not-true _ (t .if2 .taken))) ∙ ap progressIn (sym (c .no-standing2 .ensures)))
-
-numbers-of-requires : tie.Need-numbers-of-requires
-numbers-of-requires c κs = search needs
-
-level-requires : tie.Need-level-requires
-level-requires c κs = search needs
 
 returns-3 : tie.Need-returns-3
 unfolding mirrorProgress
@@ -54,12 +36,12 @@ pub progress-spec : {M : Type 1} → statement M
 progress-spec =
     tie.close
     (tie.spec
-    no-standing-requires
+    (λ c κs. search needs)
     returns
-    slice-aggregate-opened
-    opened-requires
-    no-standing-requires-2
+    (λ c. search needs)
+    (λ c κs. search needs)
+    (λ c κs. search needs)
     returns-2
-    numbers-of-requires
-    level-requires
+    (λ c κs. search needs)
+    (λ c κs. search needs)
     returns-3)

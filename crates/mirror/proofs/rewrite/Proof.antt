@@ -4,18 +4,6 @@ use borrow.Author.Needs.{needs}
 use Rattle.mirror.proofs.rewrite.Statement.{statement}
 use Rattle.mirror.proofs.rewrite.Tie as tie
 
-write-number-requires : tie.Need-write-number-requires
-write-number-requires c κs = search needs
-
-write-rows-requires : tie.Need-write-rows-requires
-write-rows-requires c κs = search needs
-
-write-tail-requires : tie.Need-write-tail-requires
-write-tail-requires c κs = search needs
-
-same-length : tie.Need-same-length
-same-length c = search needs
-
 returns : tie.Need-returns
 returns c =
     let w = c .before .before in
@@ -31,12 +19,6 @@ returns-2 c =
     let a = e .before .before .before .before .args in
     rewrite-none (a .was) (a .is) (a .count) (a .rows .now) (a .area .now) (e .if1 .left) (c .if2 .taken)
 
-write-tail-requires-2 : tie.Need-write-tail-requires-2
-write-tail-requires-2 c κs = search needs
-
-same-length-2 : tie.Need-same-length-2
-same-length-2 c = search needs
-
 returns-3 : tie.Need-returns-3
 returns-3 c =
     let w = c .before .before in
@@ -49,12 +31,12 @@ pub rewrite-spec : {M : Type 1} → statement M
 rewrite-spec =
     tie.close
     (tie.spec
-    write-number-requires
-    write-rows-requires
-    write-tail-requires
-    same-length
+    (λ c κs. search needs)
+    (λ c κs. search needs)
+    (λ c κs. search needs)
+    (λ c. search needs)
     returns
     returns-2
-    write-tail-requires-2
-    same-length-2
+    (λ c κs. search needs)
+    (λ c. search needs)
     returns-3)

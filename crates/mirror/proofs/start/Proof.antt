@@ -13,26 +13,14 @@ returns c =
     let a = c .before .before .before .args in
     start-numbered (a .area .now) (a .schema .now) (a .run) (start-other (a .area .now) (a .schema .now) (a .run) (c .if1 .taken))
 
-read-requires : tie.Need-read-requires
-read-requires c κs = search needs
-
 returns-2 : tie.Need-returns-2
 returns-2 c =
     let e = c .before .before .before in
     let a = e .before .before .before .args in
     start-numbered (a .area .now) (a .schema .now) (a .run) (start-refused (a .area .now) (a .schema .now) (a .run) (e .if1 .left) (c .before .read .ensures .refused (not-true _ (c .if2 .taken))))
 
-slice-aggregate-write-store : tie.Need-slice-aggregate-write-store
-slice-aggregate-write-store c = search needs
-
 write-store-requires : tie.Need-write-store-requires
 write-store-requires c κs = (search needs, (omega arith, omega arith))
-
-write-tail-requires : tie.Need-write-tail-requires
-write-tail-requires c κs = search needs
-
-same-length : tie.Need-same-length
-same-length c = search needs
 
 returns-3 : tie.Need-returns-3
 returns-3 c =
@@ -49,10 +37,10 @@ start-spec =
     tie.close
     (tie.spec
     returns
-    read-requires
+    (λ c κs. search needs)
     returns-2
-    slice-aggregate-write-store
+    (λ c. search needs)
     write-store-requires
-    write-tail-requires
-    same-length
+    (λ c κs. search needs)
+    (λ c. search needs)
     returns-3)

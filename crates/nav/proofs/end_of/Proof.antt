@@ -7,15 +7,6 @@ use borrow.Author.Needs.{needs}
 use Rattle.nav.proofs.end_of.Statement.{statement}
 use Rattle.nav.proofs.end_of.Tie as tie
 
-entry-requires : tie.Need-entry-requires
-entry-requires c κs = search needs
-
-end-at-requires : tie.Need-end-at-requires
-end-at-requires c κs = search needs
-
-returns : tie.Need-returns
-returns c = search needs
-
 returns-2 : tie.Need-returns-2
 unfolding Says
 returns-2 c =
@@ -23,4 +14,4 @@ returns-2 c =
     ⊎-elim (λ z. absurd (c .if1 .left (c .before .entry .ensures ∙ z))) (λ q. ap End (c .before .entry .ensures) ∙ sym q) (st .pre (st .args .at))
 
 pub end-of-spec : {M : Type 1} → statement M
-end-of-spec = tie.close (tie.spec entry-requires end-at-requires returns returns-2)
+end-of-spec = tie.close (tie.spec (λ c κs. search needs) (λ c κs. search needs) (λ c. search needs) returns-2)

@@ -8,22 +8,10 @@ use borrow.Author.Needs.{needs}
 use Rattle.nav.proofs.first.Statement.{statement}
 use Rattle.nav.proofs.first.Tie as tie
 
-spaces-requires : tie.Need-spaces-requires
-spaces-requires c κs = search needs
-
-peek-requires : tie.Need-peek-requires
-peek-requires c κs = search needs
-
 add-spaces : tie.Need-add-spaces
 add-spaces c =
     let st = c .before .before .before .before in
     omega (arith, inside-byte (st .args .text .now) (c .before .before .spaces .result) (st .args .opener) (sym (c .before .peek .ensures) ∙ c .if1 .taken) (omega (arith, st .fits .opener)))
-
-spaces-requires-2 : tie.Need-spaces-requires-2
-spaces-requires-2 c κs = search needs
-
-peek-requires-2 : tie.Need-peek-requires-2
-peek-requires-2 c κs = search needs
 
 returns : tie.Need-returns
 unfolding firstOf
@@ -45,11 +33,11 @@ pub first-spec : {M : Type 1} → statement M
 first-spec =
     tie.close
     (tie.spec
-    spaces-requires
-    peek-requires
+    (λ c κs. search needs)
+    (λ c κs. search needs)
     add-spaces
-    spaces-requires-2
-    peek-requires-2
+    (λ c κs. search needs)
+    (λ c κs. search needs)
     returns
     returns-2
     returns-3)

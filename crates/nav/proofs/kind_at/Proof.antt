@@ -8,15 +8,6 @@ use borrow.Author.Needs.{needs}
 use Rattle.nav.proofs.kind_at.Statement.{statement}
 use Rattle.nav.proofs.kind_at.Tie as tie
 
-spaces-requires : tie.Need-spaces-requires
-spaces-requires c κs = search needs
-
-peek-requires : tie.Need-peek-requires
-peek-requires c κs = search needs
-
-kind-by-requires : tie.Need-kind-by-requires
-kind-by-requires c κs = search needs
-
 returns : tie.Need-returns
 returns c =
     let p = c .before in
@@ -25,4 +16,4 @@ returns c =
     c .kind-by .ensures ∙ ap kindBy (p .peek .ensures ∙ ap (byte s) (p .before .spaces .ensures)) ∙ sym (kind-is s (st .args .at))
 
 pub kind-at-spec : {M : Type 1} → statement M
-kind-at-spec = tie.close (tie.spec spaces-requires peek-requires kind-by-requires returns)
+kind-at-spec = tie.close (tie.spec (λ c κs. search needs) (λ c κs. search needs) (λ c κs. search needs) returns)

@@ -6,22 +6,13 @@ use borrow.Author.Needs.{needs}
 use Rattle.nav.proofs.member_end.Statement.{statement}
 use Rattle.nav.proofs.member_end.Tie as tie
 
-key-requires : tie.Need-key-requires
-key-requires c κs = search needs
-
-enum-known-k : tie.Need-enum-known-k
-enum-known-k c = search needs
-
 returns : tie.Need-returns
 unfolding memberAt
 returns c = rw (← c .before .key .ensures) (then-not _ _ _ (c .match .keys2))
-
-end-of-requires : tie.Need-end-of-requires
-end-of-requires c κs = search needs
 
 returns-2 : tie.Need-returns-2
 unfolding memberAt andThen
 returns-2 c = rw (← c .before .before .before .before .key .ensures, c .before .before .k .given .1) (c .end-of .ensures)
 
 pub member-end-spec : {M : Type 1} → statement M
-member-end-spec = tie.close (tie.spec key-requires enum-known-k returns end-of-requires returns-2)
+member-end-spec = tie.close (tie.spec (λ c κs. search needs) (λ c. search needs) returns (λ c κs. search needs) returns-2)

@@ -4,18 +4,6 @@ use borrow.Author.Needs.{needs}
 use Rattle.nav.proofs.member_value.Statement.{statement}
 use Rattle.nav.proofs.member_value.Tie as tie
 
-key-requires : tie.Need-key-requires
-key-requires c κs = search needs
-
-enum-known-r : tie.Need-enum-known-r
-enum-known-r c = search needs
-
-enum-told : tie.Need-enum-told
-enum-told c = search needs
-
-enum-told-2 : tie.Need-enum-told-2
-enum-told-2 c = search needs
-
 returns : tie.Need-returns
 returns c = rw (← c .before .before .before .key .ensures, c .before .r .given .1)
 
@@ -28,4 +16,4 @@ returns-3 c = rw (← c .before .before .key .ensures, c .enum-told2 .given .1)
 pub member-value-spec : {M : Type 1} → statement M
 member-value-spec =
     tie.close
-    (tie.spec key-requires enum-known-r enum-told enum-told-2 returns returns-2 returns-3)
+    (tie.spec (λ c κs. search needs) (λ c. search needs) (λ c. search needs) (λ c. search needs) returns returns-2 returns-3)

@@ -6,15 +6,9 @@ use borrow.Author.Needs.{needs}
 use Rattle.nav.proofs.minus.Statement.{statement}
 use Rattle.nav.proofs.minus.Tie as tie
 
-enum-known-d : tie.Need-enum-known-d
-enum-known-d c = search needs
-
 returns : tie.Need-returns
 unfolding minusOf
 returns c = rw (c .before .before .d .given .1, c .if1 .taken)
-
-enum-told : tie.Need-enum-told
-enum-told c = search needs
 
 returns-2 : tie.Need-returns-2
 unfolding minusOf
@@ -25,4 +19,4 @@ unfolding minusOf
 returns-3 c = rw (c .enum-told .given .1)
 
 pub minus-spec : {M : Type 1} → statement M
-minus-spec = tie.close (tie.spec enum-known-d returns enum-told returns-2 returns-3)
+minus-spec = tie.close (tie.spec (λ c. search needs) returns (λ c. search needs) returns-2 returns-3)

@@ -6,15 +6,6 @@ use borrow.Author.Needs.{needs}
 use Rattle.nav.proofs.next_item.Statement.{statement}
 use Rattle.nav.proofs.next_item.Tie as tie
 
-end-of-requires : tie.Need-end-of-requires
-end-of-requires c κs = search needs
-
-after-requires : tie.Need-after-requires
-after-requires c κs = search needs
-
-found-requires : tie.Need-found-requires
-found-requires c κs = search needs
-
 returns : tie.Need-returns
 unfolding nextItem
 returns c =
@@ -23,4 +14,4 @@ returns c =
     c .found .ensures ∙ ap foundOf (a .after .ensures ∙ ap (afterItem s 93) (a .before .end-of .ensures))
 
 pub next-item-spec : {M : Type 1} → statement M
-next-item-spec = tie.close (tie.spec end-of-requires after-requires found-requires returns)
+next-item-spec = tie.close (tie.spec (λ c κs. search needs) (λ c κs. search needs) (λ c κs. search needs) returns)

@@ -6,15 +6,6 @@ use borrow.Author.Needs.{needs}
 use Rattle.nav.proofs.next_member.Statement.{statement}
 use Rattle.nav.proofs.next_member.Tie as tie
 
-member-end-requires : tie.Need-member-end-requires
-member-end-requires c κs = search needs
-
-after-requires : tie.Need-after-requires
-after-requires c κs = search needs
-
-found-requires : tie.Need-found-requires
-found-requires c κs = search needs
-
 returns : tie.Need-returns
 unfolding nextMember
 returns c =
@@ -23,4 +14,4 @@ returns c =
     c .found .ensures ∙ ap foundOf (a .after .ensures ∙ ap (afterItem s 125) (a .before .member-end .ensures))
 
 pub next-member-spec : {M : Type 1} → statement M
-next-member-spec = tie.close (tie.spec member-end-requires after-requires found-requires returns)
+next-member-spec = tie.close (tie.spec (λ c κs. search needs) (λ c κs. search needs) (λ c κs. search needs) returns)

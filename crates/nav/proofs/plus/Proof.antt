@@ -6,15 +6,9 @@ use borrow.Author.Needs.{needs}
 use Rattle.nav.proofs.plus.Statement.{statement}
 use Rattle.nav.proofs.plus.Tie as tie
 
-enum-known-d : tie.Need-enum-known-d
-enum-known-d c = search needs
-
 returns : tie.Need-returns
 unfolding plusOf
 returns c = rw (c .before .before .d .given .1, plusOf, lt-ltb _ _ (c .if1 .taken))
-
-enum-told : tie.Need-enum-told
-enum-told c = search needs
 
 returns-2 : tie.Need-returns-2
 unfolding plusOf
@@ -25,4 +19,4 @@ unfolding plusOf
 returns-3 c = rw (c .enum-told .given .1)
 
 pub plus-spec : {M : Type 1} → statement M
-plus-spec = tie.close (tie.spec enum-known-d returns enum-told returns-2 returns-3)
+plus-spec = tie.close (tie.spec (λ c. search needs) returns (λ c. search needs) returns-2 returns-3)

@@ -7,12 +7,6 @@ use borrow.Author.Needs.{needs}
 use Rattle.nav.proofs.truth_at.Statement.{statement}
 use Rattle.nav.proofs.truth_at.Tie as tie
 
-spaces-requires : tie.Need-spaces-requires
-spaces-requires c κs = search needs
-
-peek-requires : tie.Need-peek-requires
-peek-requires c κs = search needs
-
 returns : tie.Need-returns
 returns c =
     let st = c .before .before .before in
@@ -20,4 +14,4 @@ returns c =
     ap (λ x. eqb x 116) (c .peek .ensures ∙ ap (byte s) (c .before .spaces .ensures)) ∙ sym (true-is s (st .args .at))
 
 pub truth-at-spec : {M : Type 1} → statement M
-truth-at-spec = tie.close (tie.spec spaces-requires peek-requires returns)
+truth-at-spec = tie.close (tie.spec (λ c κs. search needs) (λ c κs. search needs) returns)

@@ -10,29 +10,11 @@ use Rattle.nav.proofs.whole_text.Tie as tie
 returns : tie.Need-returns
 returns c = text-none _ _ _ (c .if1 .taken)
 
-peek-requires : tie.Need-peek-requires
-peek-requires c κs = search needs
-
-add-digits-of : tie.Need-add-digits-of
-add-digits-of c = search needs
-
-digits-of-requires : tie.Need-digits-of-requires
-digits-of-requires c κs = search needs
-
-minus-requires : tie.Need-minus-requires
-minus-requires c κs = search needs
-
 returns-2 : tie.Need-returns-2
 returns-2 c =
     let p = c .before .before .before in
     let st = p .before .before .before in
     c .minus .ensures ∙ ap minusOf (c .before .digits-of .ensures) ∙ text-minus (st .args .text .now) (st .args .at) (st .args .end) (p .before .if1 .left) (st .pre) (sym (p .peek .ensures) ∙ c .before .before .if2 .taken)
-
-digits-of-requires-2 : tie.Need-digits-of-requires-2
-digits-of-requires-2 c κs = search needs
-
-plus-requires : tie.Need-plus-requires
-plus-requires c κs = search needs
 
 returns-3 : tie.Need-returns-3
 returns-3 c =
@@ -45,11 +27,11 @@ whole-text-spec =
     tie.close
     (tie.spec
     returns
-    peek-requires
-    add-digits-of
-    digits-of-requires
-    minus-requires
+    (λ c κs. search needs)
+    (λ c. search needs)
+    (λ c κs. search needs)
+    (λ c κs. search needs)
     returns-2
-    digits-of-requires-2
-    plus-requires
+    (λ c κs. search needs)
+    (λ c κs. search needs)
     returns-3)

@@ -5,8 +5,8 @@ use mathlib.Core.Bool.{true, false}
 use native.Mathlib.Omega.{arith}
 use lib.ListN.{length}
 use Rattle.inner.specs.Positions.{itemsFrom, itemsFine, left}
-use Rattle.answer.specs.Texts.{joined}
-use Rattle.answer.proofs.Putting.{Due, due-all, due-is, due-next, due-none}
+use Rattle.json_writer.specs.Texts.{joined}
+use Rattle.json_writer.proofs.Putting.{Due, due-all, due-is, due-next, due-none}
 use Rattle.nav.proofs.Walk.{walk-rest, walk-fine, walk-less}
 use Rattle.operations.specs.Running.{nullsFrom}
 use Rattle.operations.proofs.Nulls.{nulls-next, nulls-end}
@@ -23,9 +23,6 @@ abbrev μ-loop : tie.MeasureT-loop
 
 loop-holds : tie.Need-loop-holds Inv-loop μ-loop
 loop-holds c = (refl, c .before .before .before .pre .1 .0, omega arith, due-all _ _ _)
-
-enum-known-h : tie.Need-enum-known-h Inv-loop μ-loop
-enum-known-h c = search needs
 
 put-comma-requires : tie.Need-put-comma-requires Inv-loop μ-loop
 put-comma-requires c κs = omega (arith, c .before .before .before .before .loop .inv .2, ap length (walk-rest (c .before .before .before .before .before .before .before .before .args .text .now) (c .before .before .h .given .1)), c .before .before .before .before .before .before .before .before .pre .1 .1 .0, c .before .before .before .before .before .before .before .before .pre .1 .1 .1)
@@ -51,9 +48,6 @@ loop-again c =
     let y = c .before .before .before .put-null in
     rw (c .next-item .ensures) (y .kept .0 ∙ x .kept .0 ∙ l .inv .0, walk-fine s h (l .inv .1) .1, omega (arith, l .inv .2, ap length (walk-rest s h), x .ensures .short, y .ensures .short), due-next (due-next (due-is (l .inv .3) (nulls-next s h)) (x .ensures)) (y .ensures))
 
-enum-told : tie.Need-enum-told Inv-loop μ-loop
-enum-told c = search needs
-
 same-length : tie.Need-same-length Inv-loop μ-loop
 same-length c = c .before .before .loop .inv .0
 
@@ -70,12 +64,12 @@ put-nulls-spec =
     Inv-loop
     μ-loop
     loop-holds
-    enum-known-h
+    (λ c. search needs)
     put-comma-requires
     put-null-requires
     next-item-requires
     loop-less
     loop-again
-    enum-told
+    (λ c. search needs)
     same-length
     returns)

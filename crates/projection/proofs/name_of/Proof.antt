@@ -6,9 +6,6 @@ use borrow.Author.Needs.{needs}
 use Rattle.projection.proofs.name_of.Statement.{statement}
 use Rattle.projection.proofs.name_of.Tie as tie
 
-name-of-requires : tie.Need-name-of-requires
-name-of-requires c κs = search needs
-
 returns : tie.Need-returns
 returns c =
     let a = c .before .before .args .cell .now in
@@ -18,5 +15,5 @@ pub name-of-spec : {M : Type 1} → statement M
 name-of-spec =
     tie.close
     (tie.spec
-    name-of-requires
+    (λ c κs. search needs)
     returns)

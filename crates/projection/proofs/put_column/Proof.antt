@@ -3,32 +3,14 @@ use Prim.Native.Nat.{ℕ}
 use mathlib.Core.Path.{ap, _∙_}
 use mathlib.Core.List.{_++_}
 use native.Mathlib.Omega.{arith}
-use Rattle.answer.proofs.Putting.{put-then, put-is}
+use Rattle.json_writer.proofs.Putting.{put-then, put-is}
 use Rattle.model.specs.Catalog.{entryName}
-use Rattle.answer.specs.Texts.{setText}
+use Rattle.json_writer.specs.Texts.{setText}
 use Rattle.projection.specs.Shown.{nameText}
 use Rattle.projection.proofs.Columns.{column-is}
 use borrow.Author.Needs.{needs}
 use Rattle.projection.proofs.put_column.Statement.{statement}
 use Rattle.projection.proofs.put_column.Tie as tie
-
-put-name-requires : tie.Need-put-name-requires
-put-name-requires c κs = search needs
-
-count-of-requires : tie.Need-count-of-requires
-count-of-requires c κs = search needs
-
-atoms-in-requires : tie.Need-atoms-in-requires
-atoms-in-requires c κs = search needs
-
-kind-requires : tie.Need-kind-requires
-kind-requires c κs = search needs
-
-put-value-requires : tie.Need-put-value-requires
-put-value-requires c κs = search needs
-
-same-length : tie.Need-same-length
-same-length c = search needs
 
 returns : tie.Need-returns
 returns c =
@@ -42,10 +24,10 @@ pub put-column-spec : {M : Type 1} → statement M
 put-column-spec =
     tie.close
     (tie.spec
-    put-name-requires
-    count-of-requires
-    atoms-in-requires
-    kind-requires
-    put-value-requires
-    same-length
+    (λ c κs. search needs)
+    (λ c κs. search needs)
+    (λ c κs. search needs)
+    (λ c κs. search needs)
+    (λ c κs. search needs)
+    (λ c. search needs)
     returns)

@@ -3,8 +3,8 @@ use mathlib.Core.Path.{_≡_, refl, ap, _∙_}
 use Prim.Native.Nat.{ℕ, _+_, _*_, _-_, _≤_}
 use native.Mathlib.Omega.{arith}
 use lib.ListN.{length}
-use Rattle.answer.specs.Texts.{joined}
-use Rattle.answer.proofs.Putting.{Due, due-all, due-is, due-next, due-none}
+use Rattle.json_writer.specs.Texts.{joined}
+use Rattle.json_writer.proofs.Putting.{Due, due-all, due-is, due-next, due-none}
 use Rattle.projection.specs.Shown.{shownFrom}
 use Rattle.projection.proofs.Columns.{columns-next, columns-end}
 use Rattle.projection.proofs.put_columns.Statement.{statement}

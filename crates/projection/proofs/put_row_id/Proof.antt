@@ -2,26 +2,11 @@
 use mathlib.Core.Path.{_∙_}
 use mathlib.Core.Bool.{true}
 use native.Mathlib.Omega.{arith}
-use Rattle.answer.proofs.Putting.{put-nothing, put-then, put-is}
+use Rattle.json_writer.proofs.Putting.{put-nothing, put-then, put-is}
 use Rattle.projection.proofs.Columns.{shown-yes, shown-no, row-id-is}
 use borrow.Author.Needs.{needs}
 use Rattle.projection.proofs.put_row_id.Statement.{statement}
 use Rattle.projection.proofs.put_row_id.Tie as tie
-
-id-of-requires : tie.Need-id-of-requires
-id-of-requires c κs = search needs
-
-slice-aggregate-put-bytes : tie.Need-slice-aggregate-put-bytes
-slice-aggregate-put-bytes c = search needs
-
-put-bytes-requires : tie.Need-put-bytes-requires
-put-bytes-requires c κs = search needs
-
-put-id-requires : tie.Need-put-id-requires
-put-id-requires c κs = search needs
-
-same-length : tie.Need-same-length
-same-length c = search needs
 
 returns : tie.Need-returns
 returns c =
@@ -37,10 +22,10 @@ pub put-row-id-spec : {M : Type 1} → statement M
 put-row-id-spec =
     tie.close
     (tie.spec
-    id-of-requires
-    slice-aggregate-put-bytes
-    put-bytes-requires
-    put-id-requires
-    same-length
+    (λ c κs. search needs)
+    (λ c. search needs)
+    (λ c κs. search needs)
+    (λ c κs. search needs)
+    (λ c. search needs)
     returns
     returns-2)

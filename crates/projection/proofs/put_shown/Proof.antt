@@ -1,19 +1,10 @@
 -- `projection::put_shown` meets its contract. Assumes nothing.
 use native.Mathlib.Omega.{arith}
-use Rattle.answer.proofs.Putting.{put-nothing, put-then, put-is}
+use Rattle.json_writer.proofs.Putting.{put-nothing, put-then, put-is}
 use Rattle.projection.proofs.Columns.{shown-yes, shown-no}
 use borrow.Author.Needs.{needs}
 use Rattle.projection.proofs.put_shown.Statement.{statement}
 use Rattle.projection.proofs.put_shown.Tie as tie
-
-put-comma-requires : tie.Need-put-comma-requires
-put-comma-requires c κs = search needs
-
-put-column-requires : tie.Need-put-column-requires
-put-column-requires c κs = search needs
-
-same-length : tie.Need-same-length
-same-length c = search needs
 
 returns : tie.Need-returns
 returns c = put-is (put-then (c .before .before .before .before .before .before .put-comma .ensures) (c .before .before .put-column .ensures)) (shown-yes (c .before .before .before .before .before .before .before .before .before .before .args .show) (c .before .before .before .before .before .before .before .before .before .before .args .first) _ (c .before .before .before .before .before .before .before .before .if1 .taken)) (omega arith)
@@ -23,4 +14,4 @@ returns-2 c = put-is (put-nothing (c .before .before .args .out .now) (c .before
 
 pub put-shown-spec : {M : Type 1} → statement M
 put-shown-spec =
-    tie.close (tie.spec put-comma-requires put-column-requires same-length returns returns-2)
+    tie.close (tie.spec (λ c κs. search needs) (λ c κs. search needs) (λ c. search needs) returns returns-2)

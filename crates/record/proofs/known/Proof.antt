@@ -9,9 +9,6 @@ use Rattle.record.proofs.known.Tie as tie
 returns : tie.Need-returns
 returns c = sym (known-past _ _ _ (c .if1 .taken))
 
-is-nil-requires : tie.Need-is-nil-requires
-is-nil-requires c κs = search needs
-
 returns-2 : tie.Need-returns-2
 returns-2 c =
     let k = c .before .before in
@@ -19,4 +16,4 @@ returns-2 c =
     ap not (c .is-nil .ensures) ∙ sym (known-id (s .args .tables) (s .args .table) (s .args .id .now) (c .before .if1 .left) (s .pre) (λ i. k .shared-slice-known .given i .fits))
 
 pub known-spec : {M : Type 1} → statement M
-known-spec = tie.close (tie.spec returns is-nil-requires returns-2)
+known-spec = tie.close (tie.spec returns (λ c κs. search needs) returns-2)

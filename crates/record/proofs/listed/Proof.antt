@@ -8,59 +8,20 @@ use Rattle.record.proofs.Listings.{known-table, born-listed, gone-liste
 use Rattle.record.proofs.listed.Statement.{statement}
 use Rattle.record.proofs.listed.Tie as tie
 
-enum-known-arrival : tie.Need-enum-known-arrival
-enum-known-arrival c = search needs
-
-sub-known : tie.Need-sub-known
-sub-known c = search needs
-
-part-known-start : tie.Need-part-known-start
-part-known-start c = search needs
-
 part-known-end : tie.Need-part-known-end
 part-known-end c =
     let s = c .before .before .before .before .before in
     omega (arith, born-size (s .args .arrival) (length (s .args .bytes .now)) (s .pre) _ (c .before .arrival .given .1))
-
-known-requires : tie.Need-known-requires
-known-requires c κs = search needs
-
-enum-known-arrival-2 : tie.Need-enum-known-arrival-2
-enum-known-arrival-2 c = search needs
-
-sub-known-2 : tie.Need-sub-known-2
-sub-known-2 c = search needs
-
-part-known-start-2 : tie.Need-part-known-start-2
-part-known-start-2 c = search needs
 
 part-known-end-2 : tie.Need-part-known-end-2
 part-known-end-2 c =
     let s = c .before .before .before .before .before in
     omega (arith, gone-size (s .args .arrival) (length (s .args .bytes .now)) (s .pre) _ (c .before .arrival2 .given .1))
 
-known-requires-2 : tie.Need-known-requires-2
-known-requires-2 c κs = search needs
-
-enum-known-arrival-3 : tie.Need-enum-known-arrival-3
-enum-known-arrival-3 c = search needs
-
-cast-table : tie.Need-cast-table
-cast-table c = search needs
-
-sub-known-3 : tie.Need-sub-known-3
-sub-known-3 c = search needs
-
-part-known-start-3 : tie.Need-part-known-start-3
-part-known-start-3 c = search needs
-
 part-known-end-3 : tie.Need-part-known-end-3
 part-known-end-3 c =
     let s = c .before .before .before .before .before .before in
     omega (arith, column-size (s .args .arrival) (length (s .args .bytes .now)) (s .pre) _ (c .before .before .arrival3 .given .1))
-
-known-requires-3 : tie.Need-known-requires-3
-known-requires-3 c κs = search needs
 
 shared-slice-read-result : tie.Need-shared-slice-read-result
 shared-slice-read-result c = known-table _ _ _ (sym (c .before .before .known3 .ensures) ∙ c .before .if1 .taken)
@@ -70,15 +31,6 @@ returns c =
     let k = c .before .before .before in
     let e = k .before .before .before .before in
     column-listed _ _ _ _ true (e .arrival3 .given .1) (sym (c .before .before .if1 .taken) ∙ k .known3 .ensures)
-
-enum-told : tie.Need-enum-told
-enum-told c = search needs
-
-enum-told-2 : tie.Need-enum-told-2
-enum-told-2 c = search needs
-
-enum-told-3 : tie.Need-enum-told-3
-enum-told-3 c = search needs
 
 returns-2 : tie.Need-returns-2
 returns-2 c = born-listed _ _ _ _ _ (c .before .before .before .arrival .given .1) (c .known .ensures)
@@ -104,27 +56,27 @@ pub listed-spec : {M : Type 1} → statement M
 listed-spec =
     tie.close
     (tie.spec
-    enum-known-arrival
-    sub-known
-    part-known-start
+    (λ c. search needs)
+    (λ c. search needs)
+    (λ c. search needs)
     part-known-end
-    known-requires
-    enum-known-arrival-2
-    sub-known-2
-    part-known-start-2
+    (λ c κs. search needs)
+    (λ c. search needs)
+    (λ c. search needs)
+    (λ c. search needs)
     part-known-end-2
-    known-requires-2
-    enum-known-arrival-3
-    cast-table
-    sub-known-3
-    part-known-start-3
+    (λ c κs. search needs)
+    (λ c. search needs)
+    (λ c. search needs)
+    (λ c. search needs)
+    (λ c. search needs)
     part-known-end-3
-    known-requires-3
+    (λ c κs. search needs)
     shared-slice-read-result
     returns
-    enum-told
-    enum-told-2
-    enum-told-3
+    (λ c. search needs)
+    (λ c. search needs)
+    (λ c. search needs)
     returns-2
     returns-3
     returns-4

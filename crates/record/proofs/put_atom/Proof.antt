@@ -8,12 +8,6 @@ use borrow.Author.Needs.{needs}
 use Rattle.record.proofs.put_atom.Statement.{statement}
 use Rattle.record.proofs.put_atom.Tie as tie
 
-put-bytes-requires : tie.Need-put-bytes-requires
-put-bytes-requires c κs = search needs
-
-same-length : tie.Need-same-length
-same-length c = search needs
-
 returns : tie.Need-returns
 returns c =
     let s = c .before .before .before .before .before .before in
@@ -21,4 +15,4 @@ returns c =
     (l, c .before .before .put-bytes .ensures ∙ ap (λ (n : ℕ). s .args .atom .now ++ drop n (s .args .out .now)) l)
 
 pub put-atom-spec : {M : Type 1} → statement M
-put-atom-spec = tie.close (tie.spec put-bytes-requires same-length returns)
+put-atom-spec = tie.close (tie.spec (λ c κs. search needs) (λ c. search needs) returns)

@@ -10,60 +10,6 @@ use Rattle.record.proofs.Laws.{flat-four}
 use Rattle.record.proofs.put_atoms.Statement.{statement}
 use Rattle.record.proofs.put_atoms.Tie as tie
 
-shared-slice-element-put-atom : tie.Need-shared-slice-element-put-atom
-shared-slice-element-put-atom c = search needs
-
-put-atom-requires : tie.Need-put-atom-requires
-put-atom-requires c κs = search needs
-
-sub-put-atom : tie.Need-sub-put-atom
-sub-put-atom c = search needs
-
-part-put-atom-start : tie.Need-part-put-atom-start
-part-put-atom-start c = search needs
-
-part-put-atom-end : tie.Need-part-put-atom-end
-part-put-atom-end c = search needs
-
-shared-slice-element-put-atom-2 : tie.Need-shared-slice-element-put-atom-2
-shared-slice-element-put-atom-2 c = search needs
-
-put-atom-requires-2 : tie.Need-put-atom-requires-2
-put-atom-requires-2 c κs = search needs
-
-sub-put-atom-2 : tie.Need-sub-put-atom-2
-sub-put-atom-2 c = search needs
-
-part-put-atom-start-2 : tie.Need-part-put-atom-start-2
-part-put-atom-start-2 c = search needs
-
-part-put-atom-end-2 : tie.Need-part-put-atom-end-2
-part-put-atom-end-2 c = search needs
-
-shared-slice-element-put-atom-3 : tie.Need-shared-slice-element-put-atom-3
-shared-slice-element-put-atom-3 c = search needs
-
-put-atom-requires-3 : tie.Need-put-atom-requires-3
-put-atom-requires-3 c κs = search needs
-
-sub-put-atom-3 : tie.Need-sub-put-atom-3
-sub-put-atom-3 c = search needs
-
-part-put-atom-start-3 : tie.Need-part-put-atom-start-3
-part-put-atom-start-3 c = search needs
-
-part-put-atom-end-3 : tie.Need-part-put-atom-end-3
-part-put-atom-end-3 c = search needs
-
-shared-slice-element-put-atom-4 : tie.Need-shared-slice-element-put-atom-4
-shared-slice-element-put-atom-4 c = search needs
-
-put-atom-requires-4 : tie.Need-put-atom-requires-4
-put-atom-requires-4 c κs = search needs
-
-same-length : tie.Need-same-length
-same-length c = search needs
-
 returns : tie.Need-returns
 returns c =
     let p3 = c .before .before in
@@ -89,22 +35,22 @@ pub put-atoms-spec : {M : Type 1} → statement M
 put-atoms-spec =
     tie.close
     (tie.spec
-    shared-slice-element-put-atom
-    put-atom-requires
-    sub-put-atom
-    part-put-atom-start
-    part-put-atom-end
-    shared-slice-element-put-atom-2
-    put-atom-requires-2
-    sub-put-atom-2
-    part-put-atom-start-2
-    part-put-atom-end-2
-    shared-slice-element-put-atom-3
-    put-atom-requires-3
-    sub-put-atom-3
-    part-put-atom-start-3
-    part-put-atom-end-3
-    shared-slice-element-put-atom-4
-    put-atom-requires-4
-    same-length
+    (λ c. search needs)
+    (λ c κs. search needs)
+    (λ c. search needs)
+    (λ c. search needs)
+    (λ c. search needs)
+    (λ c. search needs)
+    (λ c κs. search needs)
+    (λ c. search needs)
+    (λ c. search needs)
+    (λ c. search needs)
+    (λ c. search needs)
+    (λ c κs. search needs)
+    (λ c. search needs)
+    (λ c. search needs)
+    (λ c. search needs)
+    (λ c. search needs)
+    (λ c κs. search needs)
+    (λ c. search needs)
     returns)

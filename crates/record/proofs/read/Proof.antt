@@ -29,12 +29,6 @@ fits k c e = sized c ∙ ap recordBytes e
 returns : tie.Need-returns
 returns c = none-read (c .before .before .args .bytes .now) (c .if1 .taken)
 
-shared-slice-read-kind : tie.Need-shared-slice-read-kind
-shared-slice-read-kind c = search needs
-
-len-of-requires : tie.Need-len-of-requires
-len-of-requires c κs = search needs
-
 returns-2 : tie.Need-returns-2
 returns-2 c =
     let s = c .before .before .before .before .before in
@@ -50,9 +44,6 @@ four-requires-2 c κs = let n = nine (c .before) in omega arith
 shared-slice-read-new : tie.Need-shared-slice-read-new
 shared-slice-read-new c = omega (arith, fits 1 (c .before .before .before .before) (c .before .if3 .taken))
 
-new-requires : tie.Need-new-requires
-new-requires c κs = search needs
-
 returns-3 : tie.Need-returns-3
 returns-3 c =
     let f = c .before .before .before in
@@ -60,9 +51,6 @@ returns-3 c =
 
 shared-slice-read-new-2 : tie.Need-shared-slice-read-new-2
 shared-slice-read-new-2 c = omega (arith, fits 2 (c .before .before .before .before .before) (c .before .if4 .taken))
-
-new-requires-2 : tie.Need-new-requires-2
-new-requires-2 c κs = search needs
 
 returns-4 : tie.Need-returns-4
 returns-4 c =
@@ -78,25 +66,16 @@ shared-slice-read-new-4 c = omega (arith, fits 3 (c .before .before .before .bef
 shared-slice-read-new-5 : tie.Need-shared-slice-read-new-5
 shared-slice-read-new-5 c = omega (arith, fits 3 (c .before .before .before .before .before .before .before .before) (c .before .before .before .if5 .taken))
 
-new-requires-3 : tie.Need-new-requires-3
-new-requires-3 c κs = search needs
-
 returns-5 : tie.Need-returns-5
 returns-5 c =
     let t = c .before .before .before .before in
     let f = t .before .before .before in
     column-read _ _ _ _ (t .if5 .taken) (fits 3 (f .before .before) (t .if5 .taken)) (f .before .four .ensures) (f .four2 .ensures) (c .new3 .ensures)
 
-new-requires-4 : tie.Need-new-requires-4
-new-requires-4 c κs = search needs
-
 returns-6 : tie.Need-returns-6
 returns-6 c =
     let f = c .before .before .before .before .before in
     end-read _ _ _ _ (c .before .if6 .taken) (fits 4 (f .before .before) (c .before .if6 .taken)) (f .before .four .ensures) (f .four2 .ensures) (c .new4 .ensures)
-
-new-requires-5 : tie.Need-new-requires-5
-new-requires-5 c κs = search needs
 
 returns-7 : tie.Need-returns-7
 returns-7 c =
@@ -109,23 +88,23 @@ read-spec =
     tie.close
     (tie.spec
     returns
-    shared-slice-read-kind
-    len-of-requires
+    (λ c. search needs)
+    (λ c κs. search needs)
     returns-2
     four-requires
     four-requires-2
     shared-slice-read-new
-    new-requires
+    (λ c κs. search needs)
     returns-3
     shared-slice-read-new-2
-    new-requires-2
+    (λ c κs. search needs)
     returns-4
     shared-slice-read-new-3
     shared-slice-read-new-4
     shared-slice-read-new-5
-    new-requires-3
+    (λ c κs. search needs)
     returns-5
-    new-requires-4
+    (λ c κs. search needs)
     returns-6
-    new-requires-5
+    (λ c κs. search needs)
     returns-7)

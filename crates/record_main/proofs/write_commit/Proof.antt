@@ -14,60 +14,6 @@ use Rattle.record.proofs.Laws.{wrote-as}
 use Rattle.record_main.proofs.write_commit.Statement.{statement}
 use Rattle.record_main.proofs.write_commit.Tie as tie
 
-new-requires : tie.Need-new-requires
-new-requires c κs = search needs
-
-sub-write : tie.Need-sub-write
-sub-write c = search needs
-
-part-write-start : tie.Need-part-write-start
-part-write-start c = search needs
-
-part-write-end : tie.Need-part-write-end
-part-write-end c = search needs
-
-write-requires : tie.Need-write-requires
-write-requires c κs = search needs
-
-add-at : tie.Need-add-at
-add-at c = search needs
-
-new-requires-2 : tie.Need-new-requires-2
-new-requires-2 c κs = search needs
-
-sub-write-2 : tie.Need-sub-write-2
-sub-write-2 c = search needs
-
-part-write-start-2 : tie.Need-part-write-start-2
-part-write-start-2 c = search needs
-
-part-write-end-2 : tie.Need-part-write-end-2
-part-write-end-2 c = search needs
-
-write-requires-2 : tie.Need-write-requires-2
-write-requires-2 c κs = search needs
-
-add-at-2 : tie.Need-add-at-2
-add-at-2 c = search needs
-
-new-requires-3 : tie.Need-new-requires-3
-new-requires-3 c κs = search needs
-
-sub-write-3 : tie.Need-sub-write-3
-sub-write-3 c = search needs
-
-part-write-start-3 : tie.Need-part-write-start-3
-part-write-start-3 c = search needs
-
-part-write-end-3 : tie.Need-part-write-end-3
-part-write-end-3 c = search needs
-
-write-requires-3 : tie.Need-write-requires-3
-write-requires-3 c κs = search needs
-
-same-length : tie.Need-same-length
-same-length c = search needs
-
 returns : tie.Need-returns
 returns c =
     let p3 = c .before .before in
@@ -92,22 +38,22 @@ pub write-commit-spec : {M : Type 1} → statement M
 write-commit-spec =
     tie.close
     (tie.spec
-    new-requires
-    sub-write
-    part-write-start
-    part-write-end
-    write-requires
-    add-at
-    new-requires-2
-    sub-write-2
-    part-write-start-2
-    part-write-end-2
-    write-requires-2
-    add-at-2
-    new-requires-3
-    sub-write-3
-    part-write-start-3
-    part-write-end-3
-    write-requires-3
-    same-length
+    (λ c κs. search needs)
+    (λ c. search needs)
+    (λ c. search needs)
+    (λ c. search needs)
+    (λ c κs. search needs)
+    (λ c. search needs)
+    (λ c κs. search needs)
+    (λ c. search needs)
+    (λ c. search needs)
+    (λ c. search needs)
+    (λ c κs. search needs)
+    (λ c. search needs)
+    (λ c κs. search needs)
+    (λ c. search needs)
+    (λ c. search needs)
+    (λ c. search needs)
+    (λ c κs. search needs)
+    (λ c. search needs)
     returns)

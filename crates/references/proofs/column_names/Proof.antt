@@ -8,32 +8,14 @@ use Rattle.model.specs.Base.{any}
 use Rattle.model.specs.Value.{elements}
 use Rattle.model.specs.Commit.{keysOf}
 use Rattle.inner.specs.Working.{keyIn, valueIn}
-use Rattle.references.specs.Links.{told}
+use Rattle.references.specs.Links.{targetTable}
 use Rattle.references.proofs.Links.{elements-few}
 use borrow.Author.Needs.{needs}
 use Rattle.references.proofs.column_names.Statement.{statement}
 use Rattle.references.proofs.column_names.Tie as tie
 
-enum-known-to : tie.Need-enum-known-to
-enum-known-to c = search needs
-
-atoms-in-requires : tie.Need-atoms-in-requires
-atoms-in-requires c κs = search needs
-
-count-of-requires : tie.Need-count-of-requires
-count-of-requires c κs = search needs
-
-size-requires : tie.Need-size-requires
-size-requires c κs = search needs
-
-one-names-requires : tie.Need-one-names-requires
-one-names-requires c κs = search needs
-
-enum-told : tie.Need-enum-told
-enum-told c = search needs
-
 returns : tie.Need-returns
-unfolding told
+unfolding targetTable
 returns c =
     let s = c .before .before .before .before .before .before .before in
     let a = s .args in
@@ -43,23 +25,23 @@ returns c =
     let n : c .before .size .result ≡ min (v .count) 4 = c .before .size .ensures ∙ ap (λ (k : ℕ). min k 4) (c .before .before .count-of .ensures) in
     c .one-names .ensures
     ∙ ap (λ (l : List (List ℕ)). any (eqb (keyIn (a .other .now))) (keysOf (some t) l)) (elements-few v (c .before .before .before .atoms-in .result .now) (c .before .size .result) (p .0) (p .1) n)
-    ∙ ap (λ (o : Option ℕ). any (eqb (keyIn (a .other .now))) (keysOf o (elements v))) (sym (ap told (c .before .before .before .before .before .to .given .1)))
+    ∙ ap (λ (o : Option ℕ). any (eqb (keyIn (a .other .now))) (keysOf o (elements v))) (sym (ap targetTable (c .before .before .before .before .before .to .given .1)))
 
 returns-2 : tie.Need-returns-2
-unfolding told
+unfolding targetTable
 returns-2 c =
     let a = c .before .before .args in
-    ap (λ (o : Option ℕ). any (eqb (keyIn (a .other .now))) (keysOf o (elements (valueIn (a .c) (a .row .now))))) (sym (ap told (c .enum-told .given .1)))
+    ap (λ (o : Option ℕ). any (eqb (keyIn (a .other .now))) (keysOf o (elements (valueIn (a .c) (a .row .now))))) (sym (ap targetTable (c .enum-told .given .1)))
 
 pub column-names-spec : {M : Type 1} → statement M
 column-names-spec =
     tie.close
     (tie.spec
-    enum-known-to
-    atoms-in-requires
-    count-of-requires
-    size-requires
-    one-names-requires
-    enum-told
+    (λ c. search needs)
+    (λ c κs. search needs)
+    (λ c κs. search needs)
+    (λ c κs. search needs)
+    (λ c κs. search needs)
+    (λ c. search needs)
     returns
     returns-2)

@@ -10,21 +10,6 @@ use borrow.Author.Needs.{needs}
 use Rattle.references.proofs.is_named.Statement.{statement}
 use Rattle.references.proofs.is_named.Tie as tie
 
-sub-same-keys : tie.Need-sub-same-keys
-sub-same-keys c = search needs
-
-part-same-keys-start : tie.Need-part-same-keys-start
-part-same-keys-start c = search needs
-
-part-same-keys-end : tie.Need-part-same-keys-end
-part-same-keys-end c = search needs
-
-key-of-requires : tie.Need-key-of-requires
-key-of-requires c κs = search needs
-
-same-keys-requires : tie.Need-same-keys-requires
-same-keys-requires c κs = search needs
-
 returns : tie.Need-returns
 returns c =
     let s = c .before .before .before .before in
@@ -35,9 +20,9 @@ pub is-named-spec : {M : Type 1} → statement M
 is-named-spec =
     tie.close
     (tie.spec
-    sub-same-keys
-    part-same-keys-start
-    part-same-keys-end
-    key-of-requires
-    same-keys-requires
+    (λ c. search needs)
+    (λ c. search needs)
+    (λ c. search needs)
+    (λ c κs. search needs)
+    (λ c κs. search needs)
     returns)

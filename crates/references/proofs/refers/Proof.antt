@@ -12,24 +12,12 @@ use borrow.Author.Needs.{needs}
 use Rattle.references.proofs.refers.Statement.{statement}
 use Rattle.references.proofs.refers.Tie as tie
 
-wide-requires : tie.Need-wide-requires
-wide-requires c κs = search needs
-
 column-requires : tie.Need-column-requires
 column-requires c κs =
     let s = c .before in
     let cells = s .args .schema .now in
     let t = s .args .table in
     (omega (arith, few-tables cells (s .pre .0), has-columns cells (s .pre .0) t (s .args .c) (s .pre .1), c .wide .ensures), omega (arith, few-columns cells (s .pre .0) t, s .pre .1))
-
-refers-requires : tie.Need-refers-requires
-refers-requires c κs = search needs
-
-target-requires : tie.Need-target-requires
-target-requires c κs = search needs
-
-picked-requires : tie.Need-picked-requires
-picked-requires c κs = search needs
 
 returns : tie.Need-returns
 unfolding refersAt
@@ -45,9 +33,9 @@ pub refers-spec : {M : Type 1} → statement M
 refers-spec =
     tie.close
     (tie.spec
-    wide-requires
+    (λ c κs. search needs)
     column-requires
-    refers-requires
-    target-requires
-    picked-requires
+    (λ c κs. search needs)
+    (λ c κs. search needs)
+    (λ c κs. search needs)
     returns)

@@ -11,9 +11,9 @@ use Rattle.model.specs.Commit.{strongly, strongOf}
 use Rattle.model.specs.Areas.{rowFrom}
 use Rattle.model.specs.Catalog.{packedTables}
 use Rattle.inner.specs.Working.{keyIn, tableIn}
-use Rattle.references.specs.Links.{pick, told}
+use Rattle.references.specs.Links.{pick, targetTable}
 use Rattle.references.proofs.Packs.{few-columns}
-use Rattle.references.proofs.Links.{restOf, here, rest-all, rest-end, any-rest-here, any-rest-on, here-told}
+use Rattle.references.proofs.Links.{restOf, here, rest-all, rest-end, any-rest-here, any-rest-on, here-target}
 use Rattle.references.proofs.refers_to.Statement.{statement}
 use Rattle.references.proofs.refers_to.Tie as tie
 
@@ -62,7 +62,7 @@ module _ (c : tie.After-column-names Inv-loop μ-loop) where
   step : any (eqb (keyIn (start .args .other .now))) (here (pick 1) (start .args .schema .now) (start .args .row .now) at) ≡ c .column-names .result
   step =
       sym (c .column-names .ensures
-      ∙ ap (any (eqb (keyIn (start .args .other .now)))) (here-told (start .args .schema .now) (start .args .row .now) 1 (c .before .before .before .before .before .table-of .result) at table (told (c .before .refers .result)) (c .before .refers .ensures)))
+      ∙ ap (any (eqb (keyIn (start .args .other .now)))) (here-target (start .args .schema .now) (start .args .row .now) 1 (c .before .before .before .before .before .table-of .result) at table (targetTable (c .before .refers .result)) (c .before .refers .ensures)))
 
 returns : tie.Need-returns Inv-loop μ-loop
 returns c =

@@ -13,9 +13,9 @@ use Rattle.model.specs.Schema.{columnsOf}
 use Rattle.model.specs.Areas.{rowFrom}
 use Rattle.model.specs.Catalog.{packedTables}
 use Rattle.inner.specs.Working.{working, tableIn}
-use Rattle.references.specs.Links.{pick, told, referred}
+use Rattle.references.specs.Links.{pick, targetTable, referred}
 use Rattle.references.proofs.Packs.{few-columns}
-use Rattle.references.proofs.Links.{restOf, here, rest-all, rest-end, all-rest-here, all-rest-on, here-told}
+use Rattle.references.proofs.Links.{restOf, here, rest-all, rest-end, all-rest-here, all-rest-on, here-target}
 use Rattle.references.proofs.row_found.Statement.{statement}
 use Rattle.references.proofs.row_found.Tie as tie
 
@@ -68,7 +68,7 @@ module _ (c : tie.After-column-found Inv-loop μ-loop) where
   step : all (found (start .args .schema .now) (start .args .n) (start .args .rows .now)) (here (pick (start .args .how)) (start .args .schema .now) (start .args .row .now) at) ≡ c .column-found .result
   step =
       sym (c .column-found .ensures (packedTables (start .args .schema .now))
-      ∙ ap (all (found (start .args .schema .now) (start .args .n) (start .args .rows .now))) (here-told (start .args .schema .now) (start .args .row .now) (start .args .how) (c .before .before .before .before .before .table-of .result) at table (told (c .before .refers .result)) (c .before .refers .ensures)))
+      ∙ ap (all (found (start .args .schema .now) (start .args .n) (start .args .rows .now))) (here-target (start .args .schema .now) (start .args .row .now) (start .args .how) (c .before .before .before .before .before .table-of .result) at table (targetTable (c .before .refers .result)) (c .before .refers .ensures)))
 
 returns : tie.Need-returns Inv-loop μ-loop
 returns c =

@@ -11,36 +11,15 @@ use borrow.Author.Needs.{needs}
 use Rattle.references.proofs.width.Statement.{statement}
 use Rattle.references.proofs.width.Tie as tie
 
-index-1-table-count : tie.Need-index-1-table-count
-index-1-table-count c = search needs
-
-table-count-requires : tie.Need-table-count-requires
-table-count-requires c κs = search needs
-
 returns : tie.Need-returns
 returns c =
     let s = c .before .before .before in
     sym (ap length (columns-out (s .args .schema .now) (s .args .table) (omega (arith, c .before .table-count .ensures, c .if1 .taken))))
 
-wide-requires : tie.Need-wide-requires
-wide-requires c κs = search needs
-
-add-width : tie.Need-add-width
-add-width c = search needs
-
-mul-width : tie.Need-mul-width
-mul-width c = search needs
-
 index-1-width : tie.Need-index-1-width
 index-1-width c =
     let s = c .before .before .before .before in
     omega (arith, few-tables (s .args .schema .now) (s .pre), c .before .before .table-count .ensures, c .before .if1 .left, c .wide .ensures)
-
-width-requires : tie.Need-width-requires
-width-requires c κs = search needs
-
-wide-requires-2 : tie.Need-wide-requires-2
-wide-requires-2 c κs = search needs
 
 -- what the bytes say, and what the table has
 module _ (c : tie.After-wide2) where
@@ -64,13 +43,13 @@ pub width-spec : {M : Type 1} → statement M
 width-spec =
     tie.close
     (tie.spec
-    index-1-table-count
-    table-count-requires
+    (λ c. search needs)
+    (λ c κs. search needs)
     returns
-    wide-requires
-    add-width
-    mul-width
+    (λ c κs. search needs)
+    (λ c. search needs)
+    (λ c. search needs)
     index-1-width
-    width-requires
-    wide-requires-2
+    (λ c κs. search needs)
+    (λ c κs. search needs)
     returns-2)

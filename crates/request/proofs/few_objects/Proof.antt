@@ -2,10 +2,9 @@
 use Prim.Native.Nat.{_≤_}
 use mathlib.Core.Path.{refl, sym, ap, _∙_}
 use native.Mathlib.Omega.{arith}
-use lib.ListN.{length}
 use Rattle.inner.specs.Positions.{itemsFrom, left}
 use Rattle.model.specs.Nav.{isObject}
-use Rattle.nav.proofs.Walk.{walk-less, walk-fine}
+use Rattle.nav.proofs.Walk.{walk-less}
 use Rattle.indexes.proofs.Judged.{Passed, passed-end, passed-more, passed-bad, passed-on}
 use Rattle.request.proofs.Objects.{object, few-many, few-bad, few-end}
 use borrow.Author.Needs.{needs}
@@ -21,21 +20,12 @@ abbrev μ-loop : tie.MeasureT-loop
 loop-holds : tie.Need-loop-holds Inv-loop μ-loop
 loop-holds c = (omega arith, record { size = omega arith; rest = refl; fine = c .before .before .pre .1 })
 
-enum-known-g : tie.Need-enum-known-g Inv-loop μ-loop
-enum-known-g c = search needs
-
 returns : tie.Need-returns Inv-loop μ-loop
 returns c =
     let g = c .before .before in
     let l = g .before .before in
     let a = l .before .before .before .args in
-    few-many (itemsFrom (a .text .now) (a .f)) (omega (arith, passed-more (a .text .now) object (l .loop .inv .1) (g .g .given .1), c .if1 .taken))
-
-kind-at-requires : tie.Need-kind-at-requires Inv-loop μ-loop
-kind-at-requires c κs = tt
-
-is-kind-requires : tie.Need-is-kind-requires Inv-loop μ-loop
-is-kind-requires c κs = tt
+    few-many (itemsFrom (a .text .now) (a .f)) (omega (arith, passed-more (l .loop .inv .1) (g .g .given .1), c .if1 .taken))
 
 add-n : tie.Need-add-n Inv-loop μ-loop
 add-n c = omega (arith, c .before .before .before .if1 .left)
@@ -52,10 +42,8 @@ loop-again : tie.Need-loop-again Inv-loop μ-loop
 loop-again c =
     let o = c .before .before in
     let g = o .before .before .before .before in
-    let l = g .before .before in
-    let a = l .before .before .before .args in
     let e = sym (o .is-kind .ensures ∙ ap isObject (o .before .kind-at .ensures)) ∙ c .before .if2 .taken in
-    (omega (arith, o .before .before .if1 .left), passed-on (a .text .now) object (l .loop .inv .1) (g .g .given .1) e refl (c .next-item .ensures))
+    (omega (arith, o .before .before .if1 .left), passed-on (g .before .before .loop .inv .1) (g .g .given .1) e refl (c .next-item .ensures))
 
 returns-2 : tie.Need-returns-2 Inv-loop μ-loop
 returns-2 c =
@@ -64,16 +52,13 @@ returns-2 c =
     let l = g .before .before in
     let a = l .before .before .before .args in
     let e = sym (o .is-kind .ensures ∙ ap isObject (o .before .kind-at .ensures)) ∙ c .if2 .left in
-    few-bad (itemsFrom (a .text .now) (a .f)) (passed-bad (a .text .now) object (l .loop .inv .1) (g .g .given .1) e)
-
-enum-told : tie.Need-enum-told Inv-loop μ-loop
-enum-told c = search needs
+    few-bad (itemsFrom (a .text .now) (a .f)) (passed-bad (l .loop .inv .1) (g .g .given .1) e)
 
 returns-3 : tie.Need-returns-3 Inv-loop μ-loop
 returns-3 c =
     let l = c .before .before in
     let a = l .before .before .before .args in
-    few-end (itemsFrom (a .text .now) (a .f)) (l .loop .inv .0) (passed-end (a .text .now) object (l .loop .inv .1) (c .enum-told .given .1))
+    few-end (itemsFrom (a .text .now) (a .f)) (l .loop .inv .0) (passed-end (l .loop .inv .1) (c .enum-told .given .1))
 
 pub few-objects-spec : {M : Type 1} → statement M
 few-objects-spec =
@@ -82,14 +67,14 @@ few-objects-spec =
     Inv-loop
     μ-loop
     loop-holds
-    enum-known-g
+    (λ c. search needs)
     returns
-    kind-at-requires
-    is-kind-requires
+    (λ c κs. tt)
+    (λ c κs. tt)
     add-n
     next-item-requires
     loop-less
     loop-again
     returns-2
-    enum-told
+    (λ c. search needs)
     returns-3)

@@ -20,21 +20,9 @@ use Rattle.request.proofs.few_objects.Reads as few-objects-reads
 use Rattle.request.proofs.refused.Reads as refused-reads
 
 -- src/lib.rt:65:9
-first-requires : tie.Need-first-requires
-first-requires c κs = search needs
-
 -- src/lib.rt:66:19
-enum-known-f : tie.Need-enum-known-f
-enum-known-f c = search needs
-
 -- src/lib.rt:67:9
-enum-told : tie.Need-enum-told
-enum-told c = search needs
-
 -- src/lib.rt:67:9
-refused-requires : tie.Need-refused-requires
-refused-requires c κs = search needs
-
 -- src/lib.rt:67:9
 returns : tie.Need-returns
 returns c =
@@ -42,17 +30,8 @@ returns c =
     parted-none (a .args .text .now) (sym (c .before .before .before .first .ensures) ∙ c .before .enum-told .given .1) (a .pre .1) (c .refused .result) (c .refused .ensures)
 
 -- src/lib.rt:69:9
-kind-at-requires : tie.Need-kind-at-requires
-kind-at-requires c κs = search needs
-
 -- src/lib.rt:70:9
-is-kind-requires : tie.Need-is-kind-requires
-is-kind-requires c κs = search needs
-
 -- src/lib.rt:71:9
-next-item-requires : tie.Need-next-item-requires
-next-item-requires c κs = search needs
-
 -- src/lib.rt:72:9
 few-objects-requires : tie.Need-few-objects-requires
 few-objects-requires c κs =
@@ -73,13 +52,13 @@ pub parts-spec : {M : Type 1} → statement M
 parts-spec =
     tie.close
     (tie.spec
-    first-requires
-    enum-known-f
-    enum-told
-    refused-requires
+    (λ c κs. search needs)
+    (λ c. search needs)
+    (λ c. search needs)
+    (λ c κs. search needs)
     returns
-    kind-at-requires
-    is-kind-requires
-    next-item-requires
+    (λ c κs. search needs)
+    (λ c κs. search needs)
+    (λ c κs. search needs)
     few-objects-requires
     returns-2)

@@ -12,21 +12,12 @@ use Rattle.request.proofs.parts.Reads as parts-reads
 use Rattle.request.proofs.refused.Reads as refused-reads
 
 -- src/lib.rt:85:9
-refused-requires : tie.Need-refused-requires
-refused-requires c κs = search needs
-
 -- src/lib.rt:85:9
 returns : tie.Need-returns
 returns c = read-too-long (c .before .before .before .before .args .text .now) _ (c .refused .result) (c .refused .ensures) (c .before .if1 .taken)
 
 -- src/lib.rt:87:9
-document-requires : tie.Need-document-requires
-document-requires c κs = search needs
-
 -- src/lib.rt:89:37
-enum-told : tie.Need-enum-told
-enum-told c = search needs
-
 -- src/lib.rt:89:25
 parts-requires : tie.Need-parts-requires
 parts-requires c κs =
@@ -34,25 +25,10 @@ parts-requires c κs =
     (d .document .ensures .1, well-end (d .before .before .before .before .before .args .text .now) (sym (d .document .ensures .0) ∙ c .before .enum-told .given .1))
 
 -- src/lib.rt:90:26
-enum-told-2 : tie.Need-enum-told-2
-enum-told-2 c = search needs
-
 -- src/lib.rt:90:26
-refused-requires-2 : tie.Need-refused-requires-2
-refused-requires-2 c κs = search needs
-
 -- src/lib.rt:91:26
-enum-told-3 : tie.Need-enum-told-3
-enum-told-3 c = search needs
-
 -- src/lib.rt:91:26
-refused-requires-3 : tie.Need-refused-requires-3
-refused-requires-3 c κs = search needs
-
 -- src/lib.rt:81:1
-same-length : tie.Need-same-length
-same-length c = search needs
-
 -- src/lib.rt:81:1
 returns-2 : tie.Need-returns-2
 returns-2 c =
@@ -60,9 +36,6 @@ returns-2 c =
     read-end (d .before .before .before .before .before .args .text .now) _ (c .parts .result) (omega (arith, d .before .before .if1 .left)) (sym (d .document .ensures .0) ∙ c .before .before .enum-told .given .1) (d .document .ensures .1) (c .parts .ensures)
 
 -- src/lib.rt:81:1
-same-length-2 : tie.Need-same-length-2
-same-length-2 c = search needs
-
 -- src/lib.rt:81:1
 returns-3 : tie.Need-returns-3
 returns-3 c =
@@ -70,9 +43,6 @@ returns-3 c =
     read-stop (d .before .before .before .before .before .args .text .now) _ (c .refused2 .result) (c .refused2 .ensures) (sym (d .document .ensures .0) ∙ c .before .enum-told2 .given .1)
 
 -- src/lib.rt:81:1
-same-length-3 : tie.Need-same-length-3
-same-length-3 c = search needs
-
 -- src/lib.rt:81:1
 returns-4 : tie.Need-returns-4
 returns-4 c =
@@ -83,18 +53,18 @@ pub read-spec : {M : Type 1} → statement M
 read-spec =
     tie.close
     (tie.spec
-    refused-requires
+    (λ c κs. search needs)
     returns
-    document-requires
-    enum-told
+    (λ c κs. search needs)
+    (λ c. search needs)
     parts-requires
-    enum-told-2
-    refused-requires-2
-    enum-told-3
-    refused-requires-3
-    same-length
+    (λ c. search needs)
+    (λ c κs. search needs)
+    (λ c. search needs)
+    (λ c κs. search needs)
+    (λ c. search needs)
     returns-2
-    same-length-2
+    (λ c. search needs)
     returns-3
-    same-length-3
+    (λ c. search needs)
     returns-4)

@@ -12,16 +12,10 @@ use borrow.Author.Needs.{needs}
 use Rattle.request_rows.proofs.absent_fault.Statement.{statement}
 use Rattle.request_rows.proofs.absent_fault.Tie as tie
 
-minimum-requires : tie.Need-minimum-requires
-minimum-requires c κs = search needs
-
 returns : tie.Need-returns
 returns c =
     let x = c .before .before .before .args .column .now in
     default-none (columnFrom x) (eq-eqb (getD x 28 0) 0 (sym (c .before .minimum .ensures) ∙ c .if2 .taken)) ∙ sym (ap (λ (b : Bool). absentBy b (columnFrom x)) (c .before .before .if1 .taken))
-
-within-requires : tie.Need-within-requires
-within-requires c κs = search needs
 
 returns-2 : tie.Need-returns-2
 returns-2 c =
@@ -35,9 +29,6 @@ returns-3 c =
     let x = k .before .before .before .args .column .now in
     sym (ap (λ (b : Bool). check b Constraint Fine) (c .if3 .left)) ∙ default-one (columnFrom x) (ne-eqb (getD x 28 0) 0 (λ q. k .if2 .left (k .before .minimum .ensures ∙ q))) (c .before .within .ensures) ∙ sym (ap (λ (b : Bool). absentBy b (columnFrom x)) (k .before .before .if1 .taken))
 
-returns-4 : tie.Need-returns-4
-returns-4 c = search needs
-
 pub absent-fault-spec : {M : Type 1} → statement M
 absent-fault-spec =
-    tie.close (tie.spec minimum-requires returns within-requires returns-2 returns-3 returns-4)
+    tie.close (tie.spec (λ c κs. search needs) returns (λ c κs. search needs) returns-2 returns-3 (λ c. search needs))

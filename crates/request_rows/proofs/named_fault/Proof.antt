@@ -9,12 +9,6 @@ use borrow.Author.Needs.{needs}
 use Rattle.request_rows.proofs.named_fault.Statement.{statement}
 use Rattle.request_rows.proofs.named_fault.Tie as tie
 
-returns : tie.Need-returns
-returns c = search needs
-
-is-mutable-requires : tie.Need-is-mutable-requires
-is-mutable-requires c κs = search needs
-
 returns-2 : tie.Need-returns-2
 returns-2 c =
     let x = c .before .before .before .args .column .now in
@@ -26,4 +20,4 @@ returns-3 c =
     sym (ap (λ (b : Bool). check b Constraint Fine) (sym (c .before .is-mutable .ensures) ∙ c .if2 .left)) ∙ sym (ap (λ (b : Bool). namedBy b (columnFrom x)) (c .before .before .if1 .left))
 
 pub named-fault-spec : {M : Type 1} → statement M
-named-fault-spec = tie.close (tie.spec returns is-mutable-requires returns-2 returns-3)
+named-fault-spec = tie.close (tie.spec (λ c. search needs) (λ c κs. search needs) returns-2 returns-3)

@@ -6,12 +6,6 @@ use borrow.Author.Needs.{needs}
 use Rattle.request_rows.proofs.new_row.Statement.{statement}
 use Rattle.request_rows.proofs.new_row.Tie as tie
 
-minimums-of-requires : tie.Need-minimums-of-requires
-minimums-of-requires c κs = search needs
-
-new-row-requires : tie.Need-new-row-requires
-new-row-requires c κs = search needs
-
 returns : tie.Need-returns
 returns c =
     let s = c .before .before .before in
@@ -20,4 +14,4 @@ returns c =
     record { cells = e .0 (map columnFrom cells) (few-columns cells (s .pre)) (c .before .before .minimums-of .ensures); size = e .1 }
 
 pub new-row-spec : {M : Type 1} → statement M
-new-row-spec = tie.close (tie.spec minimums-of-requires new-row-requires returns)
+new-row-spec = tie.close (tie.spec (λ c κs. search needs) (λ c κs. search needs) returns)

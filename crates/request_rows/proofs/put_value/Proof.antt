@@ -8,16 +8,10 @@ use borrow.Author.Needs.{needs}
 use Rattle.request_rows.proofs.put_value.Statement.{statement}
 use Rattle.request_rows.proofs.put_value.Tie as tie
 
-key-of-requires : tie.Need-key-of-requires
-key-of-requires c κs = search needs
-
 cast-n : tie.Need-cast-n
 cast-n c =
     let s = c .before .before .before .before .before .before .before in
     omega (arith, s .pre .1 (c .before .if1 .taken))
-
-set-column-requires : tie.Need-set-column-requires
-set-column-requires c κs = search needs
 
 returns : tie.Need-returns
 returns c =
@@ -34,4 +28,4 @@ returns-2 c =
     puts-not (a .c) (record { count = a .v .count; atoms = a .atoms .now }) (a .row .now) (a .row .now) (c .if1 .left) refl
 
 pub put-value-spec : {M : Type 1} → statement M
-put-value-spec = tie.close (tie.spec key-of-requires cast-n set-column-requires returns returns-2)
+put-value-spec = tie.close (tie.spec (λ c κs. search needs) cast-n (λ c κs. search needs) returns returns-2)

@@ -9,36 +9,12 @@ use borrow.Author.Needs.{needs}
 use Rattle.request_rows.proofs.read_column.Statement.{statement}
 use Rattle.request_rows.proofs.read_column.Tie as tie
 
-name-of-requires : tie.Need-name-of-requires
-name-of-requires c κs = search needs
-
-find-requires : tie.Need-find-requires
-find-requires c κs = search needs
-
-enum-known-f : tie.Need-enum-known-f
-enum-known-f c = search needs
-
 row-value-requires : tie.Need-row-value-requires
 row-value-requires c κs =
     let k = c .before .before .before .before in
     let s = k .before .before .before .before .before in
     let a = s .args in
     (s .pre .0, find-there (a .text .now) (membersIn (treeAt (a .text .now) (a .at))) (k .find .ensures) (k .before .name-of .ensures) (c .before .before .f .given .1) .1)
-
-put-value-requires : tie.Need-put-value-requires
-put-value-requires c κs = search needs
-
-named-fault-requires : tie.Need-named-fault-requires
-named-fault-requires c κs = search needs
-
-earlier-requires : tie.Need-earlier-requires
-earlier-requires c κs = search needs
-
-enum-told : tie.Need-enum-told
-enum-told c = search needs
-
-absent-fault-requires : tie.Need-absent-fault-requires
-absent-fault-requires c κs = search needs
 
 returns : tie.Need-returns
 returns c =
@@ -67,14 +43,14 @@ pub read-column-spec : {M : Type 1} → statement M
 read-column-spec =
     tie.close
     (tie.spec
-    name-of-requires
-    find-requires
-    enum-known-f
+    (λ c κs. search needs)
+    (λ c κs. search needs)
+    (λ c. search needs)
     row-value-requires
-    put-value-requires
-    named-fault-requires
-    earlier-requires
-    enum-told
-    absent-fault-requires
+    (λ c κs. search needs)
+    (λ c κs. search needs)
+    (λ c κs. search needs)
+    (λ c. search needs)
+    (λ c κs. search needs)
     returns
     returns-2)

@@ -4,12 +4,6 @@ use borrow.Author.Needs.{needs}
 use Rattle.request_rows.proofs.read_row.Statement.{statement}
 use Rattle.request_rows.proofs.read_row.Tie as tie
 
-known-requires : tie.Need-known-requires
-known-requires c κs = search needs
-
-read-columns-requires : tie.Need-read-columns-requires
-read-columns-requires c κs = search needs
-
 returns : tie.Need-returns
 returns c =
     let k = c .before .before .before .before in
@@ -23,4 +17,4 @@ returns-2 c =
     read-unknown (a .insert) (a .text .now) (a .names .now) (a .columns .now) (a .at) (k .known .ensures) (c .if1 .left)
 
 pub read-row-spec : {M : Type 1} → statement M
-read-row-spec = tie.close (tie.spec known-requires read-columns-requires returns returns-2)
+read-row-spec = tie.close (tie.spec (λ c κs. search needs) (λ c κs. search needs) returns returns-2)

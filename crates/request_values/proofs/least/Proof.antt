@@ -4,12 +4,6 @@ use borrow.Author.Needs.{needs}
 use Rattle.request_values.proofs.least.Statement.{statement}
 use Rattle.request_values.proofs.least.Tie as tie
 
-minimum-requires : tie.Need-minimum-requires
-minimum-requires c κs = search needs
-
-wide-requires : tie.Need-wide-requires
-wide-requires c κs = search needs
-
 returns : tie.Need-returns
 returns c = c .wide .ensures ∙ c .before .minimum .ensures
 
@@ -17,6 +11,6 @@ pub least-spec : {M : Type 1} → statement M
 least-spec =
     tie.close
     (tie.spec
-    minimum-requires
-    wide-requires
+    (λ c κs. search needs)
+    (λ c κs. search needs)
     returns)

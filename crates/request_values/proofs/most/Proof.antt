@@ -4,12 +4,6 @@ use borrow.Author.Needs.{needs}
 use Rattle.request_values.proofs.most.Statement.{statement}
 use Rattle.request_values.proofs.most.Tie as tie
 
-maximum-requires : tie.Need-maximum-requires
-maximum-requires c κs = search needs
-
-wide-requires : tie.Need-wide-requires
-wide-requires c κs = search needs
-
 returns : tie.Need-returns
 returns c = c .wide .ensures ∙ c .before .maximum .ensures
 
@@ -17,6 +11,6 @@ pub most-spec : {M : Type 1} → statement M
 most-spec =
     tie.close
     (tie.spec
-    maximum-requires
-    wide-requires
+    (λ c κs. search needs)
+    (λ c κs. search needs)
     returns)

@@ -8,36 +8,6 @@ use borrow.Author.Needs.{needs}
 use Rattle.request_values.proofs.set_count.Statement.{statement}
 use Rattle.request_values.proofs.set_count.Tie as tie
 
-least-requires : tie.Need-least-requires
-least-requires c κs = search needs
-
-most-requires : tie.Need-most-requires
-most-requires c κs = search needs
-
-enum-told : tie.Need-enum-told
-enum-told c = search needs
-
-enum-told-2 : tie.Need-enum-told-2
-enum-told-2 c = search needs
-
-enum-told-3 : tie.Need-enum-told-3
-enum-told-3 c = search needs
-
-enum-told-4 : tie.Need-enum-told-4
-enum-told-4 c = search needs
-
-enum-told-5 : tie.Need-enum-told-5
-enum-told-5 c = search needs
-
-enum-told-6 : tie.Need-enum-told-6
-enum-told-6 c = search needs
-
-enum-told-7 : tie.Need-enum-told-7
-enum-told-7 c = search needs
-
-enum-told-8 : tie.Need-enum-told-8
-enum-told-8 c = search needs
-
 returns : tie.Need-returns
 returns c = sym (ap (λ f. setCount (columnFrom (c .before .before .before .before .args .column .now)) f (c .before .before .before .before .args .n)) (c .enum-told .given .1))
 
@@ -66,16 +36,16 @@ pub set-count-spec : {M : Type 1} → statement M
 set-count-spec =
     tie.close
     (tie.spec
-    least-requires
-    most-requires
-    enum-told
-    enum-told-2
-    enum-told-3
-    enum-told-4
-    enum-told-5
-    enum-told-6
-    enum-told-7
-    enum-told-8
+    (λ c κs. search needs)
+    (λ c κs. search needs)
+    (λ c. search needs)
+    (λ c. search needs)
+    (λ c. search needs)
+    (λ c. search needs)
+    (λ c. search needs)
+    (λ c. search needs)
+    (λ c. search needs)
+    (λ c. search needs)
     returns
     returns-2
     returns-3

@@ -11,13 +11,10 @@ returns c =
     let a = c .before .args in
     sorts-one (baseNumbered (a .kind)) (a .n) (a .atoms .now) (c .if1 .taken) refl
 
-sort-requires : tie.Need-sort-requires
-sort-requires c κs = search needs
-
 returns-2 : tie.Need-returns-2
 returns-2 c =
     let a = c .before .before .before .args in
     sorts-all (baseNumbered (a .kind)) (a .n) (a .atoms .now) (c .sort .ensures)
 
 pub sort-atoms-spec : {M : Type 1} → statement M
-sort-atoms-spec = tie.close (tie.spec returns sort-requires returns-2)
+sort-atoms-spec = tie.close (tie.spec returns (λ c κs. search needs) returns-2)

@@ -9,17 +9,11 @@ use borrow.Author.Needs.{needs}
 use Rattle.request_values.proofs.test_count.Statement.{statement}
 use Rattle.request_values.proofs.test_count.Tie as tie
 
-is-scalar-requires : tie.Need-is-scalar-requires
-is-scalar-requires c κs = search needs
-
 returns : tie.Need-returns
 returns c =
     let a = c .before .before .args in
     let z = columnFrom (a .column .now) in
     sym (ap (λ (b : Bool). if b then eqb (a .n) 1 else setCount z (a .f) (a .n)) (sym (c .before .is-scalar .ensures) ∙ c .if1 .taken))
-
-set-count-requires : tie.Need-set-count-requires
-set-count-requires c κs = search needs
 
 returns-2 : tie.Need-returns-2
 returns-2 c =
@@ -31,7 +25,7 @@ pub test-count-spec : {M : Type 1} → statement M
 test-count-spec =
     tie.close
     (tie.spec
-    is-scalar-requires
+    (λ c κs. search needs)
     returns
-    set-count-requires
+    (λ c κs. search needs)
     returns-2)

@@ -4,20 +4,11 @@ use Rattle.inner.specs.Positions.{treeAt}
 use Rattle.model.specs.Catalog.{columnFrom}
 use Rattle.model.specs.Written.{testFault}
 use Rattle.uuids.specs.Named.{namesAt}
-use Rattle.request_values.proofs.Judging.{graded-is, test-is}
-use Rattle.request_values.proofs.Fits.{test-given}
+use Rattle.request_values.proofs.Judging.{first-is, test-is}
+use Rattle.request_values.proofs.Fits.{value-given}
 use borrow.Author.Needs.{needs}
 use Rattle.request_values.proofs.test_value.Statement.{statement}
 use Rattle.request_values.proofs.test_value.Tie as tie
-
-weigh-requires : tie.Need-weigh-requires
-weigh-requires c κs = search needs
-
-test-count-requires : tie.Need-test-count-requires
-test-count-requires c κs = search needs
-
-graded-requires : tie.Need-graded-requires
-graded-requires c κs = search needs
 
 returns : tie.Need-returns
 returns c =
@@ -25,10 +16,10 @@ returns c =
     let n = namesAt (a .text .now) (a .names .now) in
     let z = columnFrom (a .column .now) in
     let j = treeAt (a .text .now) (a .at) in
-    let w = c .before .before .before .before .weigh .ensures in
-    let x = c .before .before .before .before .weigh .result in
+    let w = c .before .before .before .before .inspect .ensures in
+    let x = c .before .before .before .before .inspect .result in
     let k = c .before .before .before .test-count in
-    test-given n z j w (a .f) (graded-is n (z .base) (testFault z (a .f)) j true (x .different && k .result) (x .typed) (c .before .graded .ensures) (w .typed) (test-is n z j w (a .f) (k .ensures)))
+    value-given n z j w (testFault z (a .f)) (first-is n (z .base) (testFault z (a .f)) j true (x .different && k .result) (x .typed) (c .before .first-fault .ensures) (w .typed) (test-is n z j w (a .f) (k .ensures)))
 
 pub test-value-spec : {M : Type 1} → statement M
-test-value-spec = tie.close (tie.spec weigh-requires test-count-requires graded-requires returns)
+test-value-spec = tie.close (tie.spec (λ c κs. search needs) (λ c κs. search needs) (λ c κs. search needs) returns)

@@ -12,25 +12,10 @@ use borrow.Author.Needs.{needs}
 use Rattle.row_types.proofs.atom_meets.Statement.{statement}
 use Rattle.row_types.proofs.atom_meets.Tie as tie
 
-kind-requires : tie.Need-kind-requires
-kind-requires c κs = search needs
-
-in-limits-requires : tie.Need-in-limits-requires
-in-limits-requires c κs = search needs
-
 returns : tie.Need-returns
 returns c =
     let a = c .before .before .before .args in
     c .in-limits .ensures ∙ sym (at-integer (a .entry .now) (a .a .now) (omega (arith, c .before .before .kind .ensures, c .before .if1 .taken)))
-
-text-of-requires : tie.Need-text-of-requires
-text-of-requires c κs = search needs
-
-size-of-requires : tie.Need-size-of-requires
-size-of-requires c κs = search needs
-
-in-limits-requires-2 : tie.Need-in-limits-requires-2
-in-limits-requires-2 c κs = search needs
 
 returns-2 : tie.Need-returns-2
 returns-2 c =
@@ -48,11 +33,11 @@ pub atom-meets-spec : {M : Type 1} → statement M
 atom-meets-spec =
     tie.close
     (tie.spec
-    kind-requires
-    in-limits-requires
+    (λ c κs. search needs)
+    (λ c κs. search needs)
     returns
-    text-of-requires
-    size-of-requires
-    in-limits-requires-2
+    (λ c κs. search needs)
+    (λ c κs. search needs)
+    (λ c κs. search needs)
     returns-2
     returns-3)

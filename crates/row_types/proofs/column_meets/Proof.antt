@@ -16,22 +16,10 @@ use borrow.Author.Needs.{needs}
 use Rattle.row_types.proofs.column_meets.Statement.{statement}
 use Rattle.row_types.proofs.column_meets.Tie as tie
 
-count-of-requires : tie.Need-count-of-requires
-count-of-requires c κs = search needs
-
-wide-requires : tie.Need-wide-requires
-wide-requires c κs = search needs
-
 returns : tie.Need-returns
 returns c =
     let a = c .before .before .before .args in
     sym (met-many (a .entry .now) (valueIn (a .c) (a .row .now)) (omega (arith, c .before .before .count-of .ensures, c .before .wide .ensures, c .if1 .taken)))
-
-minimum-requires : tie.Need-minimum-requires
-minimum-requires c κs = search needs
-
-maximum-requires : tie.Need-maximum-requires
-maximum-requires c κs = search needs
 
 -- the column's value, and whether its count is in its limits
 module _ (c : tie.After-maximum) where
@@ -55,12 +43,6 @@ returns-2 c =
     let k = c .before in
     sym (met-count (cell k) (held k) (limits k ∙ not-true _ (c .if2 .taken)))
 
-atoms-in-requires : tie.Need-atoms-in-requires
-atoms-in-requires c κs = search needs
-
-all-meet-requires : tie.Need-all-meet-requires
-all-meet-requires c κs = search needs
-
 returns-3 : tie.Need-returns-3
 returns-3 c =
     let k = c .before .before .before in
@@ -74,12 +56,12 @@ pub column-meets-spec : {M : Type 1} → statement M
 column-meets-spec =
     tie.close
     (tie.spec
-    count-of-requires
-    wide-requires
+    (λ c κs. search needs)
+    (λ c κs. search needs)
     returns
-    minimum-requires
-    maximum-requires
+    (λ c κs. search needs)
+    (λ c κs. search needs)
     returns-2
-    atoms-in-requires
-    all-meet-requires
+    (λ c κs. search needs)
+    (λ c κs. search needs)
     returns-3)

@@ -8,24 +8,6 @@ use borrow.Author.Needs.{needs}
 use Rattle.row_types.proofs.in_limits.Statement.{statement}
 use Rattle.row_types.proofs.in_limits.Tie as tie
 
-low-requires : tie.Need-low-requires
-low-requires c κs = search needs
-
-integer-requires : tie.Need-integer-requires
-integer-requires c κs = search needs
-
-high-requires : tie.Need-high-requires
-high-requires c κs = search needs
-
-integer-requires-2 : tie.Need-integer-requires-2
-integer-requires-2 c κs = search needs
-
-less-integers-requires : tie.Need-less-integers-requires
-less-integers-requires c κs = search needs
-
-less-integers-requires-2 : tie.Need-less-integers-requires-2
-less-integers-requires-2 c κs = search needs
-
 returns : tie.Need-returns
 returns c =
     let s = c .before .before .before .before .before .before .before .before in
@@ -40,10 +22,10 @@ pub in-limits-spec : {M : Type 1} → statement M
 in-limits-spec =
     tie.close
     (tie.spec
-    low-requires
-    integer-requires
-    high-requires
-    integer-requires-2
-    less-integers-requires
-    less-integers-requires-2
+    (λ c κs. search needs)
+    (λ c κs. search needs)
+    (λ c κs. search needs)
+    (λ c κs. search needs)
+    (λ c κs. search needs)
+    (λ c κs. search needs)
     returns)

@@ -11,12 +11,6 @@ use borrow.Author.Needs.{needs}
 use Rattle.row_types.proofs.integer.Statement.{statement}
 use Rattle.row_types.proofs.integer.Tie as tie
 
-slice-aggregate-put-number : tie.Need-slice-aggregate-put-number
-slice-aggregate-put-number c = search needs
-
-put-number-requires : tie.Need-put-number-requires
-put-number-requires c κs = search needs
-
 returns : tie.Need-returns
 returns c =
     let p = c .before in
@@ -25,4 +19,4 @@ returns c =
     ap (λ (l : List ℕ). fromTwos (value (take 8 l))) (p .put-number .ensures) ∙ ap fromTwos (value-big-fits 8 (s .args .x) h)
 
 pub integer-spec : {M : Type 1} → statement M
-integer-spec = tie.close (tie.spec slice-aggregate-put-number put-number-requires returns)
+integer-spec = tie.close (tie.spec (λ c. search needs) (λ c κs. search needs) returns)

@@ -15,15 +15,6 @@ use borrow.Author.Needs.{needs}
 use Rattle.row_types.proofs.one_meets.Statement.{statement}
 use Rattle.row_types.proofs.one_meets.Tie as tie
 
-table-of-requires : tie.Need-table-of-requires
-table-of-requires c κs = search needs
-
-index-1-table-count : tie.Need-index-1-table-count
-index-1-table-count c = search needs
-
-table-count-requires : tie.Need-table-count-requires
-table-count-requires c κs = search needs
-
 returns : tie.Need-returns
 unfolding rowMeets
 returns c =
@@ -33,17 +24,11 @@ returns c =
     let h : tableCount x ≤ tableIn r = omega (arith, c .before .before .before .table-of .ensures, c .before .table-count .ensures, c .if1 .taken) in
     sym (ap (λ (b : Bool). b && metFrom 0 (columnsAt x (tableIn r)) r) (le-ltb (tableIn r) (tableCount x) h))
 
-wide-requires : tie.Need-wide-requires
-wide-requires c κs = search needs
-
 columns-of-requires : tie.Need-columns-of-requires
 columns-of-requires c κs =
     let s = c .before .before .before .before .before in
     let l : c .wide .result < mostTables = omega (arith, few-tables (s .args .schema .now) (s .pre), c .wide .ensures, c .before .before .table-count .ensures, c .before .if1 .left) in
     (l, few-columns (s .args .schema .now) (s .pre) (c .wide .result) l)
-
-row-meets-requires : tie.Need-row-meets-requires
-row-meets-requires c κs = search needs
 
 returns-2 : tie.Need-returns-2
 unfolding rowMeets
@@ -60,11 +45,11 @@ pub one-meets-spec : {M : Type 1} → statement M
 one-meets-spec =
     tie.close
     (tie.spec
-    table-of-requires
-    index-1-table-count
-    table-count-requires
+    (λ c κs. search needs)
+    (λ c. search needs)
+    (λ c κs. search needs)
     returns
-    wide-requires
+    (λ c κs. search needs)
     columns-of-requires
-    row-meets-requires
+    (λ c κs. search needs)
     returns-2)

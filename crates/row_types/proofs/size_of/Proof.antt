@@ -10,12 +10,6 @@ use borrow.Author.Needs.{needs}
 use Rattle.row_types.proofs.size_of.Statement.{statement}
 use Rattle.row_types.proofs.size_of.Tie as tie
 
-count-chars-requires : tie.Need-count-chars-requires
-count-chars-requires c κs = search needs
-
-integer-requires : tie.Need-integer-requires
-integer-requires c κs = search needs
-
 returns : tie.Need-returns
 returns c =
     let s = c .before .before .before in
@@ -25,4 +19,4 @@ returns c =
     c .integer .ensures ∙ ap fromTwos (c .before .count-chars .ensures ∙ sym (value-big-fits 8 (chars t) k)) ∙ small-is (chars t) h
 
 pub size-of-spec : {M : Type 1} → statement M
-size-of-spec = tie.close (tie.spec count-chars-requires integer-requires returns)
+size-of-spec = tie.close (tie.spec (λ c κs. search needs) (λ c κs. search needs) returns)

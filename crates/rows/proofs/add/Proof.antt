@@ -10,15 +10,6 @@ use borrow.Author.Needs.{needs}
 use Rattle.rows.proofs.add.Statement.{statement}
 use Rattle.rows.proofs.add.Tie as tie
 
-slot-of-requires : tie.Need-slot-of-requires
-slot-of-requires c κs = search needs
-
-insert-at-requires : tie.Need-insert-at-requires
-insert-at-requires c κs = search needs
-
-same-length : tie.Need-same-length
-same-length c = search needs
-
 returns : tie.Need-returns
 returns c =
     let a = c .before .before .before .before .before .args in
@@ -34,4 +25,4 @@ returns c =
     }
 
 pub add-spec : {M : Type 1} → statement M
-add-spec = tie.close (tie.spec slot-of-requires insert-at-requires same-length returns)
+add-spec = tie.close (tie.spec (λ c κs. search needs) (λ c κs. search needs) (λ c. search needs) returns)

@@ -9,27 +9,6 @@ use borrow.Author.Needs.{needs}
 use Rattle.rows.proofs.atoms_in.Statement.{statement}
 use Rattle.rows.proofs.atoms_in.Tie as tie
 
-mul-at : tie.Need-mul-at
-mul-at c = search needs
-
-add-at : tie.Need-add-at
-add-at c = search needs
-
-add-result : tie.Need-add-result
-add-result c = search needs
-
-mul-result : tie.Need-mul-result
-mul-result c = search needs
-
-sub-result : tie.Need-sub-result
-sub-result c = search needs
-
-part-result-start : tie.Need-part-result-start
-part-result-start c = search needs
-
-part-result-end : tie.Need-part-result-end
-part-result-end c = search needs
-
 returns : tie.Need-returns
 unfolding valueIn
 returns c =
@@ -42,11 +21,11 @@ pub atoms-in-spec : {M : Type 1} → statement M
 atoms-in-spec =
     tie.close
     (tie.spec
-    mul-at
-    add-at
-    add-result
-    mul-result
-    sub-result
-    part-result-start
-    part-result-end
+    (λ c. search needs)
+    (λ c. search needs)
+    (λ c. search needs)
+    (λ c. search needs)
+    (λ c. search needs)
+    (λ c. search needs)
+    (λ c. search needs)
     returns)

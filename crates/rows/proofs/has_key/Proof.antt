@@ -8,15 +8,6 @@ use borrow.Author.Needs.{needs}
 use Rattle.rows.proofs.has_key.Statement.{statement}
 use Rattle.rows.proofs.has_key.Tie as tie
 
-find-key-requires : tie.Need-find-key-requires
-find-key-requires c κs = search needs
-
-enum-told : tie.Need-enum-told
-enum-told c = search needs
-
-enum-told-2 : tie.Need-enum-told-2
-enum-told-2 c = search needs
-
 returns : tie.Need-returns
 returns c =
     λ s.
@@ -30,4 +21,4 @@ returns-2 c =
     sym (place-none (keyOf (a .table) (value (a .id .now))) (working s (a .n) (a .rows .now)) (sym (c .before .before .find-key .ensures s) ∙ c .enum-told2 .given .1) .has)
 
 pub has-key-spec : {M : Type 1} → statement M
-has-key-spec = tie.close (tie.spec find-key-requires enum-told enum-told-2 returns returns-2)
+has-key-spec = tie.close (tie.spec (λ c κs. search needs) (λ c. search needs) (λ c. search needs) returns returns-2)

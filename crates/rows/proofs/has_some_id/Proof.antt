@@ -10,15 +10,9 @@ use borrow.Author.Needs.{needs}
 use Rattle.rows.proofs.has_some_id.Statement.{statement}
 use Rattle.rows.proofs.has_some_id.Tie as tie
 
-id-of-requires : tie.Need-id-of-requires
-id-of-requires c κs = search needs
-
-some-id-requires : tie.Need-some-id-requires
-some-id-requires c κs = search needs
-
 returns : tie.Need-returns
 unfolding idIn
 returns c = c .some-id .ensures ∙ ap (λ (b : List ℕ). not (eqb (value b) 0) && ltb (value b) (256 ^ 16)) (c .before .id-of .ensures .bytes)
 
 pub has-some-id-spec : {M : Type 1} → statement M
-has-some-id-spec = tie.close (tie.spec id-of-requires some-id-requires returns)
+has-some-id-spec = tie.close (tie.spec (λ c κs. search needs) (λ c κs. search needs) returns)

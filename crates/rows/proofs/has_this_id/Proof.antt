@@ -7,12 +7,6 @@ use borrow.Author.Needs.{needs}
 use Rattle.rows.proofs.has_this_id.Statement.{statement}
 use Rattle.rows.proofs.has_this_id.Tie as tie
 
-id-of-requires : tie.Need-id-of-requires
-id-of-requires c κs = search needs
-
-same-ids-requires : tie.Need-same-ids-requires
-same-ids-requires c κs = search needs
-
 returns : tie.Need-returns
 unfolding idIn
 returns c =
@@ -20,4 +14,4 @@ returns c =
     c .same-ids .ensures ∙ ap (λ b. eqb (value (s .args .id .now)) (value b)) (c .before .id-of .ensures .bytes)
 
 pub has-this-id-spec : {M : Type 1} → statement M
-has-this-id-spec = tie.close (tie.spec id-of-requires same-ids-requires returns)
+has-this-id-spec = tie.close (tie.spec (λ c κs. search needs) (λ c κs. search needs) returns)

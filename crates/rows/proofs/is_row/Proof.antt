@@ -8,12 +8,6 @@ use borrow.Author.Needs.{needs}
 use Rattle.rows.proofs.is_row.Statement.{statement}
 use Rattle.rows.proofs.is_row.Tie as tie
 
-key-of-requires : tie.Need-key-of-requires
-key-of-requires c κs = search needs
-
-same-keys-requires : tie.Need-same-keys-requires
-same-keys-requires c κs = search needs
-
 returns : tie.Need-returns
 returns c =
     let s = c .before .before .before in
@@ -21,4 +15,4 @@ returns c =
     c .same-keys .ensures ∙ ap (eqb (keyOf (s .args .table) (value (s .args .id .now)))) (ap value (y .bytes) ∙ sym (key-head (s .args .row .now) (y .head)))
 
 pub is-row-spec : {M : Type 1} → statement M
-is-row-spec = tie.close (tie.spec key-of-requires same-keys-requires returns)
+is-row-spec = tie.close (tie.spec (λ c κs. search needs) (λ c κs. search needs) returns)

@@ -6,15 +6,6 @@ use borrow.Author.Needs.{needs}
 use Rattle.rows.proofs.less.Statement.{statement}
 use Rattle.rows.proofs.less.Tie as tie
 
-key-of-requires : tie.Need-key-of-requires
-key-of-requires c κs = search needs
-
-key-of-requires-2 : tie.Need-key-of-requires-2
-key-of-requires-2 c κs = search needs
-
-less-keys-requires : tie.Need-less-keys-requires
-less-keys-requires c κs = search needs
-
 returns : tie.Need-returns
 returns c =
     let s = c .before .before .before in
@@ -25,4 +16,4 @@ returns c =
     c .less-keys .ensures ∙ rw (p, q)
 
 pub less-spec : {M : Type 1} → statement M
-less-spec = tie.close (tie.spec key-of-requires key-of-requires-2 less-keys-requires returns)
+less-spec = tie.close (tie.spec (λ c κs. search needs) (λ c κs. search needs) (λ c κs. search needs) returns)

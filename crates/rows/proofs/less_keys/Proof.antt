@@ -7,9 +7,6 @@ use borrow.Author.Needs.{needs}
 use Rattle.rows.proofs.less_keys.Statement.{statement}
 use Rattle.rows.proofs.less_keys.Tie as tie
 
-less-requires : tie.Need-less-requires
-less-requires c κs = search needs
-
 returns : tie.Need-returns
 returns c =
     let s = c .before .before .before in
@@ -18,4 +15,4 @@ returns c =
     c .less .ensures ∙ sym (ltb-value x y (omega arith) (octets x (λ i. omega (arith, c .before .before .shared-slice-known .given i))) (octets y (λ i. omega (arith, c .before .shared-slice-known2 .given i))))
 
 pub less-keys-spec : {M : Type 1} → statement M
-less-keys-spec = tie.close (tie.spec less-requires returns)
+less-keys-spec = tie.close (tie.spec (λ c κs. search needs) returns)

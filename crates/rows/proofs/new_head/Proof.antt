@@ -12,27 +12,6 @@ use borrow.Author.Needs.{needs}
 use Rattle.rows.proofs.new_head.Statement.{statement}
 use Rattle.rows.proofs.new_head.Tie as tie
 
-array-write-head : tie.Need-array-write-head
-array-write-head c = search needs
-
-sub-put-bytes : tie.Need-sub-put-bytes
-sub-put-bytes c = search needs
-
-part-head-start : tie.Need-part-head-start
-part-head-start c = search needs
-
-part-head-end : tie.Need-part-head-end
-part-head-end c = search needs
-
-put-bytes-requires : tie.Need-put-bytes-requires
-put-bytes-requires c κs = search needs
-
-sub-put-counts : tie.Need-sub-put-counts
-sub-put-counts c = search needs
-
-part-head-start-2 : tie.Need-part-head-start-2
-part-head-start-2 c = search needs
-
 -- the id in its place
 put : (id p : List ℕ) → length id ≡ 16 → p ≡ id ++ drop (length id) (replicate 16 0) → p ≡ id
 put id p h e = e ∙ ap (λ (l : List ℕ). id ++ l) (drop-of-length-le (replicate 16 0) {i = length id} (omega arith)) ∙ append-nil id
@@ -43,9 +22,6 @@ part-head-end-2 c =
     let p = c .before .put-bytes .last .0 in
     let e : length p ≡ 16 = ap length (put (s .args .id .now) p (s .pre .0) (c .before .put-bytes .ensures)) ∙ s .pre .0 in
     omega (arith, length-append p (replicate 8 0), e)
-
-put-counts-requires : tie.Need-put-counts-requires
-put-counts-requires c κs = search needs
 
 returns : tie.Need-returns
 returns c =
@@ -66,13 +42,13 @@ pub new-head-spec : {M : Type 1} → statement M
 new-head-spec =
     tie.close
     (tie.spec
-    array-write-head
-    sub-put-bytes
-    part-head-start
-    part-head-end
-    put-bytes-requires
-    sub-put-counts
-    part-head-start-2
+    (λ c. search needs)
+    (λ c. search needs)
+    (λ c. search needs)
+    (λ c. search needs)
+    (λ c κs. search needs)
+    (λ c. search needs)
+    (λ c. search needs)
     part-head-end-2
-    put-counts-requires
+    (λ c κs. search needs)
     returns)

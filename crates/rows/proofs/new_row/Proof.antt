@@ -10,16 +10,10 @@ use borrow.Author.Needs.{needs}
 use Rattle.rows.proofs.new_row.Statement.{statement}
 use Rattle.rows.proofs.new_row.Tie as tie
 
-new-head-requires : tie.Need-new-head-requires
-new-head-requires c κs = search needs
-
-array-set-from-row : tie.Need-array-set-from-row
-array-set-from-row c = search needs
-
 returns : tie.Need-returns
 returns c =
     let a = c .before .before .before .args in
     (λ cs few m. ap (λ (h : List ℕ). h ∷ replicate 24 blank) (c .new-head .ensures .0 cs few m) ∙ new-cells (a .table) (a .id .now) cs few (value (a .id .now)), c .new-head .ensures .1)
 
 pub new-row-spec : {M : Type 1} → statement M
-new-row-spec = tie.close (tie.spec new-head-requires array-set-from-row returns)
+new-row-spec = tie.close (tie.spec (λ c κs. search needs) (λ c. search needs) returns)

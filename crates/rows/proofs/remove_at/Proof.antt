@@ -10,12 +10,6 @@ use borrow.Author.Needs.{needs}
 use Rattle.rows.proofs.remove_at.Statement.{statement}
 use Rattle.rows.proofs.remove_at.Tie as tie
 
-close-at-requires : tie.Need-close-at-requires
-close-at-requires c κs = search needs
-
-same-length : tie.Need-same-length
-same-length c = search needs
-
 returns : tie.Need-returns
 returns c =
     let a = c .before .before .before .args in
@@ -29,4 +23,4 @@ returns c =
     }
 
 pub remove-at-spec : {M : Type 1} → statement M
-remove-at-spec = tie.close (tie.spec close-at-requires same-length returns)
+remove-at-spec = tie.close (tie.spec (λ c κs. search needs) (λ c. search needs) returns)

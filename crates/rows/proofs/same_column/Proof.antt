@@ -7,25 +7,10 @@ use borrow.Author.Needs.{needs}
 use Rattle.rows.proofs.same_column.Statement.{statement}
 use Rattle.rows.proofs.same_column.Tie as tie
 
-count-of-requires : tie.Need-count-of-requires
-count-of-requires c κs = search needs
-
-count-of-requires-2 : tie.Need-count-of-requires-2
-count-of-requires-2 c κs = search needs
-
 returns : tie.Need-returns
 returns c =
     let a = c .before .before .before .args in
     sym (value-no (valueIn (a .c) (a .x .now)) (valueIn (a .c) (a .y .now)) (λ q. c .if1 .taken (c .before .before .count-of .ensures ∙ q ∙ sym (c .before .count-of2 .ensures))))
-
-atoms-in-requires : tie.Need-atoms-in-requires
-atoms-in-requires c κs = search needs
-
-atoms-in-requires-2 : tie.Need-atoms-in-requires-2
-atoms-in-requires-2 c κs = search needs
-
-equal-requires : tie.Need-equal-requires
-equal-requires c κs = search needs
 
 returns-2 : tie.Need-returns-2
 returns-2 c =
@@ -39,10 +24,10 @@ pub same-column-spec : {M : Type 1} → statement M
 same-column-spec =
     tie.close
     (tie.spec
-    count-of-requires
-    count-of-requires-2
+    (λ c κs. search needs)
+    (λ c κs. search needs)
     returns
-    atoms-in-requires
-    atoms-in-requires-2
-    equal-requires
+    (λ c κs. search needs)
+    (λ c κs. search needs)
+    (λ c κs. search needs)
     returns-2)

@@ -7,15 +7,6 @@ use borrow.Author.Needs.{needs}
 use Rattle.rows.proofs.same_id.Statement.{statement}
 use Rattle.rows.proofs.same_id.Tie as tie
 
-id-of-requires : tie.Need-id-of-requires
-id-of-requires c κs = search needs
-
-id-of-requires-2 : tie.Need-id-of-requires-2
-id-of-requires-2 c κs = search needs
-
-same-ids-requires : tie.Need-same-ids-requires
-same-ids-requires c κs = search needs
-
 returns : tie.Need-returns
 unfolding idIn
 returns c =
@@ -24,4 +15,4 @@ returns c =
     c .same-ids .ensures ∙ (λ j. eqb (value (p j)) (value (q j)))
 
 pub same-id-spec : {M : Type 1} → statement M
-same-id-spec = tie.close (tie.spec id-of-requires id-of-requires-2 same-ids-requires returns)
+same-id-spec = tie.close (tie.spec (λ c κs. search needs) (λ c κs. search needs) (λ c κs. search needs) returns)

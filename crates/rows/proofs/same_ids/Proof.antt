@@ -7,9 +7,6 @@ use borrow.Author.Needs.{needs}
 use Rattle.rows.proofs.same_ids.Statement.{statement}
 use Rattle.rows.proofs.same_ids.Tie as tie
 
-same-bytes-requires : tie.Need-same-bytes-requires
-same-bytes-requires c κs = search needs
-
 returns : tie.Need-returns
 returns c =
     let s = c .before .before .before in
@@ -18,4 +15,4 @@ returns c =
     c .same-bytes .ensures ∙ sym (eqb-value x y (omega arith) (octets x (λ i. omega (arith, c .before .before .shared-slice-known .given i))) (octets y (λ i. omega (arith, c .before .shared-slice-known2 .given i))))
 
 pub same-ids-spec : {M : Type 1} → statement M
-same-ids-spec = tie.close (tie.spec same-bytes-requires returns)
+same-ids-spec = tie.close (tie.spec (λ c κs. search needs) returns)

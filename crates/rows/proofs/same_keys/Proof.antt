@@ -18,9 +18,6 @@ use borrow.Author.Needs.{needs}
 use Rattle.rows.proofs.same_keys.Statement.{statement}
 use Rattle.rows.proofs.same_keys.Tie as tie
 
-shared-slice-read-if1 : tie.Need-shared-slice-read-if1
-shared-slice-read-if1 c = search needs
-
 -- the test by bytes
 law : (s : tie.Start) → ((i : ℕ) → Fits w8 (getD (s .args .id .now) i 0)) → ((i : ℕ) → Fits w8 (getD (s .args .key .now) i 0))
     → eqb (keyOf (s .args .table) (value (s .args .id .now))) (value (s .args .key .now)) ≡ (eqb (s .args .table) (getD (s .args .key .now) 0 0) && eqBytes (s .args .id .now) (drop 1 (s .args .key .now)))
@@ -34,18 +31,6 @@ returns c =
     let k = s .args .key .now in
     sym (law s (c .before .before .before .shared-slice-known .given) (c .before .before .shared-slice-known2 .given) ∙ rw (ne-eqb (s .args .table) (getD k 0 0) (c .if1 .taken)))
 
-sub-same-bytes : tie.Need-sub-same-bytes
-sub-same-bytes c = search needs
-
-part-same-bytes-start : tie.Need-part-same-bytes-start
-part-same-bytes-start c = search needs
-
-part-same-bytes-end : tie.Need-part-same-bytes-end
-part-same-bytes-end c = search needs
-
-same-bytes-requires : tie.Need-same-bytes-requires
-same-bytes-requires c κs = search needs
-
 returns-2 : tie.Need-returns-2
 returns-2 c =
     let s = c .before .before .before .before .before .before in
@@ -58,10 +43,10 @@ pub same-keys-spec : {M : Type 1} → statement M
 same-keys-spec =
     tie.close
     (tie.spec
-    shared-slice-read-if1
+    (λ c. search needs)
     returns
-    sub-same-bytes
-    part-same-bytes-start
-    part-same-bytes-end
-    same-bytes-requires
+    (λ c. search needs)
+    (λ c. search needs)
+    (λ c. search needs)
+    (λ c κs. search needs)
     returns-2)

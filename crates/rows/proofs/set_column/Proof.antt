@@ -10,12 +10,6 @@ use borrow.Author.Needs.{needs}
 use Rattle.rows.proofs.set_column.Statement.{statement}
 use Rattle.rows.proofs.set_column.Tie as tie
 
-key-of-requires : tie.Need-key-of-requires
-key-of-requires c κs = search needs
-
-set-cells-requires : tie.Need-set-cells-requires
-set-cells-requires c κs = search needs
-
 returns : tie.Need-returns
 returns c =
     let a = c .before .before .before .before .before .args in
@@ -31,4 +25,4 @@ returns c =
     }
 
 pub set-column-spec : {M : Type 1} → statement M
-set-column-spec = tie.close (tie.spec key-of-requires set-cells-requires returns)
+set-column-spec = tie.close (tie.spec (λ c κs. search needs) (λ c κs. search needs) returns)

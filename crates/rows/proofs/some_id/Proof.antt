@@ -8,12 +8,6 @@ use borrow.Author.Needs.{needs}
 use Rattle.rows.proofs.some_id.Statement.{statement}
 use Rattle.rows.proofs.some_id.Tie as tie
 
-slice-aggregate-same-bytes : tie.Need-slice-aggregate-same-bytes
-slice-aggregate-same-bytes c = search needs
-
-same-bytes-requires : tie.Need-same-bytes-requires
-same-bytes-requires c κs = search needs
-
 returns : tie.Need-returns
 returns c =
     let s = c .before .before .before in
@@ -21,4 +15,4 @@ returns c =
     ap not (c .same-bytes .ensures) ∙ some-id id (s .pre) (octets id (λ i. omega (arith, c .before .before .shared-slice-known .given i)))
 
 pub some-id-spec : {M : Type 1} → statement M
-some-id-spec = tie.close (tie.spec slice-aggregate-same-bytes same-bytes-requires returns)
+some-id-spec = tie.close (tie.spec (λ c. search needs) (λ c κs. search needs) returns)

@@ -5,15 +5,9 @@ use borrow.Author.Needs.{needs}
 use Rattle.rows.proofs.table_of.Statement.{statement}
 use Rattle.rows.proofs.table_of.Tie as tie
 
-index-1-result : tie.Need-index-1-result
-index-1-result c = search needs
-
-index-2-result : tie.Need-index-2-result
-index-2-result c = search needs
-
 returns : tie.Need-returns
 unfolding tableIn
 returns c = refl
 
 pub table-of-spec : {M : Type 1} → statement M
-table-of-spec = tie.close (tie.spec index-1-result index-2-result returns)
+table-of-spec = tie.close (tie.spec (λ c. search needs) (λ c. search needs) returns)

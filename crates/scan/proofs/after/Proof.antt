@@ -11,20 +11,11 @@ use borrow.Author.Needs.{needs}
 use Rattle.scan.proofs.after.Statement.{statement}
 use Rattle.scan.proofs.after.Tie as tie
 
-enum-known-item : tie.Need-enum-known-item
-enum-known-item c = search needs
-
 returns : tie.Need-returns
 unfolding afterItem
 returns c =
     let a = c .before .before .args in
     no-end (λ r. Done r ≡ afterItem (a .text .now) (a .close) r) (λ e. refl) (λ e. refl) (a .item) (c .match .keys2)
-
-spaces-requires : tie.Need-spaces-requires
-spaces-requires c κs = search needs
-
-peek-requires : tie.Need-peek-requires
-peek-requires c κs = search needs
 
 add-t8 : tie.Need-add-t8
 add-t8 c =
@@ -36,9 +27,6 @@ unfolding afterItem
 returns-2 c =
     rw (c .before .before .before .before .item .given .1, ← c .before .before .spaces .ensures) (unfold commaOr in rw (commaOr, sym (c .before .peek .ensures) ∙ c .if1 .taken))
 
-within-requires : tie.Need-within-requires
-within-requires c κs = search needs
-
 returns-3 : tie.Need-returns-3
 unfolding afterItem
 returns-3 c =
@@ -49,11 +37,11 @@ pub after-spec : {M : Type 1} → statement M
 after-spec =
     tie.close
     (tie.spec
-    enum-known-item
+    (λ c. search needs)
     returns
-    spaces-requires
-    peek-requires
+    (λ c κs. search needs)
+    (λ c κs. search needs)
     add-t8
     returns-2
-    within-requires
+    (λ c κs. search needs)
     returns-3)

@@ -11,9 +11,6 @@ use borrow.Author.Needs.{needs}
 use Rattle.scan.proofs.character.Statement.{statement}
 use Rattle.scan.proofs.character.Tie as tie
 
-peek-requires : tie.Need-peek-requires
-peek-requires c κs = search needs
-
 add-t5 : tie.Need-add-t5
 add-t5 c =
     let a = c .before .before .before .args in
@@ -26,9 +23,6 @@ add-escape : tie.Need-add-escape
 add-escape c =
     let a = c .before .before .before .before .args in
     omega (arith, inside-byte (a .text .now) (a .at) 92 (sym (c .before .before .peek .ensures) ∙ c .if2 .taken) (lit< tt))
-
-escape-requires : tie.Need-escape-requires
-escape-requires c κs = search needs
 
 returns-2 : tie.Need-returns-2
 returns-2 c = rw (← c .before .before .before .peek .ensures) (unfold charBy in rw (c .before .if2 .taken) (c .escape .ensures))
@@ -46,12 +40,6 @@ returns-4 : tie.Need-returns-4
 returns-4 c =
     rw (← c .before .before .before .before .peek .ensures) (unfold charBy in rw (charBy, ne-eqb _ _ (c .before .before .before .if1 .left), ne-eqb _ _ (c .before .before .if2 .left), le-ltb _ _ (c .before .if3 .left), ascii-goes (c .before .before .before .before .before .before .args .text .now) _ _ (c .if4 .taken)))
 
-wide-requires : tie.Need-wide-requires
-wide-requires c κs = search needs
-
-go-on-requires : tie.Need-go-on-requires
-go-on-requires c κs = search needs
-
 returns-5 : tie.Need-returns-5
 returns-5 c =
     let a = c .before .before .before .before .before .before .before .before .args in
@@ -62,15 +50,15 @@ pub character-spec : {M : Type 1} → statement M
 character-spec =
     tie.close
     (tie.spec
-    peek-requires
+    (λ c κs. search needs)
     add-t5
     returns
     add-escape
-    escape-requires
+    (λ c κs. search needs)
     returns-2
     returns-3
     add-t9
     returns-4
-    wide-requires
-    go-on-requires
+    (λ c κs. search needs)
+    (λ c κs. search needs)
     returns-5)

@@ -12,22 +12,10 @@ use borrow.Author.Needs.{needs}
 use Rattle.scan.proofs.escape.Statement.{statement}
 use Rattle.scan.proofs.escape.Tie as tie
 
-peek-requires : tie.Need-peek-requires
-peek-requires c κs = search needs
-
-short-escape-requires : tie.Need-short-escape-requires
-short-escape-requires c κs = search needs
-
 add-hex4 : tie.Need-add-hex4
 add-hex4 c =
     let a = c .before .before .before .before .before .args in
     omega (arith, inside-byte (a .text .now) (a .at) 117 (sym (c .before .before .before .peek .ensures) ∙ c .if2 .taken) (lit< tt))
-
-hex4-requires : tie.Need-hex4-requires
-hex4-requires c κs = search needs
-
-unit-requires : tie.Need-unit-requires
-unit-requires c κs = search needs
 
 returns : tie.Need-returns
 returns c =
@@ -52,11 +40,11 @@ pub escape-spec : {M : Type 1} → statement M
 escape-spec =
     tie.close
     (tie.spec
-    peek-requires
-    short-escape-requires
+    (λ c κs. search needs)
+    (λ c κs. search needs)
     add-hex4
-    hex4-requires
-    unit-requires
+    (λ c κs. search needs)
+    (λ c κs. search needs)
     returns
     returns-2
     add-t10

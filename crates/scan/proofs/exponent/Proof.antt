@@ -7,23 +7,11 @@ use borrow.Author.Needs.{needs}
 use Rattle.scan.proofs.exponent.Statement.{statement}
 use Rattle.scan.proofs.exponent.Tie as tie
 
-peek-requires : tie.Need-peek-requires
-peek-requires c κs = search needs
-
-is-exp-requires : tie.Need-is-exp-requires
-is-exp-requires c κs = search needs
-
 add-sign : tie.Need-add-sign
 unfolding isExp
 add-sign c =
     let a = c .before .before .before .before .args in
     omega (arith, inside-test isExp refl (a .text .now) (a .at) (sym (c .before .is-exp .ensures ∙ ap isExp (c .before .before .peek .ensures)) ∙ c .if1 .taken))
-
-sign-requires : tie.Need-sign-requires
-sign-requires c κs = search needs
-
-some-digits-requires : tie.Need-some-digits-requires
-some-digits-requires c κs = search needs
 
 returns : tie.Need-returns
 unfolding expAt
@@ -39,10 +27,10 @@ pub exponent-spec : {M : Type 1} → statement M
 exponent-spec =
     tie.close
     (tie.spec
-    peek-requires
-    is-exp-requires
+    (λ c κs. search needs)
+    (λ c κs. search needs)
     add-sign
-    sign-requires
-    some-digits-requires
+    (λ c κs. search needs)
+    (λ c κs. search needs)
     returns
     returns-2)

@@ -5,21 +5,6 @@ use borrow.Author.Needs.{needs}
 use Rattle.scan.proofs.false_word.Statement.{statement}
 use Rattle.scan.proofs.false_word.Tie as tie
 
-within-requires : tie.Need-within-requires
-within-requires c κs = search needs
-
-within-requires-2 : tie.Need-within-requires-2
-within-requires-2 c κs = search needs
-
-within-requires-3 : tie.Need-within-requires-3
-within-requires-3 c κs = search needs
-
-within-requires-4 : tie.Need-within-requires-4
-within-requires-4 c κs = search needs
-
-within-requires-5 : tie.Need-within-requires-5
-within-requires-5 c κs = search needs
-
 returns : tie.Need-returns
 unfolding wordAt
 returns c =
@@ -30,9 +15,9 @@ pub false-word-spec : {M : Type 1} → statement M
 false-word-spec =
     tie.close
     (tie.spec
-    within-requires
-    within-requires-2
-    within-requires-3
-    within-requires-4
-    within-requires-5
+    (λ c κs. search needs)
+    (λ c κs. search needs)
+    (λ c κs. search needs)
+    (λ c κs. search needs)
+    (λ c κs. search needs)
     returns)

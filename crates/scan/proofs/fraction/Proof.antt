@@ -9,16 +9,10 @@ use borrow.Author.Needs.{needs}
 use Rattle.scan.proofs.fraction.Statement.{statement}
 use Rattle.scan.proofs.fraction.Tie as tie
 
-peek-requires : tie.Need-peek-requires
-peek-requires c κs = search needs
-
 add-some-digits : tie.Need-add-some-digits
 add-some-digits c =
     let a = c .before .before .before .args in
     omega (arith, inside-byte (a .text .now) (a .at) 46 (sym (c .before .peek .ensures) ∙ c .if1 .taken) (lit< tt))
-
-some-digits-requires : tie.Need-some-digits-requires
-some-digits-requires c κs = search needs
 
 returns : tie.Need-returns
 unfolding fracAt
@@ -30,4 +24,4 @@ returns-2 c = rw (fracAt, ne-eqb _ 46 (λ h. c .if1 .left (c .before .peek .ensu
 
 pub fraction-spec : {M : Type 1} → statement M
 fraction-spec =
-    tie.close (tie.spec peek-requires add-some-digits some-digits-requires returns returns-2)
+    tie.close (tie.spec (λ c κs. search needs) add-some-digits (λ c κs. search needs) returns returns-2)

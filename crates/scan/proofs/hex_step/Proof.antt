@@ -9,15 +9,6 @@ use borrow.Author.Needs.{needs}
 use Rattle.scan.proofs.hex_step.Statement.{statement}
 use Rattle.scan.proofs.hex_step.Tie as tie
 
-enum-known-h : tie.Need-enum-known-h
-enum-known-h c = search needs
-
-peek-requires : tie.Need-peek-requires
-peek-requires c κs = search needs
-
-hex-digit-requires : tie.Need-hex-digit-requires
-hex-digit-requires c κs = search needs
-
 returns : tie.Need-returns
 unfolding hexStep
 returns c =
@@ -28,18 +19,6 @@ unfolding hexOf
 add-t10 c =
     let p = c .before .before .before .before in
     omega (arith, inside (p .before .before .before .args .text .now) (p .h .given .0 .0) (λ h. c .if1 .left (c .before .hex-digit .ensures ∙ ap hexOf (c .before .before .peek .ensures ∙ h))))
-
-mul-t12 : tie.Need-mul-t12
-mul-t12 c = search needs
-
-cast-t13 : tie.Need-cast-t13
-cast-t13 c = search needs
-
-add-t14 : tie.Need-add-t14
-add-t14 c = search needs
-
-enum-known-h-2 : tie.Need-enum-known-h-2
-enum-known-h-2 c = search needs
 
 returns-2 : tie.Need-returns-2
 unfolding hexStep
@@ -54,14 +33,14 @@ pub hex-step-spec : {M : Type 1} → statement M
 hex-step-spec =
     tie.close
     (tie.spec
-    enum-known-h
-    peek-requires
-    hex-digit-requires
+    (λ c. search needs)
+    (λ c κs. search needs)
+    (λ c κs. search needs)
     returns
     add-t10
-    mul-t12
-    cast-t13
-    add-t14
-    enum-known-h-2
+    (λ c. search needs)
+    (λ c. search needs)
+    (λ c. search needs)
+    (λ c. search needs)
     returns-2
     returns-3)

@@ -7,25 +7,13 @@ use borrow.Author.Needs.{needs}
 use Rattle.scan.proofs.inside_of.Statement.{statement}
 use Rattle.scan.proofs.inside_of.Tie as tie
 
-enum-known-h : tie.Need-enum-known-h
-enum-known-h c = search needs
-
-enum-told : tie.Need-enum-told
-enum-told c = search needs
-
 returns : tie.Need-returns
 unfolding inside
 returns c = rw (c .enum-told .given .1)
 
-last-digit-requires : tie.Need-last-digit-requires
-last-digit-requires c κs = search needs
-
 returns-2 : tie.Need-returns-2
 unfolding inside
 returns-2 c = rw (c .before .before .before .h .given .1, inside, lt-ltb _ _ (c .before .if1 .taken)) (ap Bad (c .last-digit .ensures))
-
-last-digit-requires-2 : tie.Need-last-digit-requires-2
-last-digit-requires-2 c κs = search needs
 
 returns-3 : tie.Need-returns-3
 unfolding inside
@@ -39,11 +27,11 @@ pub inside-of-spec : {M : Type 1} → statement M
 inside-of-spec =
     tie.close
     (tie.spec
-    enum-known-h
-    enum-told
+    (λ c. search needs)
+    (λ c. search needs)
     returns
-    last-digit-requires
+    (λ c κs. search needs)
     returns-2
-    last-digit-requires-2
+    (λ c κs. search needs)
     returns-3
     returns-4)

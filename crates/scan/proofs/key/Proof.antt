@@ -8,24 +8,9 @@ use borrow.Author.Needs.{needs}
 use Rattle.scan.proofs.key.Statement.{statement}
 use Rattle.scan.proofs.key.Tie as tie
 
-spaces-requires : tie.Need-spaces-requires
-spaces-requires c κs = search needs
-
-string-requires : tie.Need-string-requires
-string-requires c κs = search needs
-
-enum-known-q : tie.Need-enum-known-q
-enum-known-q c = search needs
-
 returns : tie.Need-returns
 unfolding keyAt
 returns c = rw (← c .before .before .spaces .ensures, ← c .before .string .ensures) (then-not _ _ _ (c .match .keys2))
-
-spaces-requires-2 : tie.Need-spaces-requires-2
-spaces-requires-2 c κs = search needs
-
-within-requires : tie.Need-within-requires
-within-requires c κs = search needs
 
 returns-2 : tie.Need-returns-2
 unfolding keyAt andThen
@@ -37,10 +22,10 @@ pub key-spec : {M : Type 1} → statement M
 key-spec =
     tie.close
     (tie.spec
-    spaces-requires
-    string-requires
-    enum-known-q
+    (λ c κs. search needs)
+    (λ c κs. search needs)
+    (λ c. search needs)
     returns
-    spaces-requires-2
-    within-requires
+    (λ c κs. search needs)
+    (λ c κs. search needs)
     returns-2)

@@ -4,24 +4,6 @@ use borrow.Author.Needs.{needs}
 use Rattle.scan.proofs.low_half.Statement.{statement}
 use Rattle.scan.proofs.low_half.Tie as tie
 
-within-requires : tie.Need-within-requires
-within-requires c κs = search needs
-
-within-requires-2 : tie.Need-within-requires-2
-within-requires-2 c κs = search needs
-
-enum-known-u : tie.Need-enum-known-u
-enum-known-u c = search needs
-
-low-hex4-requires : tie.Need-low-hex4-requires
-low-hex4-requires c κs = search needs
-
-enum-known-u-2 : tie.Need-enum-known-u-2
-enum-known-u-2 c = search needs
-
-enum-known-u-3 : tie.Need-enum-known-u-3
-enum-known-u-3 c = search needs
-
 returns : tie.Need-returns
 unfolding lowFrom
 returns c =
@@ -41,12 +23,12 @@ pub low-half-spec : {M : Type 1} → statement M
 low-half-spec =
     tie.close
     (tie.spec
-    within-requires
-    within-requires-2
-    enum-known-u
-    low-hex4-requires
-    enum-known-u-2
-    enum-known-u-3
+    (λ c κs. search needs)
+    (λ c κs. search needs)
+    (λ c. search needs)
+    (λ c κs. search needs)
+    (λ c. search needs)
+    (λ c. search needs)
     returns
     returns-2
     returns-3)

@@ -9,9 +9,6 @@ use borrow.Author.Needs.{needs}
 use Rattle.scan.proofs.minus.Statement.{statement}
 use Rattle.scan.proofs.minus.Tie as tie
 
-peek-requires : tie.Need-peek-requires
-peek-requires c κs = search needs
-
 add-result : tie.Need-add-result
 add-result c =
     let a = c .before .before .before .args in
@@ -26,4 +23,4 @@ unfolding minusAt
 returns-2 c = rw (minusAt, ne-eqb _ 45 (λ h. c .if1 .left (c .before .peek .ensures ∙ h)))
 
 pub minus-spec : {M : Type 1} → statement M
-minus-spec = tie.close (tie.spec peek-requires add-result returns returns-2)
+minus-spec = tie.close (tie.spec (λ c κs. search needs) add-result returns returns-2)

@@ -7,12 +7,6 @@ use borrow.Author.Needs.{needs}
 use Rattle.scan.proofs.outside_of.Statement.{statement}
 use Rattle.scan.proofs.outside_of.Tie as tie
 
-enum-known-h : tie.Need-enum-known-h
-enum-known-h c = search needs
-
-enum-told : tie.Need-enum-told
-enum-told c = search needs
-
 returns : tie.Need-returns
 unfolding outside
 returns c = rw (c .enum-told .given .1)
@@ -25,9 +19,6 @@ returns-3 : tie.Need-returns-3
 unfolding outside
 returns-3 c = rw (c .before .before .before .h .given .1, outside, le-ltb _ _ (c .before .if1 .left), lt-ltb _ _ (c .if2 .taken))
 
-last-digit-requires : tie.Need-last-digit-requires
-last-digit-requires c κs = search needs
-
 returns-4 : tie.Need-returns-4
 unfolding outside
 returns-4 c = rw (c .before .before .before .before .h .given .1, outside, le-ltb _ _ (c .before .before .if1 .left), le-ltb _ _ (c .before .if2 .left)) (ap Bad (c .last-digit .ensures))
@@ -35,4 +26,4 @@ returns-4 c = rw (c .before .before .before .before .h .given .1, outside, le-lt
 pub outside-of-spec : {M : Type 1} → statement M
 outside-of-spec =
     tie.close
-    (tie.spec enum-known-h enum-told returns returns-2 returns-3 last-digit-requires returns-4)
+    (tie.spec (λ c. search needs) (λ c. search needs) returns returns-2 returns-3 (λ c κs. search needs) returns-4)

@@ -5,37 +5,19 @@ use borrow.Author.Needs.{needs}
 use Rattle.scan.proofs.scalar.Statement.{statement}
 use Rattle.scan.proofs.scalar.Tie as tie
 
-peek-requires : tie.Need-peek-requires
-peek-requires c κs = search needs
-
-string-requires : tie.Need-string-requires
-string-requires c κs = search needs
-
 returns : tie.Need-returns
 returns c = rw (← c .before .before .peek .ensures) (unfold scalarBy in rw (c .before .if1 .taken) (c .string .ensures))
 
-null-requires : tie.Need-null-requires
-null-requires c κs = search needs
-
 returns-2 : tie.Need-returns-2
 returns-2 c = rw (← c .before .before .before .peek .ensures) (unfold scalarBy in rw (c .before .if2 .taken) (c .null .ensures))
-
-true-word-requires : tie.Need-true-word-requires
-true-word-requires c κs = search needs
 
 returns-3 : tie.Need-returns-3
 returns-3 c =
     rw (← c .before .before .before .before .peek .ensures) (unfold scalarBy in rw (c .before .if3 .taken) (c .true-word .ensures))
 
-false-word-requires : tie.Need-false-word-requires
-false-word-requires c κs = search needs
-
 returns-4 : tie.Need-returns-4
 returns-4 c =
     rw (← c .before .before .before .before .before .peek .ensures) (unfold scalarBy in rw (c .before .if4 .taken) (c .false-word .ensures))
-
-number-requires : tie.Need-number-requires
-number-requires c κs = search needs
 
 returns-5 : tie.Need-returns-5
 returns-5 c =
@@ -45,14 +27,14 @@ pub scalar-spec : {M : Type 1} → statement M
 scalar-spec =
     tie.close
     (tie.spec
-    peek-requires
-    string-requires
+    (λ c κs. search needs)
+    (λ c κs. search needs)
     returns
-    null-requires
+    (λ c κs. search needs)
     returns-2
-    true-word-requires
+    (λ c κs. search needs)
     returns-3
-    false-word-requires
+    (λ c κs. search needs)
     returns-4
-    number-requires
+    (λ c κs. search needs)
     returns-5)

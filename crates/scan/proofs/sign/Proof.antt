@@ -9,9 +9,6 @@ use borrow.Author.Needs.{needs}
 use Rattle.scan.proofs.sign.Statement.{statement}
 use Rattle.scan.proofs.sign.Tie as tie
 
-peek-requires : tie.Need-peek-requires
-peek-requires c κs = search needs
-
 add-result : tie.Need-add-result
 add-result c =
     let a = c .before .before .before .args in
@@ -21,12 +18,9 @@ returns : tie.Need-returns
 unfolding signAt
 returns c = rw (signAt, sym (c .before .peek .ensures) ∙ c .if1 .taken)
 
-minus-requires : tie.Need-minus-requires
-minus-requires c κs = search needs
-
 returns-2 : tie.Need-returns-2
 unfolding signAt
 returns-2 c = rw (signAt, ne-eqb _ 43 (λ h. c .before .if1 .left (c .before .before .peek .ensures ∙ h))) (c .minus .ensures)
 
 pub sign-spec : {M : Type 1} → statement M
-sign-spec = tie.close (tie.spec peek-requires add-result returns minus-requires returns-2)
+sign-spec = tie.close (tie.spec (λ c κs. search needs) add-result returns (λ c κs. search needs) returns-2)

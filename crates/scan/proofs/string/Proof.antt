@@ -6,22 +6,13 @@ use borrow.Author.Needs.{needs}
 use Rattle.scan.proofs.string.Statement.{statement}
 use Rattle.scan.proofs.string.Tie as tie
 
-within-requires : tie.Need-within-requires
-within-requires c κs = search needs
-
-enum-known-q : tie.Need-enum-known-q
-enum-known-q c = search needs
-
 returns : tie.Need-returns
 unfolding stringAt
 returns c = rw (← c .before .within .ensures) (then-not _ _ _ (c .match .keys2))
-
-body-requires : tie.Need-body-requires
-body-requires c κs = search needs
 
 returns-2 : tie.Need-returns-2
 unfolding stringAt andThen
 returns-2 c = rw (← c .before .before .before .before .within .ensures, c .before .before .q .given .1) (c .body .ensures)
 
 pub string-spec : {M : Type 1} → statement M
-string-spec = tie.close (tie.spec within-requires enum-known-q returns body-requires returns-2)
+string-spec = tie.close (tie.spec (λ c κs. search needs) (λ c. search needs) returns (λ c κs. search needs) returns-2)

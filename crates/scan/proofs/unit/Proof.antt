@@ -5,30 +5,6 @@ use borrow.Author.Needs.{needs}
 use Rattle.scan.proofs.unit.Statement.{statement}
 use Rattle.scan.proofs.unit.Tie as tie
 
-enum-known-h : tie.Need-enum-known-h
-enum-known-h c = search needs
-
-half-of-requires : tie.Need-half-of-requires
-half-of-requires c κs = search needs
-
-enum-told : tie.Need-enum-told
-enum-told c = search needs
-
-enum-told-2 : tie.Need-enum-told-2
-enum-told-2 c = search needs
-
-low-half-requires : tie.Need-low-half-requires
-low-half-requires c κs = search needs
-
-pair-requires : tie.Need-pair-requires
-pair-requires c κs = search needs
-
-enum-told-3 : tie.Need-enum-told-3
-enum-told-3 c = search needs
-
-enum-known-h-2 : tie.Need-enum-known-h-2
-enum-known-h-2 c = search needs
-
 returns : tie.Need-returns
 unfolding unitBy
 returns c =
@@ -52,14 +28,14 @@ pub unit-spec : {M : Type 1} → statement M
 unit-spec =
     tie.close
     (tie.spec
-    enum-known-h
-    half-of-requires
-    enum-told
-    enum-told-2
-    low-half-requires
-    pair-requires
-    enum-told-3
-    enum-known-h-2
+    (λ c. search needs)
+    (λ c κs. search needs)
+    (λ c. search needs)
+    (λ c. search needs)
+    (λ c κs. search needs)
+    (λ c κs. search needs)
+    (λ c. search needs)
+    (λ c. search needs)
     returns
     returns-2
     returns-3

@@ -9,9 +9,6 @@ use borrow.Author.Needs.{needs}
 use Rattle.scan.proofs.whole_part.Statement.{statement}
 use Rattle.scan.proofs.whole_part.Tie as tie
 
-peek-requires : tie.Need-peek-requires
-peek-requires c κs = search needs
-
 add-t5 : tie.Need-add-t5
 add-t5 c =
     let a = c .before .before .before .args in
@@ -21,12 +18,9 @@ returns : tie.Need-returns
 unfolding wholeAt
 returns c = rw (wholeAt, sym (c .before .peek .ensures) ∙ c .if1 .taken)
 
-some-digits-requires : tie.Need-some-digits-requires
-some-digits-requires c κs = search needs
-
 returns-2 : tie.Need-returns-2
 unfolding wholeAt
 returns-2 c = rw (wholeAt, ne-eqb _ 48 (λ h. c .before .if1 .left (c .before .before .peek .ensures ∙ h))) (c .some-digits .ensures)
 
 pub whole-part-spec : {M : Type 1} → statement M
-whole-part-spec = tie.close (tie.spec peek-requires add-t5 returns some-digits-requires returns-2)
+whole-part-spec = tie.close (tie.spec (λ c κs. search needs) add-t5 returns (λ c κs. search needs) returns-2)

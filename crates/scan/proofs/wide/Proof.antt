@@ -9,9 +9,6 @@ use borrow.Author.Needs.{needs}
 use Rattle.scan.proofs.wide.Statement.{statement}
 use Rattle.scan.proofs.wide.Tie as tie
 
-peek-requires : tie.Need-peek-requires
-peek-requires c κs = search needs
-
 returns : tie.Need-returns
 returns c = rw (← c .before .peek .ensures) (unfold wideBy in rw (wideBy, lt-ltb _ _ (c .if1 .taken)))
 
@@ -19,34 +16,19 @@ returns-2 : tie.Need-returns-2
 returns-2 c =
     rw (← c .before .before .peek .ensures) (unfold wideBy in rw (wideBy, le-ltb _ _ (c .before .if1 .left), lt-ltb _ _ (c .if2 .taken)))
 
-second-low-requires : tie.Need-second-low-requires
-second-low-requires c κs = search needs
-
-second-high-requires : tie.Need-second-high-requires
-second-high-requires c κs = search needs
-
 add-t9 : tie.Need-add-t9
 add-t9 c =
     let a = c .before .before .before .before .before .before .args in
     omega (arith, inside (a .text .now) (a .at) (λ h. omega (arith, c .before .before .before .before .peek .ensures, h, c .before .before .if2 .left)))
 
-within-requires : tie.Need-within-requires
-within-requires c κs = search needs
-
 returns-3 : tie.Need-returns-3
 returns-3 c =
     rw (← c .before .before .before .before .before .before .peek .ensures) (unfold wideBy in rw (wideBy, le-ltb _ _ (c .before .before .before .before .before .if1 .left), le-ltb _ _ (c .before .before .before .before .if2 .left), lt-ltb _ _ (c .if3 .taken), ← c .before .before .before .second-low .ensures, ← c .before .before .second-high .ensures) (c .before .within .ensures))
-
-within-requires-2 : tie.Need-within-requires-2
-within-requires-2 c κs = search needs
 
 returns-4 : tie.Need-returns-4
 returns-4 c =
     let a = c .before .before .before .before .before .before .before .before .before .before .args in
     rw (← c .before .before .before .before .before .before .before .before .peek .ensures) (unfold wideBy in rw (wideBy, le-ltb _ _ (c .before .before .before .before .before .before .before .if1 .left), le-ltb _ _ (c .before .before .before .before .before .before .if2 .left), le-ltb _ _ (c .before .before .if3 .left), lt-ltb _ _ (c .if4 .taken), ← c .before .before .before .before .before .second-low .ensures, ← c .before .before .before .before .second-high .ensures) (c .before .within2 .ensures ∙ ap (withinAt (a .text .now) 128 191) (c .before .before .before .within .ensures)))
-
-within-requires-3 : tie.Need-within-requires-3
-within-requires-3 c κs = search needs
 
 returns-5 : tie.Need-returns-5
 returns-5 c =
@@ -58,15 +40,15 @@ pub wide-spec : {M : Type 1} → statement M
 wide-spec =
     tie.close
     (tie.spec
-    peek-requires
+    (λ c κs. search needs)
     returns
     returns-2
-    second-low-requires
-    second-high-requires
+    (λ c κs. search needs)
+    (λ c κs. search needs)
     add-t9
-    within-requires
+    (λ c κs. search needs)
     returns-3
-    within-requires-2
+    (λ c κs. search needs)
     returns-4
-    within-requires-3
+    (λ c κs. search needs)
     returns-5)

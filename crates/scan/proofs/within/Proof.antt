@@ -9,17 +9,11 @@ use borrow.Author.Needs.{needs}
 use Rattle.scan.proofs.within.Statement.{statement}
 use Rattle.scan.proofs.within.Tie as tie
 
-enum-known-prior : tie.Need-enum-known-prior
-enum-known-prior c = search needs
-
 returns : tie.Need-returns
 unfolding withinAt
 returns c =
     let a = c .before .before .args in
     no-end (λ r. r ≡ withinAt (a .text .now) (a .low) (a .high) r) (λ e. refl) (λ e. refl) (a .prior) (c .match .keys2)
-
-peek-requires : tie.Need-peek-requires
-peek-requires c κs = search needs
 
 returns-2 : tie.Need-returns-2
 unfolding withinAt
@@ -46,4 +40,4 @@ returns-4 c =
 pub within-spec : {M : Type 1} → statement M
 within-spec =
     tie.close
-    (tie.spec enum-known-prior returns peek-requires returns-2 returns-3 add-t10 returns-4)
+    (tie.spec (λ c. search needs) returns (λ c κs. search needs) returns-2 returns-3 add-t10 returns-4)

@@ -16,32 +16,11 @@ use borrow.Author.Needs.{needs}
 use Rattle.schema.proofs.fill.Statement.{statement}
 use Rattle.schema.proofs.fill.Tie as tie
 
-slice-aggregate-fields : tie.Need-slice-aggregate-fields
-slice-aggregate-fields c = search needs
-
 fields-requires : tie.Need-fields-requires
 unfolding wordsOf wordsFrom
 fields-requires c κs =
     let st = c .before .before .before in
     (st .pre .0, (st .pre .1 .0, (refl, omega arith)))
-
-array-read-name-in : tie.Need-array-read-name-in
-array-read-name-in c = search needs
-
-name-in-requires : tie.Need-name-in-requires
-name-in-requires c κs = search needs
-
-text-of-requires : tie.Need-text-of-requires
-text-of-requires c κs = search needs
-
-is-id-requires : tie.Need-is-id-requires
-is-id-requires c κs = search needs
-
-rest-fits-requires : tie.Need-rest-fits-requires
-rest-fits-requires c κs = search needs
-
-array-read-tables-in : tie.Need-array-read-tables-in
-array-read-tables-in c = search needs
 
 tables-in-requires : tie.Need-tables-in-requires
 unfolding wordsOf wordsFrom
@@ -50,12 +29,6 @@ tables-in-requires c κs =
     let st = f .before .before .before .before in
     (st .pre .0, (f .fields .ensures .well 2 (omega arith), ap length (st .pre .1 .1 .1)))
 
-cast-database-entry : tie.Need-cast-database-entry
-cast-database-entry c = search needs
-
-database-entry-requires : tie.Need-database-entry-requires
-database-entry-requires c κs = search needs
-
 slice-set-from-cells : tie.Need-slice-set-from-cells
 slice-set-from-cells c =
     let ti = c .before .before .before .before in
@@ -63,9 +36,6 @@ slice-set-from-cells c =
     let k = ti .tables-in .kept .1 .1 .1 .0 in
     let z : length (st .args .cells .now) ≡ 29 = ap length (st .pre .1 .1 .1) in
     omega (arith, k, z)
-
-same-length : tie.Need-same-length
-same-length c = search needs
 
 returns : tie.Need-returns
 unfolding wordsOf wordsFrom
@@ -87,9 +57,6 @@ returns c =
     let tr = subst (λ (x : List (List ℕ)). TablesRead (slotTree s (getD (f .fields .result) 2 0)) (ti .tables-in .result) x mid) blank (ti .tables-in .ensures) in
     let size : length mid ≡ 29 = ti .tables-in .kept .1 .1 .1 .0 ∙ z in
     fill-good s (treeAt s 0) (f .fields .result) (f .fields .ensures) ei (sym (rf .rest-fits .ensures) ∙ t1 .if1 .taken) tr (t2 .if2 .taken) size (c .database-entry .ensures .0) (ni .name-in .ensures) (c .database-entry .ensures .1)
-
-same-length-2 : tie.Need-same-length-2
-same-length-2 c = search needs
 
 returns-2 : tie.Need-returns-2
 unfolding wordsOf wordsFrom
@@ -125,20 +92,20 @@ pub fill-spec : {M : Type 1} → statement M
 fill-spec =
     tie.close
     (tie.spec
-    slice-aggregate-fields
+    (λ c. search needs)
     fields-requires
-    array-read-name-in
-    name-in-requires
-    text-of-requires
-    is-id-requires
-    rest-fits-requires
-    array-read-tables-in
+    (λ c. search needs)
+    (λ c κs. search needs)
+    (λ c κs. search needs)
+    (λ c κs. search needs)
+    (λ c κs. search needs)
+    (λ c. search needs)
     tables-in-requires
-    cast-database-entry
-    database-entry-requires
+    (λ c. search needs)
+    (λ c κs. search needs)
     slice-set-from-cells
-    same-length
+    (λ c. search needs)
     returns
-    same-length-2
+    (λ c. search needs)
     returns-2
     returns-3)

@@ -5,13 +5,10 @@ use Rattle.schema.proofs.Tidying.{read-refused, readable, read-tidied}
 use Rattle.schema.proofs.read.Statement.{statement}
 use Rattle.schema.proofs.read.Tie as tie
 
-read-entries-requires : tie.Need-read-entries-requires
-read-entries-requires c κs = search needs
-
 returns : tie.Need-returns
 returns c =
-    let r = c .before in
-    read-refused _ _ (r .read-entries .result) (r .read-entries .ensures) (not-true _ (c .if1 .taken)) _
+    let r = c .before .before in
+    read-refused _ _ (r .read-entries .result) (r .read-entries .ensures) (not-true _ (c .before .if1 .taken))
 
 tidied-requires : tie.Need-tidied-requires
 tidied-requires c κs =
@@ -24,4 +21,4 @@ returns-2 c =
     read-tidied _ _ (r .read-entries .result) (r .read-entries .ensures) (not-false _ (c .before .before .if1 .left)) _ (c .tidied .ensures)
 
 pub read-spec : {M : Type 1} → statement M
-read-spec = tie.close (tie.spec read-entries-requires returns tidied-requires returns-2)
+read-spec = tie.close (tie.spec (λ c κs. search needs) returns tidied-requires returns-2)

@@ -9,18 +9,6 @@ use Rattle.schema.proofs.read_entries.Tie as tie
 returns : tie.Need-returns
 returns c = read-long (c .before .before .before .args .text .now) (c .if1 .taken)
 
-slice-aggregate-document : tie.Need-slice-aggregate-document
-slice-aggregate-document c = search needs
-
-document-requires : tie.Need-document-requires
-document-requires c κs = search needs
-
-enum-told : tie.Need-enum-told
-enum-told c = search needs
-
-slice-aggregate-fill : tie.Need-slice-aggregate-fill
-slice-aggregate-fill c = search needs
-
 fill-requires : tie.Need-fill-requires
 unfolding isRead
 fill-requires c κs =
@@ -31,12 +19,6 @@ fill-requires c κs =
     let s = st .args .text .now in
     let end = ap isRead (sym (d .document .ensures .0) ∙ et .enum-told .given .1) in
     (d .document .ensures .1, (read-well s (e .if1 .left) end, (e .if1 .left, refl)))
-
-enum-told-2 : tie.Need-enum-told-2
-enum-told-2 c = search needs
-
-enum-told-3 : tie.Need-enum-told-3
-enum-told-3 c = search needs
 
 returns-2 : tie.Need-returns-2
 unfolding isRead
@@ -70,13 +52,13 @@ read-entries-spec =
     tie.close
     (tie.spec
     returns
-    slice-aggregate-document
-    document-requires
-    enum-told
-    slice-aggregate-fill
+    (λ c. search needs)
+    (λ c κs. search needs)
+    (λ c. search needs)
+    (λ c. search needs)
     fill-requires
-    enum-told-2
-    enum-told-3
+    (λ c. search needs)
+    (λ c. search needs)
     returns-2
     returns-3
     returns-4)

@@ -16,9 +16,6 @@ read-tables-requires c κs =
     let st = e .before .before .before in
     (st .pre .0, (st .pre .1 .0 (ne-eqb (st .args .p) 0 (e .if1 .left)), st .pre .1 .1))
 
-same-length : tie.Need-same-length
-same-length c = search needs
-
 returns-2 : tie.Need-returns-2
 returns-2 c =
     let r = c .before in
@@ -26,4 +23,4 @@ returns-2 c =
     some-tables (e .before .before .before .args .text .now) (e .if1 .left) (r .read-tables .ensures)
 
 pub tables-in-spec : {M : Type 1} → statement M
-tables-in-spec = tie.close (tie.spec returns read-tables-requires same-length returns-2)
+tables-in-spec = tie.close (tie.spec returns read-tables-requires (λ c. search needs) returns-2)

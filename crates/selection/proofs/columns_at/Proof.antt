@@ -12,18 +12,6 @@ returns c =
     let a = s .args in
     columns-none (a .text .now) (a .columns .now) (c .if1 .taken) (s .pre .1 .1)
 
-kind-at-requires : tie.Need-kind-at-requires
-kind-at-requires c κs = search needs
-
-is-kind-requires : tie.Need-is-kind-requires
-is-kind-requires c κs = search needs
-
-first-requires : tie.Need-first-requires
-first-requires c κs = search needs
-
-names-at-requires : tie.Need-names-at-requires
-names-at-requires c κs = search needs
-
 returns-2 : tie.Need-returns-2
 returns-2 c =
     let k = c .before .before .before in
@@ -42,9 +30,9 @@ columns-at-spec =
     tie.close
     (tie.spec
     returns
-    kind-at-requires
-    is-kind-requires
-    first-requires
-    names-at-requires
+    (λ c κs. search needs)
+    (λ c κs. search needs)
+    (λ c κs. search needs)
+    (λ c κs. search needs)
     returns-2
     returns-3)

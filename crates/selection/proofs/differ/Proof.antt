@@ -7,16 +7,10 @@ use borrow.Author.Needs.{needs}
 use Rattle.selection.proofs.differ.Statement.{statement}
 use Rattle.selection.proofs.differ.Tie as tie
 
-same-column-requires : tie.Need-same-column-requires
-same-column-requires c κs = search needs
-
 returns : tie.Need-returns
 returns c =
     let a = c .before .before .args in
     ap not (c .same-column .ensures) ∙ sym (ap (λ (b : Bool). not (not b || sameValue (valueIn (a .c) (a .x .now)) (valueIn (a .c) (a .y .now)))) (c .before .if1 .taken))
 
-returns-2 : tie.Need-returns-2
-returns-2 c = search needs
-
 pub differ-spec : {M : Type 1} → statement M
-differ-spec = tie.close (tie.spec same-column-requires returns returns-2)
+differ-spec = tie.close (tie.spec (λ c κs. search needs) returns (λ c. search needs))

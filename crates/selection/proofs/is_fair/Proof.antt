@@ -9,26 +9,11 @@ use borrow.Author.Needs.{needs}
 use Rattle.selection.proofs.is_fair.Statement.{statement}
 use Rattle.selection.proofs.is_fair.Tie as tie
 
-slice-aggregate-is-word : tie.Need-slice-aggregate-is-word
-slice-aggregate-is-word c = search needs
-
-is-word-requires : tie.Need-is-word-requires
-is-word-requires c κs = search needs
-
-element-copy-out-result : tie.Need-element-copy-out-result
-element-copy-out-result c = search needs
-
 returns : tie.Need-returns
 returns c =
     let w = c .before .before in
     let a = w .before .before .before .args in
     λ show f. fair-id (map columnFrom (a .columns .now)) (treeAt (a .text .now) (a .at)) show (f .id) (sym (w .is-word .ensures) ∙ c .before .if1 .taken)
-
-column-at-requires : tie.Need-column-at-requires
-column-at-requires c κs = search needs
-
-enum-known-f : tie.Need-enum-known-f
-enum-known-f c = search needs
 
 add-result : tie.Need-add-result
 add-result c =
@@ -43,9 +28,6 @@ element-copy-out-result-2 c =
     let s = k .before .before .before .before .before in
     let a = s .args in
     omega (arith, s .pre, named-small (a .columns .now) (treeAt (a .text .now) (a .at)) (k .column-at .ensures) (c .before .f .given .1))
-
-enum-told : tie.Need-enum-told
-enum-told c = search needs
 
 returns-2 : tie.Need-returns-2
 returns-2 c =
@@ -67,14 +49,14 @@ pub is-fair-spec : {M : Type 1} → statement M
 is-fair-spec =
     tie.close
     (tie.spec
-    slice-aggregate-is-word
-    is-word-requires
-    element-copy-out-result
+    (λ c. search needs)
+    (λ c κs. search needs)
+    (λ c. search needs)
     returns
-    column-at-requires
-    enum-known-f
+    (λ c κs. search needs)
+    (λ c. search needs)
     add-result
     element-copy-out-result-2
-    enum-told
+    (λ c. search needs)
     returns-2
     returns-3)

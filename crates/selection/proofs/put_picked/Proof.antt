@@ -1,19 +1,10 @@
 -- `selection::put_picked` meets its contract. Assumes nothing.
 use native.Mathlib.Omega.{arith}
-use Rattle.answer.proofs.Putting.{put-nothing, put-then, put-is}
+use Rattle.json_writer.proofs.Putting.{put-nothing, put-then, put-is}
 use Rattle.projection.proofs.Columns.{shown-yes, shown-no}
 use borrow.Author.Needs.{needs}
 use Rattle.selection.proofs.put_picked.Statement.{statement}
 use Rattle.selection.proofs.put_picked.Tie as tie
-
-put-comma-requires : tie.Need-put-comma-requires
-put-comma-requires c κs = search needs
-
-put-row-requires : tie.Need-put-row-requires
-put-row-requires c κs = search needs
-
-same-length : tie.Need-same-length
-same-length c = search needs
 
 returns : tie.Need-returns
 returns c =
@@ -27,4 +18,4 @@ returns-2 c =
 
 pub put-picked-spec : {M : Type 1} → statement M
 put-picked-spec =
-    tie.close (tie.spec put-comma-requires put-row-requires same-length returns returns-2)
+    tie.close (tie.spec (λ c κs. search needs) (λ c κs. search needs) (λ c. search needs) returns returns-2)

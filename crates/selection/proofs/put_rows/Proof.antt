@@ -5,8 +5,8 @@ use mathlib.Core.List.{List}
 use Prim.Native.Nat.{ℕ, _+_, _*_, _-_, _≤_}
 use native.Mathlib.Omega.{arith}
 use lib.ListN.{length}
-use Rattle.answer.specs.Texts.{joined}
-use Rattle.answer.proofs.Putting.{Due, due-all, due-is, due-next, due-none}
+use Rattle.json_writer.specs.Texts.{joined}
+use Rattle.json_writer.proofs.Putting.{Due, due-all, due-is, due-next, due-none}
 use Rattle.catalog.specs.Entries.{columnsAt}
 use Rattle.selection.specs.Picks.{pickedFrom}
 use Rattle.selection.proofs.Picks.{rows-next, rows-end}

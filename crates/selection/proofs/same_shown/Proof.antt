@@ -4,15 +4,6 @@ use borrow.Author.Needs.{needs}
 use Rattle.selection.proofs.same_shown.Statement.{statement}
 use Rattle.selection.proofs.same_shown.Tie as tie
 
-element-copy-out-if1 : tie.Need-element-copy-out-if1
-element-copy-out-if1 c = search needs
-
-same-id-requires : tie.Need-same-id-requires
-same-id-requires c κs = search needs
-
-same-columns-requires : tie.Need-same-columns-requires
-same-columns-requires c κs = search needs
-
 returns : tie.Need-returns
 returns c =
     let a = c .before .before .before .before .before .args in
@@ -23,9 +14,6 @@ returns-2 c =
     let a = c .before .before .before .before .args in
     same-no (a .flags .now) (a .k) (a .x .now) (a .y .now) (c .before .before .if1 .taken) (c .before .same-id .ensures) (c .if2 .left)
 
-same-columns-requires-2 : tie.Need-same-columns-requires-2
-same-columns-requires-2 c κs = search needs
-
 returns-3 : tie.Need-returns-3
 returns-3 c =
     let a = c .before .before .before .args in
@@ -35,10 +23,10 @@ pub same-shown-spec : {M : Type 1} → statement M
 same-shown-spec =
     tie.close
     (tie.spec
-    element-copy-out-if1
-    same-id-requires
-    same-columns-requires
+    (λ c. search needs)
+    (λ c κs. search needs)
+    (λ c κs. search needs)
     returns
     returns-2
-    same-columns-requires-2
+    (λ c κs. search needs)
     returns-3)

@@ -7,23 +7,14 @@ use native.Mathlib.Omega.{arith}
 use lib.ListN.{length}
 use Rattle.catalog.proofs.Laws.{few-tables, few-columns}
 use Rattle.model.specs.Base.{ascii}
-use Rattle.answer.specs.Texts.{joined}
-use Rattle.answer.proofs.Putting.{put-then, put-is}
+use Rattle.json_writer.specs.Texts.{joined}
+use Rattle.json_writer.proofs.Putting.{put-then, put-is}
 use Rattle.catalog.specs.Entries.{columnsAt}
 use Rattle.selection.specs.Picks.{pickedFrom}
 use Rattle.selection.proofs.Picks.{select-is}
 use borrow.Author.Needs.{needs}
 use Rattle.selection.proofs.select_rows.Statement.{statement}
 use Rattle.selection.proofs.select_rows.Tie as tie
-
-wide-requires : tie.Need-wide-requires
-wide-requires c κs = search needs
-
-slice-aggregate-put-bytes : tie.Need-slice-aggregate-put-bytes
-slice-aggregate-put-bytes c = search needs
-
-put-bytes-requires : tie.Need-put-bytes-requires
-put-bytes-requires c κs = search needs
 
 put-rows-requires : tie.Need-put-rows-requires
 put-rows-requires c κs =
@@ -32,15 +23,6 @@ put-rows-requires c κs =
     let s = w .before .before in
     let four : w .wide .result < 4 = omega (arith, w .wide .ensures, s .pre .1 .0, few-tables _ (s .pre .0)) in
     ((omega (arith, b .put-bytes .ensures .short, s .pre .1 .1 .1), four, few-columns _ (s .pre .0) (w .wide .result) four), s .pre .1 .1 .0)
-
-slice-aggregate-put-bytes-2 : tie.Need-slice-aggregate-put-bytes-2
-slice-aggregate-put-bytes-2 c = search needs
-
-put-bytes-requires-2 : tie.Need-put-bytes-requires-2
-put-bytes-requires-2 c κs = search needs
-
-same-length : tie.Need-same-length
-same-length c = search needs
 
 returns : tie.Need-returns
 returns c =
@@ -60,11 +42,11 @@ pub select-rows-spec : {M : Type 1} → statement M
 select-rows-spec =
     tie.close
     (tie.spec
-    wide-requires
-    slice-aggregate-put-bytes
-    put-bytes-requires
+    (λ c κs. search needs)
+    (λ c. search needs)
+    (λ c κs. search needs)
     put-rows-requires
-    slice-aggregate-put-bytes-2
-    put-bytes-requires-2
-    same-length
+    (λ c. search needs)
+    (λ c κs. search needs)
+    (λ c. search needs)
     returns)

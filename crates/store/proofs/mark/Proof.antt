@@ -7,20 +7,11 @@ use Rattle.store.proofs.Calls.{mark-numbered, mark-length, mark-short, 
 use Rattle.store.proofs.mark.Statement.{statement}
 use Rattle.store.proofs.mark.Tie as tie
 
-clear-requires : tie.Need-clear-requires
-clear-requires c κs = search needs
-
-same-length : tie.Need-same-length
-same-length c = search needs
-
 returns : tie.Need-returns
 returns c =
     let a = c .before .before .before .before .before .before .before .args in
     let z = mark-length (a .area .now) (a .mark .now) (c .if1 .taken) in
     mark-numbered (a .area .now) (a .mark .now) (z .0, c .before .before .before .clear .ensures ∙ z .1)
-
-same-length-2 : tie.Need-same-length-2
-same-length-2 c = search needs
 
 returns-2 : tie.Need-returns-2
 returns-2 c =
@@ -28,35 +19,11 @@ returns-2 c =
     let z = mark-short (a .area .now) (a .mark .now) (c .before .if1 .left) (omega (arith, c .before .before .before .before .clear .kept .0, c .if2 .taken)) in
     mark-numbered (a .area .now) (a .mark .now) (z .0, c .before .before .before .before .clear .ensures ∙ z .1)
 
-slice-aggregate-opened : tie.Need-slice-aggregate-opened
-slice-aggregate-opened c = search needs
-
-opened-requires : tie.Need-opened-requires
-opened-requires c κs = search needs
-
-same-length-3 : tie.Need-same-length-3
-same-length-3 c = search needs
-
 returns-3 : tie.Need-returns-3
 returns-3 c =
     let a = c .before .before .before .before .before .before .before .before .before .before .before .before .before .args in
     let z = mark-disordered (a .area .now) (a .mark .now) (c .before .before .before .before .before .before .if1 .left) (omega (arith, c .before .before .before .before .before .before .before .before .before .clear .kept .0, c .before .before .before .before .before .if2 .left)) (c .before .before .opened .ensures .bad (not-true _ (c .if3 .taken))) in
     mark-numbered (a .area .now) (a .mark .now) (z .0, c .before .before .before .before .before .before .before .before .before .clear .ensures ∙ z .1)
-
-run-of-requires : tie.Need-run-of-requires
-run-of-requires c κs = search needs
-
-number-of-requires : tie.Need-number-of-requires
-number-of-requires c κs = search needs
-
-new-requires : tie.Need-new-requires
-new-requires c κs = search needs
-
-write-requires : tie.Need-write-requires
-write-requires c κs = search needs
-
-same-length-4 : tie.Need-same-length-4
-same-length-4 c = search needs
 
 returns-4 : tie.Need-returns-4
 returns-4 c =
@@ -72,18 +39,18 @@ pub mark-spec : {M : Type 1} → statement M
 mark-spec =
     tie.close
     (tie.spec
-    clear-requires
-    same-length
+    (λ c κs. search needs)
+    (λ c. search needs)
     returns
-    same-length-2
+    (λ c. search needs)
     returns-2
-    slice-aggregate-opened
-    opened-requires
-    same-length-3
+    (λ c. search needs)
+    (λ c κs. search needs)
+    (λ c. search needs)
     returns-3
-    run-of-requires
-    number-of-requires
-    new-requires
-    write-requires
-    same-length-4
+    (λ c κs. search needs)
+    (λ c κs. search needs)
+    (λ c κs. search needs)
+    (λ c κs. search needs)
+    (λ c. search needs)
     returns-4)

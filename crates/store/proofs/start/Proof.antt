@@ -11,22 +11,13 @@ returns c =
     let a = c .before .before .before .args in
     start-numbered (a .area .now) (a .schema .now) (a .run) (start-length (a .area .now) (a .schema .now) (a .run) (c .if1 .taken))
 
-read-requires : tie.Need-read-requires
-read-requires c κs = search needs
-
 returns-2 : tie.Need-returns-2
 returns-2 c =
     let a = c .before .before .before .before .before .before .args in
     start-numbered (a .area .now) (a .schema .now) (a .run) (start-schema (a .area .now) (a .schema .now) (a .run) (c .before .before .before .if1 .left) (c .before .read .ensures .refused (not-true _ (c .if2 .taken))))
 
-slice-aggregate-write-store : tie.Need-slice-aggregate-write-store
-slice-aggregate-write-store c = search needs
-
 write-store-requires : tie.Need-write-store-requires
 write-store-requires c κs = (omega (arith, c .before .before .before .before .before .before .if1 .left), (omega arith, omega arith))
-
-same-length : tie.Need-same-length
-same-length c = search needs
 
 returns-3 : tie.Need-returns-3
 returns-3 c =
@@ -40,9 +31,9 @@ start-spec =
     tie.close
     (tie.spec
     returns
-    read-requires
+    (λ c κs. search needs)
     returns-2
-    slice-aggregate-write-store
+    (λ c. search needs)
     write-store-requires
-    same-length
+    (λ c. search needs)
     returns-3)

@@ -18,9 +18,6 @@ read-columns-requires c κs =
     let st = e .before .before .before in
     (st .pre .0, (st .pre .1 .0 (ne-eqb (st .args .p) 0 (e .if1 .left)), (st .pre .1 .1 .0, (st .pre .1 .1 .1 .0, st .pre .1 .1 .1 .1))))
 
-same-length : tie.Need-same-length
-same-length c = search needs
-
 returns-2 : tie.Need-returns-2
 returns-2 c =
     let r = c .before in
@@ -29,4 +26,4 @@ returns-2 c =
     columns-some (st .args .text .now) (map entryName (st .args .tables .now)) (e .if1 .left) (r .read-columns .ensures)
 
 pub columns-in-spec : {M : Type 1} → statement M
-columns-in-spec = tie.close (tie.spec returns read-columns-requires same-length returns-2)
+columns-in-spec = tie.close (tie.spec returns read-columns-requires (λ c. search needs) returns-2)

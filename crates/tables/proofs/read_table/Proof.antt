@@ -8,7 +8,7 @@ use lib.ListN.{length, getD, take}
 use lib.Seq.{length-take-le}
 use Rattle.model.specs.Members.{membersIn}
 use Rattle.model.specs.SchemaText.{sizeOr}
-use Rattle.tables.specs.Tables.{restTold, IndexesIn}
+use Rattle.tables.specs.Tables.{restAllowed, IndexesIn}
 use native.Mathlib.Omega.{arith}
 use Rattle.model.specs.Catalog.{entryName}
 use Rattle.inner.specs.Positions.{treeAt}
@@ -18,17 +18,11 @@ use borrow.Author.Needs.{needs}
 use Rattle.tables.proofs.read_table.Statement.{statement}
 use Rattle.tables.proofs.read_table.Tie as tie
 
-slice-aggregate-fields : tie.Need-slice-aggregate-fields
-slice-aggregate-fields c = search needs
-
 fields-requires : tie.Need-fields-requires
 unfolding wordsOf wordsFrom
 fields-requires c κs =
     let st = c .before .before .before in
     (st .pre .0, (st .pre .1 .0, (refl, omega arith)))
-
-array-read-columns-in : tie.Need-array-read-columns-in
-array-read-columns-in c = search needs
 
 columns-in-requires : tie.Need-columns-in-requires
 unfolding wordsOf wordsFrom
@@ -38,9 +32,6 @@ columns-in-requires c κs =
     let p = st .pre .1 .1 .1 in
     (st .pre .0, (f .fields .ensures .well 0 (omega arith), (p .0, (p .1 .0, p .1 .1))))
 
-same-length : tie.Need-same-length
-same-length c = search needs
-
 returns : tie.Need-returns
 unfolding wordsOf wordsFrom
 returns c =
@@ -49,42 +40,6 @@ returns c =
     let st = f .before .before .before .before in
     let s = st .args .text .now in
     table-none s (map entryName (st .args .tables .now)) (treeAt s (st .args .at)) (f .fields .result) (f .fields .ensures) (ci .columns-in .ensures) (c .if1 .taken) _ _
-
-array-read-whole-in : tie.Need-array-read-whole-in
-array-read-whole-in c = search needs
-
-whole-in-requires : tie.Need-whole-in-requires
-whole-in-requires c κs = search needs
-
-array-read-truth-in : tie.Need-array-read-truth-in
-array-read-truth-in c = search needs
-
-truth-in-requires : tie.Need-truth-in-requires
-truth-in-requires c κs = search needs
-
-size-or-requires : tie.Need-size-or-requires
-size-or-requires c κs = search needs
-
-slice-aggregate-put-head : tie.Need-slice-aggregate-put-head
-slice-aggregate-put-head c = search needs
-
-cast-put-head : tie.Need-cast-put-head
-cast-put-head c = search needs
-
-array-read-put-head : tie.Need-array-read-put-head
-array-read-put-head c = search needs
-
-put-head-requires : tie.Need-put-head-requires
-put-head-requires c κs = search needs
-
-rest-fits-requires : tie.Need-rest-fits-requires
-rest-fits-requires c κs = search needs
-
-array-read-indexes-in : tie.Need-array-read-indexes-in
-array-read-indexes-in c = search needs
-
-array-read-indexes-in-2 : tie.Need-array-read-indexes-in-2
-array-read-indexes-in-2 c = search needs
 
 slice-reshare-prefix-indexes-in : tie.Need-slice-reshare-prefix-indexes-in
 slice-reshare-prefix-indexes-in c =
@@ -122,9 +77,6 @@ indexes-in-requires c κs =
     let n : length (take (ci .columns-in .result) (ci .columns-in .last .1 .1 .1 .1 .0)) ≡ ci .columns-in .result = length-take-le (ci .columns-in .result) (ci .columns-in .last .1 .1 .1 .1 .0) (omega (arith, k, l, p)) in
     (st .pre .0, (f .fields .ensures .well 3 (omega arith), (columns-well s ns j (f .fields .result) (f .fields .ensures) (ci .columns-in .ensures) l, (columns-named s ns j (f .fields .result) (f .fields .ensures) (ci .columns-in .ensures) l, omega (arith, n, l)))))
 
-same-length-2 : tie.Need-same-length-2
-same-length-2 c = search needs
-
 returns-2 : tie.Need-returns-2
 unfolding wordsOf wordsFrom
 returns-2 c =
@@ -144,32 +96,32 @@ returns-2 c =
     let name = st .args .name in
     let n = ci .columns-in .result in
     let ix = subst (λ (x : List ℕ). IndexesIn s (getD fs 3 0) (membersIn (treeAt s (getD fs 0 0))) (map entryName (take n (ci .columns-in .last .1 .1 .1 .1 .0))) (c .indexes-in .result) x (c .indexes-in .last .1 .1 .1 .1 .1 .0)) (ph .put-head .ensures) (c .indexes-in .ensures) in
-    table-read s ns j fs (f .fields .ensures) (ci .columns-in .ensures) (e .if1 .left) name (st .pre .1 .1 .0) (ti .truth-in .result) (not (eqb (getD fs 1 0) 0)) (so .size-or .result) (ti .truth-in .ensures) refl (so .size-or .ensures ∙ ap (sizeOr 0) (wi .whole-in .ensures)) (rf .rest-fits .ensures ∙ ap (restTold s fs) (wi .whole-in .ensures)) ix
+    table-read s ns j fs (f .fields .ensures) (ci .columns-in .ensures) (e .if1 .left) name (st .pre .1 .1 .0) (ti .truth-in .result) (not (eqb (getD fs 1 0) 0)) (so .size-or .result) (ti .truth-in .ensures) refl (so .size-or .ensures ∙ ap (sizeOr 0) (wi .whole-in .ensures)) (rf .rest-fits .ensures ∙ ap (restAllowed s fs) (wi .whole-in .ensures)) ix
 
 pub read-table-spec : {M : Type 1} → statement M
 read-table-spec =
     tie.close
     (tie.spec
-    slice-aggregate-fields
+    (λ c. search needs)
     fields-requires
-    array-read-columns-in
+    (λ c. search needs)
     columns-in-requires
-    same-length
+    (λ c. search needs)
     returns
-    array-read-whole-in
-    whole-in-requires
-    array-read-truth-in
-    truth-in-requires
-    size-or-requires
-    slice-aggregate-put-head
-    cast-put-head
-    array-read-put-head
-    put-head-requires
-    rest-fits-requires
-    array-read-indexes-in
-    array-read-indexes-in-2
+    (λ c. search needs)
+    (λ c κs. search needs)
+    (λ c. search needs)
+    (λ c κs. search needs)
+    (λ c κs. search needs)
+    (λ c. search needs)
+    (λ c. search needs)
+    (λ c. search needs)
+    (λ c κs. search needs)
+    (λ c κs. search needs)
+    (λ c. search needs)
+    (λ c. search needs)
     slice-reshare-prefix-indexes-in
     slice-aggregate-indexes-in
     indexes-in-requires
-    same-length-2
+    (λ c. search needs)
     returns-2)

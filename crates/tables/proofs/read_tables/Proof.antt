@@ -10,30 +10,12 @@ use borrow.Author.Needs.{needs}
 use Rattle.tables.proofs.read_tables.Statement.{statement}
 use Rattle.tables.proofs.read_tables.Tie as tie
 
-slice-aggregate-collect : tie.Need-slice-aggregate-collect
-slice-aggregate-collect c = search needs
-
-collect-requires : tie.Need-collect-requires
-collect-requires c κs = search needs
-
 returns : tie.Need-returns
 returns c =
     let co = c .before .before in
     let st = co .before .before .before .before in
     let s = st .args .text .now in
     too-many s (treeAt s (st .args .at)) (st .args .cells .now) (co .collect .ensures) (c .if1 .taken)
-
-slice-aggregate-name-cells : tie.Need-slice-aggregate-name-cells
-slice-aggregate-name-cells c = search needs
-
-name-cells-requires : tie.Need-name-cells-requires
-name-cells-requires c κs = search needs
-
-slice-aggregate-read-each : tie.Need-slice-aggregate-read-each
-slice-aggregate-read-each c = search needs
-
-array-share-prefix-heads : tie.Need-array-share-prefix-heads
-array-share-prefix-heads c = search needs
 
 slice-aggregate-read-each-2 : tie.Need-slice-aggregate-read-each-2
 slice-aggregate-read-each-2 c =
@@ -56,9 +38,6 @@ read-each-requires c κs =
     let room : co .collect .result ≤ length (co .collect .last .1 .1 .1 .1 .0) = omega (arith, k, l) in
     (st .pre .0, (heads-are s (treeAt s (st .args .at)) (st .args .cells .now) (co .collect .ensures) l room (nc .name-cells .result) (nc .name-cells .ensures .0) (nc .name-cells .ensures .1), st .pre .1 .1))
 
-same-length : tie.Need-same-length
-same-length c = search needs
-
 returns-2 : tie.Need-returns-2
 returns-2 c =
     let re = c .before .before in
@@ -71,9 +50,6 @@ returns-2 c =
     let k = co .collect .kept .1 .1 .1 .1 .0 in
     let room : co .collect .result ≤ length (co .collect .last .1 .1 .1 .1 .0) = omega (arith, k, l) in
     all-good s (treeAt s (st .args .at)) (st .args .cells .now) (co .collect .ensures) l room (nc .name-cells .result) (nc .name-cells .ensures .0) (nc .name-cells .ensures .1) (re .read-each .ensures) (c .if2 .taken)
-
-same-length-2 : tie.Need-same-length-2
-same-length-2 c = search needs
 
 returns-3 : tie.Need-returns-3
 returns-3 c =
@@ -92,16 +68,16 @@ pub read-tables-spec : {M : Type 1} → statement M
 read-tables-spec =
     tie.close
     (tie.spec
-    slice-aggregate-collect
-    collect-requires
+    (λ c. search needs)
+    (λ c κs. search needs)
     returns
-    slice-aggregate-name-cells
-    name-cells-requires
-    slice-aggregate-read-each
-    array-share-prefix-heads
+    (λ c. search needs)
+    (λ c κs. search needs)
+    (λ c. search needs)
+    (λ c. search needs)
     slice-aggregate-read-each-2
     read-each-requires
-    same-length
+    (λ c. search needs)
     returns-2
-    same-length-2
+    (λ c. search needs)
     returns-3)

@@ -8,15 +8,6 @@ use borrow.Author.Needs.{needs}
 use Rattle.text.proofs.body_at.Statement.{statement}
 use Rattle.text.proofs.body_at.Tie as tie
 
-kind-at-requires : tie.Need-kind-at-requires
-kind-at-requires c κs = search needs
-
-is-kind-requires : tie.Need-is-kind-requires
-is-kind-requires c κs = search needs
-
-spaces-requires : tie.Need-spaces-requires
-spaces-requires c κs = search needs
-
 add-t8 : tie.Need-add-t8
 add-t8 c =
     let k = c .before .before .before in
@@ -37,4 +28,4 @@ returns-2 c = ap isText (sym (c .before .before .kind-at .ensures)) ∙ sym (c .
 
 pub body-at-spec : {M : Type 1} → statement M
 body-at-spec =
-    tie.close (tie.spec kind-at-requires is-kind-requires spaces-requires add-t8 returns returns-2)
+    tie.close (tie.spec (λ c κs. search needs) (λ c κs. search needs) (λ c κs. search needs) add-t8 returns returns-2)

@@ -21,29 +21,14 @@ in-near c = rw (c .shorter .ensures) (in-request (c .before))
 add-result : tie.Need-add-result
 add-result c = let h = in-scratch c in omega arith
 
-sub-result : tie.Need-sub-result
-sub-result c = search needs
-
-part-result-start : tie.Need-part-result-start
-part-result-start c = search needs
-
 part-result-end : tie.Need-part-result-end
 part-result-end c = in-scratch c
 
 returns : tie.Need-returns
 returns c = rw (c .before .if1 .taken, add-sub-cancel-left)
 
-shorter-requires : tie.Need-shorter-requires
-shorter-requires c κs = search needs
-
 add-result-2 : tie.Need-add-result-2
 add-result-2 c = let h = in-near c in omega arith
-
-sub-result-2 : tie.Need-sub-result-2
-sub-result-2 c = search needs
-
-part-result-start-2 : tie.Need-part-result-start-2
-part-result-start-2 c = search needs
 
 part-result-end-2 : tie.Need-part-result-end-2
 part-result-end-2 c = in-near c
@@ -56,13 +41,13 @@ bytes-spec =
     tie.close
     (tie.spec
     add-result
-    sub-result
-    part-result-start
+    (λ c. search needs)
+    (λ c. search needs)
     part-result-end
     returns
-    shorter-requires
+    (λ c κs. search needs)
     add-result-2
-    sub-result-2
-    part-result-start-2
+    (λ c. search needs)
+    (λ c. search needs)
     part-result-end-2
     returns-2)

@@ -13,21 +13,6 @@ use borrow.Author.Needs.{needs}
 use Rattle.text.proofs.char_is.Statement.{statement}
 use Rattle.text.proofs.char_is.Tie as tie
 
-peek-requires : tie.Need-peek-requires
-peek-requires c κs = search needs
-
-slice-aggregate-emit : tie.Need-slice-aggregate-emit
-slice-aggregate-emit c = search needs
-
-emit-requires : tie.Need-emit-requires
-emit-requires c κs = search needs
-
-count-requires : tie.Need-count-requires
-count-requires c κs = search needs
-
-slice-aggregate-part-is : tie.Need-slice-aggregate-part-is
-slice-aggregate-part-is c = search needs
-
 part-is-requires : tie.Need-part-is-requires
 part-is-requires c κs =
     let em = c .before .before .before in
@@ -47,9 +32,6 @@ returns c =
     let f = held {before = replicate 4 0} (em .emit .ensures) (escape-small s (a .at) (a .e) _ b) in
     c .part-is .ensures ∙ ap (λ l. matched l (a .word .now) (a .o)) (rw (c .before .before .count .ensures, sub-zero, f .0) (f .1))
 
-part-is-requires-2 : tie.Need-part-is-requires-2
-part-is-requires-2 c κs = search needs
-
 returns-2 : tie.Need-returns-2
 unfolding charBytes
 returns-2 c =
@@ -60,12 +42,12 @@ pub char-is-spec : {M : Type 1} → statement M
 char-is-spec =
     tie.close
     (tie.spec
-    peek-requires
-    slice-aggregate-emit
-    emit-requires
-    count-requires
-    slice-aggregate-part-is
+    (λ c κs. search needs)
+    (λ c. search needs)
+    (λ c κs. search needs)
+    (λ c κs. search needs)
+    (λ c. search needs)
     part-is-requires
     returns
-    part-is-requires-2
+    (λ c κs. search needs)
     returns-2)

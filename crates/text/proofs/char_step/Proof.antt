@@ -13,21 +13,6 @@ use borrow.Author.Needs.{needs}
 use Rattle.text.proofs.char_step.Statement.{statement}
 use Rattle.text.proofs.char_step.Tie as tie
 
-peek-requires : tie.Need-peek-requires
-peek-requires c κs = search needs
-
-slice-aggregate-emit : tie.Need-slice-aggregate-emit
-slice-aggregate-emit c = search needs
-
-emit-requires : tie.Need-emit-requires
-emit-requires c κs = search needs
-
-count-requires : tie.Need-count-requires
-count-requires c κs = search needs
-
-slice-aggregate-pick : tie.Need-slice-aggregate-pick
-slice-aggregate-pick c = search needs
-
 pick-requires : tie.Need-pick-requires
 pick-requires c κs =
     let em = c .before .before .before in
@@ -68,11 +53,11 @@ pub char-step-spec : {M : Type 1} → statement M
 char-step-spec =
     tie.close
     (tie.spec
-    peek-requires
-    slice-aggregate-emit
-    emit-requires
-    count-requires
-    slice-aggregate-pick
+    (λ c κs. search needs)
+    (λ c. search needs)
+    (λ c κs. search needs)
+    (λ c κs. search needs)
+    (λ c. search needs)
     pick-requires
     returns
     pick-requires-2

@@ -8,18 +8,6 @@ use borrow.Author.Needs.{needs}
 use Rattle.text.proofs.chars_at.Statement.{statement}
 use Rattle.text.proofs.chars_at.Tie as tie
 
-body-at-requires : tie.Need-body-at-requires
-body-at-requires c κs = search needs
-
-enum-known-f : tie.Need-enum-known-f
-enum-known-f c = search needs
-
-body-chars-requires : tie.Need-body-chars-requires
-body-chars-requires c κs = search needs
-
-enum-told : tie.Need-enum-told
-enum-told c = search needs
-
 returns : tie.Need-returns
 returns c =
     let b = c .before .before .before .before in
@@ -40,4 +28,4 @@ returns-2 c =
 pub chars-at-spec : {M : Type 1} → statement M
 chars-at-spec =
     tie.close
-    (tie.spec body-at-requires enum-known-f body-chars-requires enum-told returns returns-2)
+    (tie.spec (λ c κs. search needs) (λ c. search needs) (λ c κs. search needs) (λ c. search needs) returns returns-2)

@@ -4,12 +4,6 @@ use borrow.Author.Needs.{needs}
 use Rattle.text.proofs.count.Statement.{statement}
 use Rattle.text.proofs.count.Tie as tie
 
-enum-known-w : tie.Need-enum-known-w
-enum-known-w c = search needs
-
-enum-told : tie.Need-enum-told
-enum-told c = search needs
-
 returns : tie.Need-returns
 unfolding countOf
 returns c = rw (c .before .w .given .1)
@@ -19,4 +13,4 @@ unfolding countOf
 returns-2 c = rw (c .enum-told .given .1)
 
 pub count-spec : {M : Type 1} → statement M
-count-spec = tie.close (tie.spec enum-known-w enum-told returns returns-2)
+count-spec = tie.close (tie.spec (λ c. search needs) (λ c. search needs) returns returns-2)

@@ -11,55 +11,28 @@ use borrow.Author.Needs.{needs}
 use Rattle.text.proofs.emit.Statement.{statement}
 use Rattle.text.proofs.emit.Tie as tie
 
-peek-requires : tie.Need-peek-requires
-peek-requires c κs = search needs
-
 add-peek : tie.Need-add-peek
 add-peek c =
     let a = c .before .before .before .before .args in
     omega (arith, inside-byte (a .text .now) (a .at) 92 (sym (c .before .peek .ensures) ∙ c .if1 .taken) (lit< tt))
-
-peek-requires-2 : tie.Need-peek-requires-2
-peek-requires-2 c κs = search needs
 
 add-hex4 : tie.Need-add-hex4
 add-hex4 c =
     let a = c .before .before .before .before .before .before .args in
     omega (arith, inside-byte (a .text .now) (a .at + 1) 117 (sym (c .before .peek2 .ensures) ∙ c .if2 .taken) (lit< tt))
 
-hex4-requires : tie.Need-hex4-requires
-hex4-requires c κs = search needs
-
 escape-bytes-requires : tie.Need-escape-bytes-requires
 escape-bytes-requires c κs =
     let a = c .before .before .before .before .before .before .before .before .args in
     rw (c .before .hex4 .ensures) (unit-below (a .text .now) (a .at + 2))
 
-same-length : tie.Need-same-length
-same-length c = search needs
-
 returns : tie.Need-returns
 returns c =
     rw (← c .before .before .before .before .before .before .before .before .peek .ensures) (unfold charBytes in rw (charBytes, eq-eqb _ 92 (c .before .before .before .before .before .before .before .if1 .taken), ← c .before .before .before .before .before .before .peek2 .ensures, eq-eqb _ 117 (c .before .before .before .before .before .if2 .taken), ← escape-bytes-same (c .before .before .before .before .before .before .before .before .before .before .before .args .text .now), ← c .before .before .before .before .hex4 .ensures) (c .before .before .escape-bytes .ensures))
 
-short-escape-requires : tie.Need-short-escape-requires
-short-escape-requires c κs = search needs
-
-push-requires : tie.Need-push-requires
-push-requires c κs = search needs
-
-same-length-2 : tie.Need-same-length-2
-same-length-2 c = search needs
-
 returns-2 : tie.Need-returns-2
 returns-2 c =
     rw (← c .before .before .before .before .before .before .before .before .peek .ensures) (unfold charBytes in rw (charBytes, eq-eqb _ 92 (c .before .before .before .before .before .before .before .if1 .taken), ← c .before .before .before .before .before .before .peek2 .ensures, ne-eqb _ 117 (c .before .before .before .before .before .if2 .left), ← c .before .before .before .before .before .before .peek2 .ensures, ← c .before .before .before .before .short-escape .ensures) (c .before .before .push .ensures))
-
-copy-requires : tie.Need-copy-requires
-copy-requires c κs = search needs
-
-same-length-3 : tie.Need-same-length-3
-same-length-3 c = search needs
 
 returns-3 : tie.Need-returns-3
 returns-3 c =
@@ -69,18 +42,18 @@ pub emit-spec : {M : Type 1} → statement M
 emit-spec =
     tie.close
     (tie.spec
-    peek-requires
+    (λ c κs. search needs)
     add-peek
-    peek-requires-2
+    (λ c κs. search needs)
     add-hex4
-    hex4-requires
+    (λ c κs. search needs)
     escape-bytes-requires
-    same-length
+    (λ c. search needs)
     returns
-    short-escape-requires
-    push-requires
-    same-length-2
+    (λ c κs. search needs)
+    (λ c κs. search needs)
+    (λ c. search needs)
     returns-2
-    copy-requires
-    same-length-3
+    (λ c κs. search needs)
+    (λ c. search needs)
     returns-3)

@@ -4,18 +4,6 @@ use borrow.Author.Needs.{needs}
 use Rattle.text.proofs.escape_bytes.Statement.{statement}
 use Rattle.text.proofs.escape_bytes.Tie as tie
 
-unit-value-requires : tie.Need-unit-value-requires
-unit-value-requires c κs = search needs
-
-unit-end-requires : tie.Need-unit-end-requires
-unit-end-requires c κs = search needs
-
-low-half-requires : tie.Need-low-half-requires
-low-half-requires c κs = search needs
-
-unit-value-requires-2 : tie.Need-unit-value-requires-2
-unit-value-requires-2 c κs = search needs
-
 unit-character-requires : tie.Need-unit-character-requires
 unit-character-requires c κs = rw (c .unit-value2 .ensures, c .before .low-half .ensures) (second-below _ _)
 
@@ -25,9 +13,6 @@ encode-requires c κs =
     let v = u .before .before .before in
     rw (c .before .unit-character .ensures)
     (character-below _ _ (rw (v .unit-value .ensures) (v .before .before .before .pre)) (rw (u .unit-value2 .ensures, u .before .low-half .ensures) (second-below _ _)))
-
-same-length : tie.Need-same-length
-same-length c = search needs
 
 returns : tie.Need-returns
 returns c =
@@ -40,11 +25,11 @@ pub escape-bytes-spec : {M : Type 1} → statement M
 escape-bytes-spec =
     tie.close
     (tie.spec
-    unit-value-requires
-    unit-end-requires
-    low-half-requires
-    unit-value-requires-2
+    (λ c κs. search needs)
+    (λ c κs. search needs)
+    (λ c κs. search needs)
+    (λ c κs. search needs)
     unit-character-requires
     encode-requires
-    same-length
+    (λ c. search needs)
     returns)

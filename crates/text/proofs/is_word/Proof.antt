@@ -11,24 +11,12 @@ use borrow.Author.Needs.{needs}
 use Rattle.text.proofs.is_word.Statement.{statement}
 use Rattle.text.proofs.is_word.Tie as tie
 
-kind-at-requires : tie.Need-kind-at-requires
-kind-at-requires c κs = search needs
-
-is-kind-requires : tie.Need-is-kind-requires
-is-kind-requires c κs = search needs
-
-spaces-requires : tie.Need-spaces-requires
-spaces-requires c κs = search needs
-
 add-body-is : tie.Need-add-body-is
 add-body-is c =
     let k = c .before .before .before in
     let st = k .before .before .before in
     let t = ap isText (sym (k .kind-at .ensures)) ∙ sym (c .before .before .is-kind .ensures) ∙ c .before .if1 .taken in
     omega (arith, c .spaces .ensures, text-tree (st .args .text .now) (st .args .at) t .0)
-
-body-is-requires : tie.Need-body-is-requires
-body-is-requires c κs = search needs
 
 returns : tie.Need-returns
 returns c =
@@ -50,10 +38,10 @@ pub is-word-spec : {M : Type 1} → statement M
 is-word-spec =
     tie.close
     (tie.spec
-    kind-at-requires
-    is-kind-requires
-    spaces-requires
+    (λ c κs. search needs)
+    (λ c κs. search needs)
+    (λ c κs. search needs)
     add-body-is
-    body-is-requires
+    (λ c κs. search needs)
     returns
     returns-2)

@@ -7,12 +7,6 @@ use borrow.Author.Needs.{needs}
 use Rattle.text.proofs.next_byte.Statement.{statement}
 use Rattle.text.proofs.next_byte.Tie as tie
 
-character-requires : tie.Need-character-requires
-character-requires c κs = search needs
-
-enum-known-n : tie.Need-enum-known-n
-enum-known-n c = search needs
-
 char-step-requires : tie.Need-char-step-requires
 char-step-requires c κs =
     let ch = c .before .before .before in
@@ -21,9 +15,6 @@ char-step-requires c κs =
     let s = a .text .now in
     let q = sym (ch .character .ensures) ∙ c .before .n .given .1 in
     ((subst (PastNext s (suc (a .at))) q (char-past s (a .at))) .1, offset-in s (a .at) (a .off) _ (st .pre) q)
-
-enum-told : tie.Need-enum-told
-enum-told c = search needs
 
 returns : tie.Need-returns
 returns c =
@@ -44,4 +35,4 @@ returns-2 c =
 pub next-byte-spec : {M : Type 1} → statement M
 next-byte-spec =
     tie.close
-    (tie.spec character-requires enum-known-n char-step-requires enum-told returns returns-2)
+    (tie.spec (λ c κs. search needs) (λ c. search needs) char-step-requires (λ c. search needs) returns returns-2)

@@ -2,35 +2,20 @@
 use borrow.Author.Tests.{lt-ltb, le-ltb}
 use mathlib.Core.Path.{sym}
 use Rattle.text.specs.Push.{pushTo, pushOut, pushAllTo, pushAllOut}
-use Rattle.text.proofs.Pushing.{set-past}
+use lib.Seq.{set-out}
 use borrow.Author.Needs.{needs}
 use Rattle.text.proofs.push.Statement.{statement}
 use Rattle.text.proofs.push.Tie as tie
-
-enum-known-w : tie.Need-enum-known-w
-enum-known-w c = search needs
-
-slice-write-out : tie.Need-slice-write-out
-slice-write-out c = search needs
-
-add-t9 : tie.Need-add-t9
-add-t9 c = search needs
-
-same-length : tie.Need-same-length
-same-length c = search needs
 
 returns : tie.Need-returns
 unfolding pushAllTo pushAllOut pushTo pushOut
 returns c =
     record { to = rw (c .before .before .w .given .1, pushTo, lt-ltb _ _ (c .if1 .taken)); out = rw (c .before .before .w .given .1) }
 
-enum-told : tie.Need-enum-told
-enum-told c = search needs
-
 returns-2 : tie.Need-returns-2
 unfolding pushAllTo pushAllOut pushTo pushOut
 returns-2 c =
-    record { to = rw (c .before .before .w .given .1, pushTo, le-ltb _ _ (c .if1 .left)); out = rw (c .before .before .w .given .1) (sym (set-past _ _ _ (c .if1 .left))) }
+    record { to = rw (c .before .before .w .given .1, pushTo, le-ltb _ _ (c .if1 .left)); out = rw (c .before .before .w .given .1) (sym (set-out _ _ _ (c .if1 .left))) }
 
 returns-3 : tie.Need-returns-3
 unfolding pushAllTo pushAllOut pushTo pushOut
@@ -40,11 +25,11 @@ pub push-spec : {M : Type 1} → statement M
 push-spec =
     tie.close
     (tie.spec
-    enum-known-w
-    slice-write-out
-    add-t9
-    same-length
+    (λ c. search needs)
+    (λ c. search needs)
+    (λ c. search needs)
+    (λ c. search needs)
     returns
-    enum-told
+    (λ c. search needs)
     returns-2
     returns-3)

@@ -9,33 +9,6 @@ use borrow.Author.Needs.{needs}
 use Rattle.text.proofs.same_strings.Statement.{statement}
 use Rattle.text.proofs.same_strings.Tie as tie
 
-body-at-requires : tie.Need-body-at-requires
-body-at-requires c κs = search needs
-
-body-at-requires-2 : tie.Need-body-at-requires-2
-body-at-requires-2 c κs = search needs
-
-enum-known-f : tie.Need-enum-known-f
-enum-known-f c = search needs
-
-enum-known-g : tie.Need-enum-known-g
-enum-known-g c = search needs
-
-same-bodies-requires : tie.Need-same-bodies-requires
-same-bodies-requires c κs = search needs
-
-enum-told : tie.Need-enum-told
-enum-told c = search needs
-
-enum-told-2 : tie.Need-enum-told-2
-enum-told-2 c = search needs
-
-slice-aggregate-is-word : tie.Need-slice-aggregate-is-word
-slice-aggregate-is-word c = search needs
-
-is-word-requires : tie.Need-is-word-requires
-is-word-requires c κs = search needs
-
 returns : tie.Need-returns
 returns c =
     let y = c .before .before .before .before .before .before .before in
@@ -66,15 +39,15 @@ pub same-strings-spec : {M : Type 1} → statement M
 same-strings-spec =
     tie.close
     (tie.spec
-    body-at-requires
-    body-at-requires-2
-    enum-known-f
-    enum-known-g
-    same-bodies-requires
-    enum-told
-    enum-told-2
-    slice-aggregate-is-word
-    is-word-requires
+    (λ c κs. search needs)
+    (λ c κs. search needs)
+    (λ c. search needs)
+    (λ c. search needs)
+    (λ c κs. search needs)
+    (λ c. search needs)
+    (λ c. search needs)
+    (λ c. search needs)
+    (λ c κs. search needs)
     returns
     returns-2
     returns-3)

@@ -7,27 +7,12 @@ use borrow.Author.Needs.{needs}
 use Rattle.text.proofs.string_at.Statement.{statement}
 use Rattle.text.proofs.string_at.Tie as tie
 
-kind-at-requires : tie.Need-kind-at-requires
-kind-at-requires c κs = search needs
-
-is-kind-requires : tie.Need-is-kind-requires
-is-kind-requires c κs = search needs
-
-spaces-requires : tie.Need-spaces-requires
-spaces-requires c κs = search needs
-
 add-j : tie.Need-add-j
 add-j c =
     let k = c .before .before .before in
     let st = k .before .before .before in
     let t = ap isText (sym (k .kind-at .ensures)) ∙ sym (c .before .before .is-kind .ensures) ∙ c .before .if1 .taken in
     omega (arith, c .spaces .ensures, text-tree (st .args .text .now) (st .args .at) t .0)
-
-quote-requires : tie.Need-quote-requires
-quote-requires c κs = search needs
-
-enum-known-q : tie.Need-enum-known-q
-enum-known-q c = search needs
 
 sub-n : tie.Need-sub-n
 sub-n c =
@@ -46,18 +31,6 @@ returns c =
     let st = k .before .before .before in
     let t = ap isText (sym (k .kind-at .ensures)) ∙ sym (sp .before .before .is-kind .ensures) ∙ sp .before .if1 .taken in
     plain-held (st .args .text .now) (st .args .at) t (sp .spaces .ensures) _ (sym (q .quote .ensures) ∙ c .before .q .given .1)
-
-enum-told : tie.Need-enum-told
-enum-told c = search needs
-
-decode-requires : tie.Need-decode-requires
-decode-requires c κs = search needs
-
-count-requires : tie.Need-count-requires
-count-requires c κs = search needs
-
-same-length : tie.Need-same-length
-same-length c = search needs
 
 returns-2 : tie.Need-returns-2
 returns-2 c =
@@ -79,17 +52,17 @@ pub string-at-spec : {M : Type 1} → statement M
 string-at-spec =
     tie.close
     (tie.spec
-    kind-at-requires
-    is-kind-requires
-    spaces-requires
+    (λ c κs. search needs)
+    (λ c κs. search needs)
+    (λ c κs. search needs)
     add-j
-    quote-requires
-    enum-known-q
+    (λ c κs. search needs)
+    (λ c. search needs)
     sub-n
     returns
-    enum-told
-    decode-requires
-    count-requires
-    same-length
+    (λ c. search needs)
+    (λ c κs. search needs)
+    (λ c κs. search needs)
+    (λ c. search needs)
     returns-2
     returns-3)

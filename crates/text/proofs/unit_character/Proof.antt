@@ -8,9 +8,6 @@ use borrow.Author.Needs.{needs}
 use Rattle.text.proofs.unit_character.Statement.{statement}
 use Rattle.text.proofs.unit_character.Tie as tie
 
-is-first-half-requires : tie.Need-is-first-half-requires
-is-first-half-requires c κs = search needs
-
 pair-of-requires : tie.Need-pair-of-requires
 pair-of-requires c κs = (of-range (55296 to 56319) _ (sym (c .before .is-first-half .ensures) ∙ c .if1 .taken) .1, search needs)
 
@@ -24,4 +21,4 @@ returns-2 c = rw (characterOf, sym (c .before .is-first-half .ensures) ∙ c .if
 
 pub unit-character-spec : {M : Type 1} → statement M
 unit-character-spec =
-    tie.close (tie.spec is-first-half-requires pair-of-requires returns returns-2)
+    tie.close (tie.spec (λ c κs. search needs) pair-of-requires returns returns-2)

@@ -7,40 +7,10 @@ use borrow.Author.Needs.{needs}
 use Rattle.uuids.proofs.entry_of.Statement.{statement}
 use Rattle.uuids.proofs.entry_of.Tie as tie
 
-slice-aggregate-find : tie.Need-slice-aggregate-find
-slice-aggregate-find c = search needs
-
-find-requires : tie.Need-find-requires
-find-requires c κs = search needs
-
-enum-known-o : tie.Need-enum-known-o
-enum-known-o c = search needs
-
-enum-told : tie.Need-enum-told
-enum-told c = search needs
-
 returns : tie.Need-returns
 returns c =
     let a = c .before .before .before .before .before .before .args in
     entry-no-op (a .text .now) (membersIn (treeAt (a .text .now) (a .at))) (c .before .before .find .ensures) (c .enum-told .given .1)
-
-slice-aggregate-is-word : tie.Need-slice-aggregate-is-word
-slice-aggregate-is-word c = search needs
-
-is-word-requires : tie.Need-is-word-requires
-is-word-requires c κs = search needs
-
-slice-aggregate-find-2 : tie.Need-slice-aggregate-find-2
-slice-aggregate-find-2 c = search needs
-
-find-requires-2 : tie.Need-find-requires-2
-find-requires-2 c κs = search needs
-
-enum-known-u : tie.Need-enum-known-u
-enum-known-u c = search needs
-
-enum-told-2 : tie.Need-enum-told-2
-enum-told-2 c = search needs
 
 returns-2 : tie.Need-returns-2
 returns-2 c =
@@ -72,17 +42,17 @@ pub entry-of-spec : {M : Type 1} → statement M
 entry-of-spec =
     tie.close
     (tie.spec
-    slice-aggregate-find
-    find-requires
-    enum-known-o
-    enum-told
+    (λ c. search needs)
+    (λ c κs. search needs)
+    (λ c. search needs)
+    (λ c. search needs)
     returns
-    slice-aggregate-is-word
-    is-word-requires
-    slice-aggregate-find-2
-    find-requires-2
-    enum-known-u
-    enum-told-2
+    (λ c. search needs)
+    (λ c κs. search needs)
+    (λ c. search needs)
+    (λ c κs. search needs)
+    (λ c. search needs)
+    (λ c. search needs)
     returns-2
     add-result
     returns-3

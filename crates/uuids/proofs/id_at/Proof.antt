@@ -17,29 +17,11 @@ use borrow.Author.Needs.{needs}
 use Rattle.uuids.proofs.id_at.Statement.{statement}
 use Rattle.uuids.proofs.id_at.Tie as tie
 
-kind-at-requires : tie.Need-kind-at-requires
-kind-at-requires c κs = search needs
-
-is-kind-requires : tie.Need-is-kind-requires
-is-kind-requires c κs = search needs
-
-spaces-requires : tie.Need-spaces-requires
-spaces-requires c κs = search needs
-
 add-decode : tie.Need-add-decode
 add-decode c =
     let a = c .before .before .before .before .before .args in
     let t = ap isText (sym (c .before .before .before .kind-at .ensures)) ∙ sym (c .before .before .is-kind .ensures) ∙ c .before .if1 .taken in
     omega (arith, c .spaces .ensures, text-tree (a .text .now) (a .at) t .0)
-
-slice-aggregate-decode : tie.Need-slice-aggregate-decode
-slice-aggregate-decode c = search needs
-
-decode-requires : tie.Need-decode-requires
-decode-requires c κs = search needs
-
-enum-known-w : tie.Need-enum-known-w
-enum-known-w c = search needs
 
 array-share-prefix-buf : tie.Need-array-share-prefix-buf
 array-share-prefix-buf c =
@@ -52,9 +34,6 @@ slice-aggregate-id-of c =
     let f = fitted {before = replicate 36 0} (d .ensures) (c .before .before .w .given .1) in
     f .0 ∙ sym (ap length (f .2))
 
-id-of-requires : tie.Need-id-of-requires
-id-of-requires c κs = search needs
-
 returns : tie.Need-returns
 returns c =
     let a = c .before .before .before .before .before .before .before .before .before .before .before .before .before .args in
@@ -63,9 +42,6 @@ returns c =
     let f = fitted {before = replicate 36 0} (c .before .before .before .before .before .before .decode .ensures) (c .before .before .before .w .given .1) in
     let q = ap (uuidFrom 0 0) (f .2) ∙ ap (λ i. uuidFrom 0 0 (bodyAt s (i + 1) .tree)) (c .before .before .before .before .before .before .before .before .spaces .ensures) ∙ sym (id-string (text-tree s (a .at) t .1)) in
     subst (Spells (c .id-of .result)) q (c .id-of .ensures)
-
-enum-told : tie.Need-enum-told
-enum-told c = search needs
 
 returns-2 : tie.Need-returns-2
 unfolding Spells
@@ -88,17 +64,17 @@ pub id-at-spec : {M : Type 1} → statement M
 id-at-spec =
     tie.close
     (tie.spec
-    kind-at-requires
-    is-kind-requires
-    spaces-requires
+    (λ c κs. search needs)
+    (λ c κs. search needs)
+    (λ c κs. search needs)
     add-decode
-    slice-aggregate-decode
-    decode-requires
-    enum-known-w
+    (λ c. search needs)
+    (λ c κs. search needs)
+    (λ c. search needs)
     array-share-prefix-buf
     slice-aggregate-id-of
-    id-of-requires
+    (λ c κs. search needs)
     returns
-    enum-told
+    (λ c. search needs)
     returns-2
     returns-3)

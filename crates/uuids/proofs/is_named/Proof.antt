@@ -8,15 +8,6 @@ use borrow.Author.Needs.{needs}
 use Rattle.uuids.proofs.is_named.Statement.{statement}
 use Rattle.uuids.proofs.is_named.Tie as tie
 
-entry-at-requires : tie.Need-entry-at-requires
-entry-at-requires c κs = search needs
-
-sub-same-strings : tie.Need-sub-same-strings
-sub-same-strings c = search needs
-
-same-strings-requires : tie.Need-same-strings-requires
-same-strings-requires c κs = search needs
-
 returns : tie.Need-returns
 unfolding isEntry
 returns c =
@@ -37,4 +28,4 @@ returns-2 c =
 
 pub is-named-spec : {M : Type 1} → statement M
 is-named-spec =
-    tie.close (tie.spec entry-at-requires sub-same-strings same-strings-requires returns returns-2)
+    tie.close (tie.spec (λ c κs. search needs) (λ c. search needs) (λ c κs. search needs) returns returns-2)

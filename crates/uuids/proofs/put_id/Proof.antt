@@ -10,27 +10,6 @@ use borrow.Author.Needs.{needs}
 use Rattle.uuids.proofs.put_id.Statement.{statement}
 use Rattle.uuids.proofs.put_id.Tie as tie
 
-clear-requires : tie.Need-clear-requires
-clear-requires c κs = search needs
-
-put-number-requires : tie.Need-put-number-requires
-put-number-requires c κs = search needs
-
-sub-put-number : tie.Need-sub-put-number
-sub-put-number c = search needs
-
-part-put-number-start : tie.Need-part-put-number-start
-part-put-number-start c = search needs
-
-part-put-number-end : tie.Need-part-put-number-end
-part-put-number-end c = search needs
-
-put-number-requires-2 : tie.Need-put-number-requires-2
-put-number-requires-2 c κs = search needs
-
-same-length : tie.Need-same-length
-same-length c = search needs
-
 returns : tie.Need-returns
 returns c =
     let s = c .before .before .before .before .before .before .before .before .before .before .before .before .before in
@@ -44,11 +23,11 @@ pub put-id-spec : {M : Type 1} → statement M
 put-id-spec =
     tie.close
     (tie.spec
-    clear-requires
-    put-number-requires
-    sub-put-number
-    part-put-number-start
-    part-put-number-end
-    put-number-requires-2
-    same-length
+    (λ c κs. search needs)
+    (λ c κs. search needs)
+    (λ c. search needs)
+    (λ c. search needs)
+    (λ c. search needs)
+    (λ c κs. search needs)
+    (λ c. search needs)
     returns)

@@ -9,12 +9,6 @@ use borrow.Author.Needs.{needs}
 use Rattle.uuids.proofs.spell.Statement.{statement}
 use Rattle.uuids.proofs.spell.Tie as tie
 
-enum-known-i : tie.Need-enum-known-i
-enum-known-i c = search needs
-
-is-dash-requires : tie.Need-is-dash-requires
-is-dash-requires c κs = search needs
-
 returns : tie.Need-returns
 returns c =
     let i = c .before .before .before .before .i .given in
@@ -27,12 +21,6 @@ returns-2 c =
     let a = c .before .before .before .before .before .before .args in
     sym (ap (λ x. spelt x (a .at) (a .b)) (i .1) ∙ spelt-other (i .0 .0) (i .0 .1 .0) (a .at) (a .b) (sym (c .before .before .is-dash .ensures) ∙ c .before .if1 .taken) (ne-eqb (a .b) 45 (c .if2 .left)))
 
-hex-digit-requires : tie.Need-hex-digit-requires
-hex-digit-requires c κs = search needs
-
-shift-requires : tie.Need-shift-requires
-shift-requires c κs = search needs
-
 returns-3 : tie.Need-returns-3
 returns-3 c =
     let i = c .before .before .before .before .before .before .i .given in
@@ -40,9 +28,6 @@ returns-3 c =
     let d = c .before .before .hex-digit in
     c .shift .ensures ∙ ap (shifted (i .0 .0) (i .0 .1 .0)) (d .ensures)
     ∙ sym (ap (λ x. spelt x (a .at) (a .b)) (i .1) ∙ spelt-digit (i .0 .0) (i .0 .1 .0) (a .at) (a .b) (sym (c .before .before .before .before .is-dash .ensures) ∙ c .before .before .before .if1 .left) (lt-ltb (hexOf (a .b)) 16 (omega (arith, d .ensures, c .before .if3 .taken))))
-
-enum-told : tie.Need-enum-told
-enum-told c = search needs
 
 returns-4 : tie.Need-returns-4
 returns-4 c =
@@ -60,13 +45,13 @@ pub spell-spec : {M : Type 1} → statement M
 spell-spec =
     tie.close
     (tie.spec
-    enum-known-i
-    is-dash-requires
+    (λ c. search needs)
+    (λ c κs. search needs)
     returns
     returns-2
-    hex-digit-requires
-    shift-requires
+    (λ c κs. search needs)
+    (λ c κs. search needs)
     returns-3
-    enum-told
+    (λ c. search needs)
     returns-4
     returns-5)

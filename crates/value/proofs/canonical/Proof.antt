@@ -13,9 +13,6 @@ use borrow.Author.Needs.{needs}
 use Rattle.value.proofs.canonical.Statement.{statement}
 use Rattle.value.proofs.canonical.Tie as tie
 
-wide-requires : tie.Need-wide-requires
-wide-requires c κs = search needs
-
 returns : tie.Need-returns
 returns c =
     let s = c .before .before in
@@ -42,31 +39,16 @@ slice-aggregate-all-well c =
     let p = c .before in
     omega (arith, four p, length-take (p .before .before .before .wide .result) (p .before .before .before .before .args .atoms .now))
 
-all-well-requires : tie.Need-all-well-requires
-all-well-requires c κs = search needs
-
 slice-aggregate-ascending : tie.Need-slice-aggregate-ascending
 slice-aggregate-ascending c =
     let p = c .before .before .before in
     omega (arith, four p, length-take (p .before .before .before .wide .result) (p .before .before .before .before .args .atoms .now))
-
-ascending-requires : tie.Need-ascending-requires
-ascending-requires c κs = search needs
-
-mul-all-blank : tie.Need-mul-all-blank
-mul-all-blank c = search needs
 
 sub-all-blank : tie.Need-sub-all-blank
 sub-all-blank c = omega (arith, four (c .before .before .before .before))
 
 part-all-blank-start : tie.Need-part-all-blank-start
 part-all-blank-start c = omega (arith, four (c .before .before .before .before))
-
-part-all-blank-end : tie.Need-part-all-blank-end
-part-all-blank-end c = search needs
-
-all-blank-requires : tie.Need-all-blank-requires
-all-blank-requires c κs = search needs
 
 returns-4 : tie.Need-returns-4
 returns-4 c =
@@ -92,17 +74,17 @@ pub canonical-spec : {M : Type 1} → statement M
 canonical-spec =
     tie.close
     (tie.spec
-    wide-requires
+    (λ c κs. search needs)
     returns
     returns-2
     returns-3
     slice-aggregate-all-well
-    all-well-requires
+    (λ c κs. search needs)
     slice-aggregate-ascending
-    ascending-requires
-    mul-all-blank
+    (λ c κs. search needs)
+    (λ c. search needs)
     sub-all-blank
     part-all-blank-start
-    part-all-blank-end
-    all-blank-requires
+    (λ c. search needs)
+    (λ c κs. search needs)
     returns-4)

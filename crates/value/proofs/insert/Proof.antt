@@ -7,24 +7,15 @@ use borrow.Author.Needs.{needs}
 use Rattle.value.proofs.insert.Statement.{statement}
 use Rattle.value.proofs.insert.Tie as tie
 
-array-share-prefix-atoms : tie.Need-array-share-prefix-atoms
-array-share-prefix-atoms c = search needs
-
 slice-aggregate-member : tie.Need-slice-aggregate-member
 slice-aggregate-member c =
     let s = c .before .before in
     omega (arith, s .good .1 .0 .1 .0 .1, s .pre, length-take (s .args .n) (s .args .t2))
 
-member-requires : tie.Need-member-requires
-member-requires c κs = search needs
-
 returns : tie.Need-returns
 returns c =
     let s = c .before .before .before .before in
     rw (sym (c .before .member .ensures) ∙ c .if1 .taken) (put-none (s .args .t2) (s .args .n) (s .good .1 .0 .1 .0 .1))
-
-put-in-order-requires : tie.Need-put-in-order-requires
-put-in-order-requires c κs = search needs
 
 returns-2 : tie.Need-returns-2
 returns-2 c = rw (sym (c .before .before .member .ensures) ∙ c .before .if1 .left) (c .put-in-order .ensures)
@@ -33,9 +24,9 @@ pub insert-spec : {M : Type 1} → statement M
 insert-spec =
     tie.close
     (tie.spec
-    array-share-prefix-atoms
+    (λ c. search needs)
     slice-aggregate-member
-    member-requires
+    (λ c κs. search needs)
     returns
-    put-in-order-requires
+    (λ c κs. search needs)
     returns-2)

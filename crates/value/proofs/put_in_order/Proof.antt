@@ -8,16 +8,10 @@ use borrow.Author.Needs.{needs}
 use Rattle.value.proofs.put_in_order.Statement.{statement}
 use Rattle.value.proofs.put_in_order.Tie as tie
 
-array-share-prefix-atoms : tie.Need-array-share-prefix-atoms
-array-share-prefix-atoms c = search needs
-
 slice-aggregate-place : tie.Need-slice-aggregate-place
 slice-aggregate-place c =
     let s = c .before in
     omega (arith, s .good .1 .0 .1 .0 .1, s .pre, length-take (s .args .n) (s .args .t2))
-
-place-requires : tie.Need-place-requires
-place-requires c κs = search needs
 
 insert-at-requires : tie.Need-insert-at-requires
 insert-at-requires c κs =
@@ -33,8 +27,8 @@ pub put-in-order-spec : {M : Type 1} → statement M
 put-in-order-spec =
     tie.close
     (tie.spec
-    array-share-prefix-atoms
+    (λ c. search needs)
     slice-aggregate-place
-    place-requires
+    (λ c κs. search needs)
     insert-at-requires
     returns)

@@ -5,12 +5,9 @@ use borrow.Author.Needs.{needs}
 use Rattle.catalog.proofs.rules.counts_well.Statement.{statement}
 use Rattle.catalog.proofs.rules.counts_well.Tie as tie
 
-cast-result : tie.Need-cast-result
-cast-result c = search needs
-
 returns : tie.Need-returns
 unfolding countsFine
 returns c = refl
 
 pub counts-well-spec : {M : Type 1} → statement M
-counts-well-spec = tie.close (tie.spec cast-result returns)
+counts-well-spec = tie.close (tie.spec (λ c. search needs) returns)

@@ -8,15 +8,6 @@ use borrow.Author.Needs.{needs}
 use Rattle.catalog.proofs.rules.index_well.Statement.{statement}
 use Rattle.catalog.proofs.rules.index_well.Tie as tie
 
-slot-well-requires : tie.Need-slot-well-requires
-slot-well-requires c κs = search needs
-
-slot-well-requires-2 : tie.Need-slot-well-requires-2
-slot-well-requires-2 c κs = search needs
-
-cast-result : tie.Need-cast-result
-cast-result c = search needs
-
 returns : tie.Need-returns
 unfolding indexFine
 returns c = rw (c .before .before .if1 .taken, c .before .slot-well .ensures, c .slot-well2 .ensures)
@@ -27,4 +18,4 @@ returns-2 c = rw (c .if1 .left)
 
 pub index-well-spec : {M : Type 1} → statement M
 index-well-spec =
-    tie.close (tie.spec slot-well-requires slot-well-requires-2 cast-result returns returns-2)
+    tie.close (tie.spec (λ c κs. search needs) (λ c κs. search needs) (λ c. search needs) returns returns-2)

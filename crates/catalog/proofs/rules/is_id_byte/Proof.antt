@@ -5,15 +5,9 @@ use borrow.Author.Needs.{needs}
 use Rattle.catalog.proofs.rules.is_id_byte.Statement.{statement}
 use Rattle.catalog.proofs.rules.is_id_byte.Tie as tie
 
-is-letter-requires : tie.Need-is-letter-requires
-is-letter-requires c κs = search needs
-
 returns : tie.Need-returns
 unfolding isIdByte
 returns c = rw (sym (c .before .is-letter .ensures) ∙ c .if1 .taken)
-
-is-digit-requires : tie.Need-is-digit-requires
-is-digit-requires c κs = search needs
 
 returns-2 : tie.Need-returns-2
 unfolding isIdByte
@@ -25,4 +19,4 @@ returns-3 c = rw (sym (c .before .before .before .is-letter .ensures) ∙ c .bef
 
 pub is-id-byte-spec : {M : Type 1} → statement M
 is-id-byte-spec =
-    tie.close (tie.spec is-letter-requires returns is-digit-requires returns-2 returns-3)
+    tie.close (tie.spec (λ c κs. search needs) returns (λ c κs. search needs) returns-2 returns-3)

@@ -4,12 +4,9 @@ use borrow.Author.Needs.{needs}
 use Rattle.catalog.proofs.rules.limits_well.Statement.{statement}
 use Rattle.catalog.proofs.rules.limits_well.Tie as tie
 
-at-most-requires : tie.Need-at-most-requires
-at-most-requires c κs = search needs
-
 returns : tie.Need-returns
 unfolding limitsFine
 returns c = rw (c .at-most .ensures)
 
 pub limits-well-spec : {M : Type 1} → statement M
-limits-well-spec = tie.close (tie.spec at-most-requires returns)
+limits-well-spec = tie.close (tie.spec (λ c κs. search needs) returns)

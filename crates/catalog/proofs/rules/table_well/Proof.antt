@@ -7,20 +7,11 @@ use borrow.Author.Needs.{needs}
 use Rattle.catalog.proofs.rules.table_well.Statement.{statement}
 use Rattle.catalog.proofs.rules.table_well.Tie as tie
 
-wide-requires : tie.Need-wide-requires
-wide-requires c κs = search needs
-
-is-table-requires : tie.Need-is-table-requires
-is-table-requires c κs = search needs
-
 returns : tie.Need-returns
 unfolding tableFine
 returns c =
     let s = c .before .before .before .args in
     rw (tableFine, lt-ltb (s .t) (s .n) (omega (arith, c .before .if1 .taken, c .before .before .wide .ensures))) (c .is-table .ensures)
-
-is-unused-requires : tie.Need-is-unused-requires
-is-unused-requires c κs = search needs
 
 returns-2 : tie.Need-returns-2
 unfolding tableFine
@@ -30,4 +21,4 @@ returns-2 c =
 
 pub table-well-spec : {M : Type 1} → statement M
 table-well-spec =
-    tie.close (tie.spec wide-requires is-table-requires returns is-unused-requires returns-2)
+    tie.close (tie.spec (λ c κs. search needs) (λ c κs. search needs) returns (λ c κs. search needs) returns-2)

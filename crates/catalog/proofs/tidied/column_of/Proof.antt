@@ -7,8 +7,5 @@ use Rattle.catalog.proofs.tidied.column_of.Tie as tie
 column-entry-requires : tie.Need-column-entry-requires
 column-entry-requires c κs = name-bound (c .before .args .e .now) (c .all .given .0) (c .before .pre)
 
-returns : tie.Need-returns
-returns c = search needs
-
 pub column-of-spec : {M : Type 1} → statement M
-column-of-spec = tie.close (tie.spec column-entry-requires returns)
+column-of-spec = tie.close (tie.spec column-entry-requires (λ c. search needs))

@@ -7,8 +7,5 @@ use Rattle.catalog.proofs.tidied.database_of.Tie as tie
 database-entry-of-requires : tie.Need-database-entry-of-requires
 database-entry-of-requires c κs = name-bound (c .before .args .e .now) (c .all .given .0) (c .before .pre)
 
-returns : tie.Need-returns
-returns c = search needs
-
 pub database-of-spec : {M : Type 1} → statement M
-database-of-spec = tie.close (tie.spec database-entry-of-requires returns)
+database-of-spec = tie.close (tie.spec database-entry-of-requires (λ c. search needs))

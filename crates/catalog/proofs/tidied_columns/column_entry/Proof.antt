@@ -4,21 +4,6 @@ use borrow.Author.Needs.{needs}
 use Rattle.catalog.proofs.tidied_columns.column_entry.Statement.{statement}
 use Rattle.catalog.proofs.tidied_columns.column_entry.Tie as tie
 
-named-requires : tie.Need-named-requires
-named-requires c κs = search needs
-
-sub-put-rest : tie.Need-sub-put-rest
-sub-put-rest c = search needs
-
-part-out-start : tie.Need-part-out-start
-part-out-start c = search needs
-
-part-out-end : tie.Need-part-out-end
-part-out-end c = search needs
-
-put-rest-requires : tie.Need-put-rest-requires
-put-rest-requires c κs = search needs
-
 returns : tie.Need-returns
 returns c =
     let p = c .before in
@@ -28,4 +13,4 @@ returns c =
 pub column-entry-spec : {M : Type 1} → statement M
 column-entry-spec =
     tie.close
-    (tie.spec named-requires sub-put-rest part-out-start part-out-end put-rest-requires returns)
+    (tie.spec (λ c κs. search needs) (λ c. search needs) (λ c. search needs) (λ c. search needs) (λ c κs. search needs) returns)

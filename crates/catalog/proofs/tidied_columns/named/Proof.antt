@@ -12,24 +12,6 @@ use Rattle.catalog.proofs.tidied_columns.named.Lts as lts
 use Rattle.catalog.proofs.name_of.Reads as name-of-reads
 use Rattle.octets.proofs.put_bytes.Reads as put-bytes-reads
 
-shared-slice-read-out : tie.Need-shared-slice-read-out
-shared-slice-read-out c = search needs
-
-array-write-out : tie.Need-array-write-out
-array-write-out c = search needs
-
-sub-put-bytes : tie.Need-sub-put-bytes
-sub-put-bytes c = search needs
-
-part-out-start : tie.Need-part-out-start
-part-out-start c = search needs
-
-part-out-end : tie.Need-part-out-end
-part-out-end c = search needs
-
-name-of-requires : tie.Need-name-of-requires
-name-of-requires c κs = search needs
-
 put-bytes-requires : tie.Need-put-bytes-requires
 put-bytes-requires c κs =
     let s = c .before .before .before in
@@ -47,11 +29,11 @@ pub named-spec : {M : Type 1} → statement M
 named-spec =
     tie.close
     (tie.spec
-    shared-slice-read-out
-    array-write-out
-    sub-put-bytes
-    part-out-start
-    part-out-end
-    name-of-requires
+    (λ c. search needs)
+    (λ c. search needs)
+    (λ c. search needs)
+    (λ c. search needs)
+    (λ c. search needs)
+    (λ c κs. search needs)
     put-bytes-requires
     returns)

@@ -10,42 +10,6 @@ use borrow.Author.Needs.{needs}
 use Rattle.catalog.proofs.tidied_columns.put_known.Statement.{statement}
 use Rattle.catalog.proofs.tidied_columns.put_known.Tie as tie
 
-refers-requires : tie.Need-refers-requires
-refers-requires c κs = search needs
-
-kind-requires : tie.Need-kind-requires
-kind-requires c κs = search needs
-
-base-of-requires : tie.Need-base-of-requires
-base-of-requires c κs = search needs
-
-how-of-requires : tie.Need-how-of-requires
-how-of-requires c κs = search needs
-
-target-requires : tie.Need-target-requires
-target-requires c κs = search needs
-
-target-of-requires : tie.Need-target-of-requires
-target-of-requires c κs = search needs
-
-minimum-requires : tie.Need-minimum-requires
-minimum-requires c κs = search needs
-
-maximum-requires : tie.Need-maximum-requires
-maximum-requires c κs = search needs
-
-is-mutable-requires : tie.Need-is-mutable-requires
-is-mutable-requires c κs = search needs
-
-bit-requires : tie.Need-bit-requires
-bit-requires c κs = search needs
-
-put-six-requires : tie.Need-put-six-requires
-put-six-requires c κs = search needs
-
-same-length : tie.Need-same-length
-same-length c = search needs
-
 returns : tie.Need-returns
 unfolding knownBytes
 returns c =
@@ -71,16 +35,16 @@ pub put-known-spec : {M : Type 1} → statement M
 put-known-spec =
     tie.close
     (tie.spec
-    refers-requires
-    kind-requires
-    base-of-requires
-    how-of-requires
-    target-requires
-    target-of-requires
-    minimum-requires
-    maximum-requires
-    is-mutable-requires
-    bit-requires
-    put-six-requires
-    same-length
+    (λ c κs. search needs)
+    (λ c κs. search needs)
+    (λ c κs. search needs)
+    (λ c κs. search needs)
+    (λ c κs. search needs)
+    (λ c κs. search needs)
+    (λ c κs. search needs)
+    (λ c κs. search needs)
+    (λ c κs. search needs)
+    (λ c κs. search needs)
+    (λ c κs. search needs)
+    (λ c. search needs)
     returns)

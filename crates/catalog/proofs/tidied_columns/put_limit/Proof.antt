@@ -9,12 +9,6 @@ use borrow.Author.Needs.{needs}
 use Rattle.catalog.proofs.tidied_columns.put_limit.Statement.{statement}
 use Rattle.catalog.proofs.tidied_columns.put_limit.Tie as tie
 
-put-number-requires : tie.Need-put-number-requires
-put-number-requires c κs = search needs
-
-same-length : tie.Need-same-length
-same-length c = search needs
-
 returns : tie.Need-returns
 returns c =
     let p = c .before .before in
@@ -22,4 +16,4 @@ returns c =
     p .put-number .ensures ∙ ap (λ (x : ℕ). big 8 x ++ drop 8 (s .args .out .now)) (sym (twos-back (s .args .x) (s .fits .x .fits)))
 
 pub put-limit-spec : {M : Type 1} → statement M
-put-limit-spec = tie.close (tie.spec put-number-requires same-length returns)
+put-limit-spec = tie.close (tie.spec (λ c κs. search needs) (λ c. search needs) returns)

@@ -8,42 +8,6 @@ use borrow.Author.Needs.{needs}
 use Rattle.catalog.proofs.tidied_columns.put_rest.Statement.{statement}
 use Rattle.catalog.proofs.tidied_columns.put_rest.Tie as tie
 
-put-known-requires : tie.Need-put-known-requires
-put-known-requires c κs = search needs
-
-sub-put-limit : tie.Need-sub-put-limit
-sub-put-limit c = search needs
-
-part-put-limit-start : tie.Need-part-put-limit-start
-part-put-limit-start c = search needs
-
-part-put-limit-end : tie.Need-part-put-limit-end
-part-put-limit-end c = search needs
-
-low-requires : tie.Need-low-requires
-low-requires c κs = search needs
-
-put-limit-requires : tie.Need-put-limit-requires
-put-limit-requires c κs = search needs
-
-sub-put-limit-2 : tie.Need-sub-put-limit-2
-sub-put-limit-2 c = search needs
-
-part-put-limit-start-2 : tie.Need-part-put-limit-start-2
-part-put-limit-start-2 c = search needs
-
-part-put-limit-end-2 : tie.Need-part-put-limit-end-2
-part-put-limit-end-2 c = search needs
-
-high-requires : tie.Need-high-requires
-high-requires c κs = search needs
-
-put-limit-requires-2 : tie.Need-put-limit-requires-2
-put-limit-requires-2 c κs = search needs
-
-same-length : tie.Need-same-length
-same-length c = search needs
-
 returns : tie.Need-returns
 unfolding knownBytes restBytes
 returns c =
@@ -63,16 +27,16 @@ pub put-rest-spec : {M : Type 1} → statement M
 put-rest-spec =
     tie.close
     (tie.spec
-    put-known-requires
-    sub-put-limit
-    part-put-limit-start
-    part-put-limit-end
-    low-requires
-    put-limit-requires
-    sub-put-limit-2
-    part-put-limit-start-2
-    part-put-limit-end-2
-    high-requires
-    put-limit-requires-2
-    same-length
+    (λ c κs. search needs)
+    (λ c. search needs)
+    (λ c. search needs)
+    (λ c. search needs)
+    (λ c κs. search needs)
+    (λ c κs. search needs)
+    (λ c. search needs)
+    (λ c. search needs)
+    (λ c. search needs)
+    (λ c κs. search needs)
+    (λ c κs. search needs)
+    (λ c. search needs)
     returns)

@@ -5,27 +5,6 @@ use borrow.Author.Needs.{needs}
 use Rattle.catalog.proofs.tidied_tables.headed.Statement.{statement}
 use Rattle.catalog.proofs.tidied_tables.headed.Tie as tie
 
-named-requires : tie.Need-named-requires
-named-requires c κs = search needs
-
-width-requires : tie.Need-width-requires
-width-requires c κs = search needs
-
-says-root-requires : tie.Need-says-root-requires
-says-root-requires c κs = search needs
-
-is-limited-requires : tie.Need-is-limited-requires
-is-limited-requires c κs = search needs
-
-most-rows-requires : tie.Need-most-rows-requires
-most-rows-requires c κs = search needs
-
-slice-aggregate-put-head : tie.Need-slice-aggregate-put-head
-slice-aggregate-put-head c = search needs
-
-put-head-requires : tie.Need-put-head-requires
-put-head-requires c κs = search needs
-
 returns : tie.Need-returns
 returns c =
     let h = c .before in
@@ -41,11 +20,11 @@ pub headed-spec : {M : Type 1} → statement M
 headed-spec =
     tie.close
     (tie.spec
-    named-requires
-    width-requires
-    says-root-requires
-    is-limited-requires
-    most-rows-requires
-    slice-aggregate-put-head
-    put-head-requires
+    (λ c κs. search needs)
+    (λ c κs. search needs)
+    (λ c κs. search needs)
+    (λ c κs. search needs)
+    (λ c κs. search needs)
+    (λ c. search needs)
+    (λ c κs. search needs)
     returns)

@@ -7,20 +7,11 @@ use borrow.Author.Needs.{needs}
 use Rattle.catalog.proofs.tidied_tables.indexes_in.Statement.{statement}
 use Rattle.catalog.proofs.tidied_tables.indexes_in.Tie as tie
 
-index-count-requires : tie.Need-index-count-requires
-index-count-requires c κs = search needs
-
-cast-if1 : tie.Need-cast-if1
-cast-if1 c = search needs
-
 returns : tie.Need-returns
 returns c =
     let k = c .before .index-count in
     let e = c .before .before .args .e .now in
     k .ensures ∙ count-less e (getD e 36 0) (omega (arith, k .ensures, c .if1 .taken))
-
-cast-result : tie.Need-cast-result
-cast-result c = search needs
 
 returns-2 : tie.Need-returns-2
 returns-2 c =
@@ -29,4 +20,4 @@ returns-2 c =
     count-more e (getD e 36 0) (omega (arith, k .ensures, c .if1 .left))
 
 pub indexes-in-spec : {M : Type 1} → statement M
-indexes-in-spec = tie.close (tie.spec index-count-requires cast-if1 returns cast-result returns-2)
+indexes-in-spec = tie.close (tie.spec (λ c κs. search needs) (λ c. search needs) returns (λ c. search needs) returns-2)

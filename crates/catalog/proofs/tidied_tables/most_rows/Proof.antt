@@ -5,12 +5,6 @@ use borrow.Author.Needs.{needs}
 use Rattle.catalog.proofs.tidied_tables.most_rows.Statement.{statement}
 use Rattle.catalog.proofs.tidied_tables.most_rows.Tie as tie
 
-is-limited-requires : tie.Need-is-limited-requires
-is-limited-requires c κs = search needs
-
-max-rows-requires : tie.Need-max-rows-requires
-max-rows-requires c κs = search needs
-
 returns : tie.Need-returns
 returns c =
     let l = c .before .before in
@@ -20,4 +14,4 @@ returns-2 : tie.Need-returns-2
 returns-2 c = most-none (c .before .before .args .e .now) (sym (c .before .is-limited .ensures) ∙ c .if1 .left)
 
 pub most-rows-spec : {M : Type 1} → statement M
-most-rows-spec = tie.close (tie.spec is-limited-requires max-rows-requires returns returns-2)
+most-rows-spec = tie.close (tie.spec (λ c κs. search needs) (λ c κs. search needs) returns returns-2)

@@ -6,15 +6,6 @@ use borrow.Author.Needs.{needs}
 use Rattle.catalog.proofs.tidied_tables.table_entry.Statement.{statement}
 use Rattle.catalog.proofs.tidied_tables.table_entry.Tie as tie
 
-shared-slice-read-k : tie.Need-shared-slice-read-k
-shared-slice-read-k c = search needs
-
-headed-requires : tie.Need-headed-requires
-headed-requires c κs = search needs
-
-indexes-in-requires : tie.Need-indexes-in-requires
-indexes-in-requires c κs = search needs
-
 slot-requires : tie.Need-slot-requires
 slot-requires c κs =
     let b = c .before .before .before in
@@ -26,9 +17,6 @@ slot-requires-2 c κs =
     let b = c .before .before .before .before in
     let st = b .before in
     (omega arith, fit-second (st .args .e .now) (b .b .given .0) (st .pre .1))
-
-with-indexes-requires : tie.Need-with-indexes-requires
-with-indexes-requires c κs = search needs
 
 returns : tie.Need-returns
 returns c =
@@ -44,10 +32,10 @@ pub table-entry-spec : {M : Type 1} → statement M
 table-entry-spec =
     tie.close
     (tie.spec
-    shared-slice-read-k
-    headed-requires
-    indexes-in-requires
+    (λ c. search needs)
+    (λ c κs. search needs)
+    (λ c κs. search needs)
     slot-requires
     slot-requires-2
-    with-indexes-requires
+    (λ c κs. search needs)
     returns)

@@ -4,9 +4,6 @@ use borrow.Author.Needs.{needs}
 use Rattle.mutations.proofs.read.fixed_fault.Statement.{statement}
 use Rattle.mutations.proofs.read.fixed_fault.Tie as tie
 
-is-mutable-requires : tie.Need-is-mutable-requires
-is-mutable-requires c κs = search needs
-
 returns : tie.Need-returns
 returns c = rw (sym (c .before .is-mutable .ensures) ∙ c .if1 .taken)
 
@@ -14,4 +11,4 @@ returns-2 : tie.Need-returns-2
 returns-2 c = rw (sym (c .before .is-mutable .ensures) ∙ c .if1 .left)
 
 pub fixed-fault-spec : {M : Type 1} → statement M
-fixed-fault-spec = tie.close (tie.spec is-mutable-requires returns returns-2)
+fixed-fault-spec = tie.close (tie.spec (λ c κs. search needs) returns returns-2)

@@ -6,29 +6,11 @@ use borrow.Author.Needs.{needs}
 use Rattle.mutations.proofs.read.parts_at.Statement.{statement}
 use Rattle.mutations.proofs.read.parts_at.Tie as tie
 
-triple-at-requires : tie.Need-triple-at-requires
-triple-at-requires c κs = search needs
-
-enum-known-t : tie.Need-enum-known-t
-enum-known-t c = search needs
-
-enum-told : tie.Need-enum-told
-enum-told c = search needs
-
 returns : tie.Need-returns
 returns c =
     let t = c .before .before in
     let a = t .before .before .before .args in
     parts-other (a .text .now) (a .columns .now) (a .at) (t .triple-at .ensures) (c .enum-told .given .1)
-
-column-at-requires : tie.Need-column-at-requires
-column-at-requires c κs = search needs
-
-enum-known-f : tie.Need-enum-known-f
-enum-known-f c = search needs
-
-enum-told-2 : tie.Need-enum-told-2
-enum-told-2 c = search needs
 
 returns-2 : tie.Need-returns-2
 returns-2 c =
@@ -37,15 +19,6 @@ returns-2 c =
     let t = g .before .before in
     let a = t .before .before .before .args in
     parts-column (a .text .now) (a .columns .now) (a .at) (t .triple-at .ensures) (g .t .given .1) (k .column-at .ensures) (c .enum-told2 .given .1)
-
-mutator-at-requires : tie.Need-mutator-at-requires
-mutator-at-requires c κs = search needs
-
-enum-known-c : tie.Need-enum-known-c
-enum-known-c c = search needs
-
-enum-told-3 : tie.Need-enum-told-3
-enum-told-3 c = search needs
 
 returns-3 : tie.Need-returns-3
 unfolding chosen
@@ -71,16 +44,16 @@ pub parts-at-spec : {M : Type 1} → statement M
 parts-at-spec =
     tie.close
     (tie.spec
-    triple-at-requires
-    enum-known-t
-    enum-told
+    (λ c κs. search needs)
+    (λ c. search needs)
+    (λ c. search needs)
     returns
-    column-at-requires
-    enum-known-f
-    enum-told-2
+    (λ c κs. search needs)
+    (λ c. search needs)
+    (λ c. search needs)
     returns-2
-    mutator-at-requires
-    enum-known-c
-    enum-told-3
+    (λ c κs. search needs)
+    (λ c. search needs)
+    (λ c. search needs)
     returns-3
     returns-4)

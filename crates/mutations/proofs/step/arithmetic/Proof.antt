@@ -35,38 +35,11 @@ same k =
     ap (λ (y : ℤ). arithmeticOn z (a .m) y (take (d .result) (t .result .now))) (ap intIn (k .before .before .before .of-atom .ensures) ∙ int-in (intOf (a .operand .now)))
     ∙ ap (arithmeticOn z (a .m) (intOf (a .operand .now))) (elements-few v (t .result .now) (d .result) (t .ensures .0) (t .ensures .1) n)
 
-count-of-requires : tie.Need-count-of-requires
-count-of-requires c κs = search needs
-
-size-requires : tie.Need-size-requires
-size-requires c κs = search needs
-
-atoms-in-requires : tie.Need-atoms-in-requires
-atoms-in-requires c κs = search needs
-
-of-atom-requires : tie.Need-of-atom-requires
-of-atom-requires c κs = search needs
-
 slice-aggregate-results : tie.Need-slice-aggregate-results
 slice-aggregate-results c = sym (length-take-le (c .before .before .before .before .size .result) (c .before .before .atoms-in .result .now) (omega (arith, c .before .before .before .before .size .ensures, c .before .before .atoms-in .ensures .1)))
 
-slice-aggregate-results-2 : tie.Need-slice-aggregate-results-2
-slice-aggregate-results-2 c = search needs
-
 results-requires : tie.Need-results-requires
 results-requires c κs = omega (arith, length-take (c .before .before .before .before .before .size .result) (c .before .before .before .atoms-in .result .now), c .before .before .before .atoms-in .ensures .1)
-
-is-fine-requires : tie.Need-is-fine-requires
-is-fine-requires c κs = search needs
-
-sort-requires : tie.Need-sort-requires
-sort-requires c κs = search needs
-
-cast-set-column : tie.Need-cast-set-column
-cast-set-column c = search needs
-
-set-column-requires : tie.Need-set-column-requires
-set-column-requires c κs = search needs
 
 returns : tie.Need-returns
 returns c =
@@ -97,16 +70,16 @@ pub arithmetic-spec : {M : Type 1} → statement M
 arithmetic-spec =
     tie.close
     (tie.spec
-    count-of-requires
-    size-requires
-    atoms-in-requires
-    of-atom-requires
+    (λ c κs. search needs)
+    (λ c κs. search needs)
+    (λ c κs. search needs)
+    (λ c κs. search needs)
     slice-aggregate-results
-    slice-aggregate-results-2
+    (λ c. search needs)
     results-requires
-    is-fine-requires
-    sort-requires
-    cast-set-column
-    set-column-requires
+    (λ c κs. search needs)
+    (λ c κs. search needs)
+    (λ c. search needs)
+    (λ c κs. search needs)
     returns
     returns-2)

@@ -5,121 +5,97 @@ use mathlib.Core.List.{List}
 use Prim.Native.Nat.{ℕ, min, _≤_}
 use native.Mathlib.Omega.{arith}
 use lib.ListN.{length, take, length-take}
+use lib.Seq.{length-take-le}
 use Rattle.model.specs.Base.{member}
-use Rattle.model.specs.Json.{Json}
-use Rattle.inner.specs.Positions.{treeAt}
 use Rattle.model.specs.Value.{without}
 use Rattle.model.specs.Catalog.{baseNumbered, columnFrom}
 use Rattle.inner.specs.Working.{valueIn}
 use Rattle.model.specs.declared.Fault.the-variants.{Fine, Constraint}
 use Rattle.model.proofs.Lists.{length-keep}
-use Rattle.elements.specs.Elements.{elementsFrom}
-use Rattle.uuids.specs.Named.{namesAt}
-use Rattle.element_atoms.specs.Atoms.{atomsOf}
-use Rattle.request_values.specs.Weights.{atomsAs}
 use Rattle.references.proofs.Links.{elements-few}
 use Rattle.mutations.specs.Steps.{elementsOf, deletedOn, Kept}
-use Rattle.mutations.proofs.Stepping.{stepped-set, stepped-stop, delete-least, delete-good, delete-value}
-use Rattle.mutations.proofs.Deleting.{kept-as}
+use Rattle.mutations.specs.Mutating.{elementsRead}
+use Rattle.mutations.proofs.Stepping.{stepped-set, stepped-stop, delete-least, delete-good, delete-value, kept-as}
 use borrow.Author.Needs.{needs}
 use Rattle.mutations.proofs.step.delete.Statement.{statement}
 use Rattle.mutations.proofs.step.delete.Tie as tie
 
--- the elements of the column, those named, and what is left
-same : (k : tie.After-delete-from) → let a = k .before .before .before .before .before .before .before .before .before .before .before .before .before .before .args in
-    take (k .before .before .before .before .size .result) (k .before .before .atoms-of .result) ≡ elementsOf (a .c) (a .row .now)
+-- the elements of the column, and what is left of them
+same : (k : tie.After-keep-others) → let a = k .before .before .before .before .before .before .before .before .before .before .before .before .before .before .args in
+    take (k .before .before .before .before .before .size .result) (k .before .before .before .atoms-of .result) ≡ elementsOf (a .m .place) (a .row .now)
 unfolding elementsOf
 same k =
     let a = k .before .before .before .before .before .before .before .before .before .before .before .before .before .before .args in
-    let v = valueIn (a .c) (a .row .now) in
-    let t = k .before .before .atoms-of in
-    let d = k .before .before .before .before .size in
-    elements-few v (t .result) (d .result) (t .ensures) (omega (arith, t .ok)) (d .ensures ∙ ap (λ (i : ℕ). min i 4) (k .before .before .before .before .before .count-of .ensures))
+    let t = k .before .before .before .atoms-of in
+    let d = k .before .before .before .before .before .size in
+    elements-few (valueIn (a .m .place) (a .row .now)) (t .result) (d .result) (t .ensures) (omega (arith, t .ok)) (d .ensures ∙ ap (λ (i : ℕ). min i 4) (k .before .before .before .before .before .before .count-of .ensures))
 
-left : (k : tie.After-delete-from) → let a = k .before .before .before .before .before .before .before .before .before .before .before .before .before .before .args in
-    Kept (without (atomsAs (namesAt (a .text .now) (a .names .now)) (columnFrom (a .column .now) .base) (treeAt (a .text .now) (a .at))) (elementsOf (a .c) (a .row .now))) (k .delete-from .last .1 .1 .1 .1 .1 .1 .0) (k .delete-from .result)
-unfolding atomsAs
+left : (k : tie.After-keep-others) → let a = k .before .before .before .before .before .before .before .before .before .before .before .before .before .before .args in
+    Kept (without (elementsRead (a .text .now) (a .names .now) (columnFrom (a .column .now) .base) (a .m) (a .atoms .now)) (elementsOf (a .m .place) (a .row .now))) (k .keep-others .result) (k .keep-others .last .1 .1 .1 .1 .1 .1 .1 .0)
 left k =
     let a = k .before .before .before .before .before .before .before .before .before .before .before .before .before .before .args in
-    let n = namesAt (a .text .now) (a .names .now) in
-    let b = columnFrom (a .column .now) .base in
-    let x = take (k .before .before .before .before .size .result) (k .before .before .atoms-of .result) in
-    let e = k .before .before .before .before .before .before .before .elements-at .result in
-    kept-as (ap (λ (q : ℕ). without (atomsOf n (baseNumbered q) (elementsFrom (a .text .now) (e .set) (e .first))) x) (k .before .before .before .before .before .before .before .before .before .before .kind .ensures) ∙ ap (λ (y : List Json). without (atomsOf n b y) x) (sym (k .before .before .before .before .before .before .before .elements-at .ensures .all)) ∙ ap (without (atomsAs n b (treeAt (a .text .now) (a .at)))) (same k)) (k .delete-from .ensures)
+    let x = take (k .before .before .before .before .before .size .result) (k .before .before .before .atoms-of .result) in
+    kept-as
+    (ap (λ (q : ℕ). without (elementsRead (a .text .now) (a .names .now) (baseNumbered q) (a .m) (a .atoms .now)) x) (k .before .before .before .before .before .before .before .before .before .before .kind .ensures)
+    ∙ ap (without (elementsRead (a .text .now) (a .names .now) (columnFrom (a .column .now) .base) (a .m) (a .atoms .now))) (same k))
+    (k .keep-others .ensures)
 
-few : (k : tie.After-delete-from) → k .delete-from .last .1 .1 .1 .1 .1 .1 .0 ≤ 4
+few : (k : tie.After-keep-others) → k .keep-others .result ≤ 4
 few k =
     let a = k .before .before .before .before .before .before .before .before .before .before .before .before .before .before .args in
-    let l = atomsAs (namesAt (a .text .now) (a .names .now)) (columnFrom (a .column .now) .base) (treeAt (a .text .now) (a .at)) in
-    omega (arith, left k .size, length-keep (λ (y : List ℕ). not (member y l)) (elementsOf (a .c) (a .row .now)), ap length (same k), length-take (k .before .before .before .before .size .result) (k .before .before .atoms-of .result), k .before .before .before .before .size .ensures)
+    let l = elementsRead (a .text .now) (a .names .now) (columnFrom (a .column .now) .base) (a .m) (a .atoms .now) in
+    omega (arith, left k .size, length-keep (λ (y : List ℕ). not (member y l)) (elementsOf (a .m .place) (a .row .now)), ap length (same k), length-take (k .before .before .before .before .before .size .result) (k .before .before .before .atoms-of .result), k .before .before .before .before .before .size .ensures)
 
-kind-requires : tie.Need-kind-requires
-kind-requires c κs = search needs
+slice-aggregate-keep-others : tie.Need-slice-aggregate-keep-others
+slice-aggregate-keep-others c = sym (length-take-le (c .before .before .before .size .result) (c .before .atoms-of .result) (omega (arith, c .before .before .before .size .ensures, c .before .atoms-of .ok)))
 
-minimum-requires : tie.Need-minimum-requires
-minimum-requires c κs = search needs
-
-wide-requires : tie.Need-wide-requires
-wide-requires c κs = search needs
-
-elements-at-requires : tie.Need-elements-at-requires
-elements-at-requires c κs = search needs
-
-count-of-requires : tie.Need-count-of-requires
-count-of-requires c κs = search needs
-
-size-requires : tie.Need-size-requires
-size-requires c κs = search needs
-
-atoms-of-requires : tie.Need-atoms-of-requires
-atoms-of-requires c κs = search needs
-
-delete-from-requires : tie.Need-delete-from-requires
-delete-from-requires c κs = (c .before .before .before .before .before .before .before .before .before .before .before .before .before .pre .0, (c .before .before .before .before .before .before .elements-at .ensures .fine, omega (arith, c .before .before .before .size .ensures)))
+keep-others-requires : tie.Need-keep-others-requires
+keep-others-requires c κs =
+    let s = c .before .before .before .before .before .before .before .before .before .before .before .before .before in
+    (s .pre .0, (s .pre .1 .0, omega (arith, length-take (c .before .before .before .before .size .result) (c .before .before .atoms-of .result), c .before .before .before .before .size .ensures)))
 
 returns : tie.Need-returns
 returns c =
     let k = c .before in
     let a = k .before .before .before .before .before .before .before .before .before .before .before .before .before .before .args in
     let z = columnFrom (a .column .now) in
-    let l = atomsAs (namesAt (a .text .now) (a .names .now)) (z .base) (treeAt (a .text .now) (a .at)) in
-    let x = elementsOf (a .c) (a .row .now) in
-    stepped-stop (deletedOn z l x) (a .c) Constraint (a .row .now) (delete-least z l x (k .delete-from .last .1 .1 .1 .1 .1 .1 .0) (left k .size) (omega (arith, c .if1 .taken, k .before .before .before .before .before .before .before .before .wide .ensures, k .before .before .before .before .before .before .before .before .before .minimum .ensures))) refl
+    let l = elementsRead (a .text .now) (a .names .now) (z .base) (a .m) (a .atoms .now) in
+    let x = elementsOf (a .m .place) (a .row .now) in
+    stepped-stop (deletedOn z l x) (a .m .place) Constraint (a .row .now) (delete-least z l x (k .keep-others .result) (left k .size) (omega (arith, c .if1 .taken, k .before .before .before .before .before .before .before .before .wide .ensures, k .before .before .before .before .before .before .before .before .before .minimum .ensures))) refl
 
 cast-set-column : tie.Need-cast-set-column
-cast-set-column c = omega (arith, few (c .before .before .before))
-
-set-column-requires : tie.Need-set-column-requires
-set-column-requires c κs = search needs
+cast-set-column c = omega (arith, few (c .before .before))
 
 returns-2 : tie.Need-returns-2
 returns-2 c =
-    let k = c .before .before .before .before .before in
+    let k = c .before .before .before .before in
     let a = k .before .before .before .before .before .before .before .before .before .before .before .before .before .before .args in
     let z = columnFrom (a .column .now) in
-    let l = atomsAs (namesAt (a .text .now) (a .names .now)) (z .base) (treeAt (a .text .now) (a .at)) in
-    let x = elementsOf (a .c) (a .row .now) in
-    let m = k .delete-from .last .1 .1 .1 .1 .1 .1 .0 in
-    stepped-set (deletedOn z l x) (a .c) Fine (a .row .now) (c .set-column .last .0)
-    (delete-good z l x m (left k .size) (omega (arith, c .before .before .before .before .if1 .left, k .before .before .before .before .before .before .before .before .wide .ensures, k .before .before .before .before .before .before .before .before .before .minimum .ensures)))
+    let l = elementsRead (a .text .now) (a .names .now) (z .base) (a .m) (a .atoms .now) in
+    let x = elementsOf (a .m .place) (a .row .now) in
+    let m = k .keep-others .result in
+    let left-atoms = k .keep-others .last .1 .1 .1 .1 .1 .1 .1 .0 in
+    stepped-set (deletedOn z l x) (a .m .place) Fine (a .row .now) (c .set-column .last .0)
+    (delete-good z l x m (left k .size) (omega (arith, c .before .before .before .if1 .left, k .before .before .before .before .before .before .before .before .wide .ensures, k .before .before .before .before .before .before .before .before .before .minimum .ensures)))
     refl
-    (record { count = m; atoms = k .delete-from .result })
-    (delete-value z l x m (left k .size) (k .delete-from .result) (left k .cells))
+    (record { count = m; atoms = left-atoms })
+    (delete-value z l x m (left k .size) left-atoms (left k .cells))
     (c .set-column .ensures)
 
 pub delete-spec : {M : Type 1} → statement M
 delete-spec =
     tie.close
     (tie.spec
-    kind-requires
-    minimum-requires
-    wide-requires
-    elements-at-requires
-    count-of-requires
-    size-requires
-    atoms-of-requires
-    delete-from-requires
+    (λ c κs. search needs)
+    (λ c κs. search needs)
+    (λ c κs. search needs)
+    (λ c κs. search needs)
+    (λ c κs. search needs)
+    (λ c κs. search needs)
+    (λ c. search needs)
+    slice-aggregate-keep-others
+    keep-others-requires
     returns
     cast-set-column
-    set-column-requires
+    (λ c κs. search needs)
     returns-2)

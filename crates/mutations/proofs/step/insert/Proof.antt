@@ -36,32 +36,8 @@ count k =
     let z = columnFrom (a .column .now) in
     k .union-count .ensures (z .base) ∙ ap (λ (l : List (List ℕ)). length (union (z .base) l (a .more .now))) (same k)
 
-kind-requires : tie.Need-kind-requires
-kind-requires c κs = search needs
-
-maximum-requires : tie.Need-maximum-requires
-maximum-requires c κs = search needs
-
-wide-requires : tie.Need-wide-requires
-wide-requires c κs = search needs
-
-count-of-requires : tie.Need-count-of-requires
-count-of-requires c κs = search needs
-
-size-requires : tie.Need-size-requires
-size-requires c κs = search needs
-
-atoms-of-requires : tie.Need-atoms-of-requires
-atoms-of-requires c κs = search needs
-
-array-share-prefix-atoms : tie.Need-array-share-prefix-atoms
-array-share-prefix-atoms c = search needs
-
 slice-aggregate-union-count : tie.Need-slice-aggregate-union-count
 slice-aggregate-union-count c = sym (length-take-le (c .before .before .before .size .result) (c .before .atoms-of .result) (omega (arith, c .before .before .before .size .ensures, c .before .atoms-of .ok)))
-
-union-count-requires : tie.Need-union-count-requires
-union-count-requires c κs = search needs
 
 returns : tie.Need-returns
 returns c =
@@ -83,12 +59,6 @@ unite-requires c κs =
     let a = k .before .before .before .before .before .before .before .before .before .before .args in
     (omega (arith, k .before .before .before .before .size .ensures), omega (arith, k .union-count .ensures (baseNumbered (k .before .before .before .before .before .before .before .before .before .kind .result)), c .before .if1 .left))
 
-cast-set-column : tie.Need-cast-set-column
-cast-set-column c = search needs
-
-set-column-requires : tie.Need-set-column-requires
-set-column-requires c κs = search needs
-
 returns-3 : tie.Need-returns-3
 returns-3 c =
     let u = c .before .before .before in
@@ -107,18 +77,18 @@ pub insert-spec : {M : Type 1} → statement M
 insert-spec =
     tie.close
     (tie.spec
-    kind-requires
-    maximum-requires
-    wide-requires
-    count-of-requires
-    size-requires
-    atoms-of-requires
-    array-share-prefix-atoms
+    (λ c κs. search needs)
+    (λ c κs. search needs)
+    (λ c κs. search needs)
+    (λ c κs. search needs)
+    (λ c κs. search needs)
+    (λ c κs. search needs)
+    (λ c. search needs)
     slice-aggregate-union-count
-    union-count-requires
+    (λ c κs. search needs)
     returns
     returns-2
     unite-requires
-    cast-set-column
-    set-column-requires
+    (λ c. search needs)
+    (λ c κs. search needs)
     returns-3)

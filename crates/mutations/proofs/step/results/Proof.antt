@@ -11,23 +11,11 @@ use borrow.Author.Needs.{needs}
 use Rattle.mutations.proofs.step.results.Statement.{statement}
 use Rattle.mutations.proofs.step.results.Tie as tie
 
-calculate-each-requires : tie.Need-calculate-each-requires
-calculate-each-requires c κs = search needs
-
-is-fine-requires : tie.Need-is-fine-requires
-is-fine-requires c κs = search needs
-
-same-length : tie.Need-same-length
-same-length c = search needs
-
 returns : tie.Need-returns
 returns c =
     let k = c .before .before .before in
     let a = k .before .before .args in
     results-stop (columnFrom (a .column .now)) (a .m) (intIn (a .b)) (a .xs .now) (k .calculate-each .result) (a .out .now) (k .calculate-each .last .1 .1 .1 .0) (k .calculate-each .ensures) (sym (c .before .is-fine .ensures) ∙ not-true _ (c .if1 .taken))
-
-slice-reshare-prefix-distinct : tie.Need-slice-reshare-prefix-distinct
-slice-reshare-prefix-distinct c = search needs
 
 slice-aggregate-distinct : tie.Need-slice-aggregate-distinct
 slice-aggregate-distinct c =
@@ -35,23 +23,11 @@ slice-aggregate-distinct c =
     let a = k .before .before .args in
     sym (length-take-le (length (a .xs .now)) (k .calculate-each .last .1 .1 .1 .0) (omega (arith, k .calculate-each .kept, k .before .before .pre)))
 
-distinct-requires : tie.Need-distinct-requires
-distinct-requires c κs = search needs
-
-slice-reshare-prefix-all-within : tie.Need-slice-reshare-prefix-all-within
-slice-reshare-prefix-all-within c = search needs
-
 slice-aggregate-all-within : tie.Need-slice-aggregate-all-within
 slice-aggregate-all-within c =
     let k = c .before .before .before .before .before .before in
     let a = k .before .before .args in
     sym (length-take-le (length (a .xs .now)) (k .calculate-each .last .1 .1 .1 .0) (omega (arith, k .calculate-each .kept, k .before .before .pre)))
-
-all-within-requires : tie.Need-all-within-requires
-all-within-requires c κs = search needs
-
-same-length-2 : tie.Need-same-length-2
-same-length-2 c = search needs
 
 returns-2 : tie.Need-returns-2
 returns-2 c =
@@ -60,9 +36,6 @@ returns-2 c =
     let f = c .before .before .before .before .before in
     results-yes (columnFrom (a .column .now)) (a .m) (intIn (a .b)) (a .xs .now) (k .calculate-each .result) (a .out .now) (k .calculate-each .last .1 .1 .1 .0) (k .calculate-each .ensures) (sym (f .before .is-fine .ensures) ∙ not-false _ (f .if1 .left))
     (c .before .before .before .distinct .result) (c .before .all-within .result) (c .before .before .before .distinct .ensures) (c .before .all-within .ensures) (c .if2 .taken)
-
-same-length-3 : tie.Need-same-length-3
-same-length-3 c = search needs
 
 returns-3 : tie.Need-returns-3
 returns-3 c =
@@ -76,17 +49,17 @@ pub results-spec : {M : Type 1} → statement M
 results-spec =
     tie.close
     (tie.spec
-    calculate-each-requires
-    is-fine-requires
-    same-length
+    (λ c κs. search needs)
+    (λ c κs. search needs)
+    (λ c. search needs)
     returns
-    slice-reshare-prefix-distinct
+    (λ c. search needs)
     slice-aggregate-distinct
-    distinct-requires
-    slice-reshare-prefix-all-within
+    (λ c κs. search needs)
+    (λ c. search needs)
     slice-aggregate-all-within
-    all-within-requires
-    same-length-2
+    (λ c κs. search needs)
+    (λ c. search needs)
     returns-2
-    same-length-3
+    (λ c. search needs)
     returns-3)

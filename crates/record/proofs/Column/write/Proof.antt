@@ -10,48 +10,6 @@ use Rattle.record.specs.Writing.{startBytes, headBytes}
 use Rattle.record.proofs.Column.write.Statement.{statement}
 use Rattle.record.proofs.Column.write.Tie as tie
 
-put-head-requires : tie.Need-put-head-requires
-put-head-requires c κs = search needs
-
-sub-put-byte : tie.Need-sub-put-byte
-sub-put-byte c = search needs
-
-part-put-byte-start : tie.Need-part-put-byte-start
-part-put-byte-start c = search needs
-
-part-put-byte-end : tie.Need-part-put-byte-end
-part-put-byte-end c = search needs
-
-put-byte-requires : tie.Need-put-byte-requires
-put-byte-requires c κs = search needs
-
-sub-put-byte-2 : tie.Need-sub-put-byte-2
-sub-put-byte-2 c = search needs
-
-part-put-byte-start-2 : tie.Need-part-put-byte-start-2
-part-put-byte-start-2 c = search needs
-
-part-put-byte-end-2 : tie.Need-part-put-byte-end-2
-part-put-byte-end-2 c = search needs
-
-put-byte-requires-2 : tie.Need-put-byte-requires-2
-put-byte-requires-2 c κs = search needs
-
-sub-put-atoms : tie.Need-sub-put-atoms
-sub-put-atoms c = search needs
-
-part-put-atoms-start : tie.Need-part-put-atoms-start
-part-put-atoms-start c = search needs
-
-part-put-atoms-end : tie.Need-part-put-atoms-end
-part-put-atoms-end c = search needs
-
-put-atoms-requires : tie.Need-put-atoms-requires
-put-atoms-requires c κs = search needs
-
-same-length : tie.Need-same-length
-same-length c = search needs
-
 returns : tie.Need-returns
 unfolding startBytes headBytes
 returns c =
@@ -72,18 +30,18 @@ pub write-spec : {M : Type 1} → statement M
 write-spec =
     tie.close
     (tie.spec
-    put-head-requires
-    sub-put-byte
-    part-put-byte-start
-    part-put-byte-end
-    put-byte-requires
-    sub-put-byte-2
-    part-put-byte-start-2
-    part-put-byte-end-2
-    put-byte-requires-2
-    sub-put-atoms
-    part-put-atoms-start
-    part-put-atoms-end
-    put-atoms-requires
-    same-length
+    (λ c κs. search needs)
+    (λ c. search needs)
+    (λ c. search needs)
+    (λ c. search needs)
+    (λ c κs. search needs)
+    (λ c. search needs)
+    (λ c. search needs)
+    (λ c. search needs)
+    (λ c κs. search needs)
+    (λ c. search needs)
+    (λ c. search needs)
+    (λ c. search needs)
+    (λ c κs. search needs)
+    (λ c. search needs)
     returns)

@@ -5,15 +5,9 @@ use Rattle.record.specs.Writing.{startBytes}
 use Rattle.record.proofs.End.write.Statement.{statement}
 use Rattle.record.proofs.End.write.Tie as tie
 
-put-start-requires : tie.Need-put-start-requires
-put-start-requires c κs = search needs
-
-same-length : tie.Need-same-length
-same-length c = search needs
-
 returns : tie.Need-returns
 unfolding startBytes
 returns c = record { size = refl; bytes = c .before .before .put-start .ensures }
 
 pub write-spec : {M : Type 1} → statement M
-write-spec = tie.close (tie.spec put-start-requires same-length returns)
+write-spec = tie.close (tie.spec (λ c κs. search needs) (λ c. search needs) returns)

@@ -13,12 +13,6 @@ returns c =
     let s = c .before .before .args in
     opened-other (s .area .now) (s .schema .now) (s .rows .now) (s .rows .now) (c .if1 .taken) (store-other (s .area .now) (c .if1 .taken))
 
-catalog-of-requires : tie.Need-catalog-of-requires
-catalog-of-requires c κs = search needs
-
-is-accepted-requires : tie.Need-is-accepted-requires
-is-accepted-requires c κs = search needs
-
 returns-2 : tie.Need-returns-2
 returns-2 c =
     let a = c .before .before .before .before .before .before .args in
@@ -28,9 +22,6 @@ rows-opened-requires : tie.Need-rows-opened-requires
 rows-opened-requires c κs =
     let s = c .before .before .before .before .before .before .before .before in
     ((c .before .before .before .before .before .before .if1 .left, s .pre), record { there = c .before .before .before .before .before .catalog-of .ensures; accepted = sym (c .before .before .before .is-accepted .ensures) ∙ not-false _ (c .before .before .if2 .left) })
-
-same-length : tie.Need-same-length
-same-length c = search needs
 
 returns-3 : tie.Need-returns-3
 returns-3 c =
@@ -42,9 +33,9 @@ opened-spec =
     tie.close
     (tie.spec
     returns
-    catalog-of-requires
-    is-accepted-requires
+    (λ c κs. search needs)
+    (λ c κs. search needs)
     returns-2
     rows-opened-requires
-    same-length
+    (λ c. search needs)
     returns-3)

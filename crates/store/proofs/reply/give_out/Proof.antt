@@ -10,39 +10,12 @@ use borrow.Author.Needs.{needs}
 use Rattle.store.proofs.reply.give_out.Statement.{statement}
 use Rattle.store.proofs.reply.give_out.Tie as tie
 
-row-count-requires : tie.Need-row-count-requires
-row-count-requires c κs = search needs
-
-run-of-requires : tie.Need-run-of-requires
-run-of-requires c κs = search needs
-
-number-of-requires : tie.Need-number-of-requires
-number-of-requires c κs = search needs
-
 write-requires : tie.Need-write-requires
 write-requires c κs =
     let a = c .before .before .before .before .before .before .before in
     let n = c .before .before .before .row-count in
     let p = a .pre .1 .0 in
     (a .pre .0, ((p .0, omega (arith, p .1, n .ensures), p .2, p .3), (subst (λ (m : ℕ). Ordered m (rowsAt m (a .args .area .now))) (sym (n .ensures)) (a .pre .1 .1 .0), a .pre .1 .1 .1)))
-
-sub-left : tie.Need-sub-left
-sub-left c = search needs
-
-cast-left : tie.Need-cast-left
-cast-left c = search needs
-
-refuse-requires : tie.Need-refuse-requires
-refuse-requires c κs = search needs
-
-no-effect-requires : tie.Need-no-effect-requires
-no-effect-requires c κs = search needs
-
-same-length : tie.Need-same-length
-same-length c = search needs
-
-same-length-2 : tie.Need-same-length-2
-same-length-2 c = search needs
 
 returns : tie.Need-returns
 returns c =
@@ -52,9 +25,6 @@ returns c =
     let low : m .number-of .result ≤ 4294967295 = search needs in
     out-spent (packedTables (x .schema .now)) (x .area .now) (x .rows .now) (x .count) (x .records .now) (x .answer .now) (m .before .before .row-count .result) (m .before .run-of .result) (m .number-of .result) (m .before .before .row-count .ensures) (m .before .run-of .ensures) (m .number-of .ensures) low
     (w .write .result) (w .write .ensures .0) (c .before .before .before .before .before .before .before .before .if1 .taken) (w .write .kept .1 .1 .1 .1 .1 .1 .1 .0) (c .before .before .before .before .before .refuse .ensures) (c .no-effect .ensures)
-
-same-length-3 : tie.Need-same-length-3
-same-length-3 c = search needs
 
 returns-2 : tie.Need-returns-2
 returns-2 c =
@@ -69,16 +39,16 @@ pub give-out-spec : {M : Type 1} → statement M
 give-out-spec =
     tie.close
     (tie.spec
-    row-count-requires
-    run-of-requires
-    number-of-requires
+    (λ c κs. search needs)
+    (λ c κs. search needs)
+    (λ c κs. search needs)
     write-requires
-    sub-left
-    cast-left
-    refuse-requires
-    no-effect-requires
-    same-length
-    same-length-2
+    (λ c. search needs)
+    (λ c. search needs)
+    (λ c κs. search needs)
+    (λ c κs. search needs)
+    (λ c. search needs)
+    (λ c. search needs)
     returns
-    same-length-3
+    (λ c. search needs)
     returns-2)

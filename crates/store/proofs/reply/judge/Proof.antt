@@ -11,29 +11,11 @@ use borrow.Author.Needs.{needs}
 use Rattle.store.proofs.reply.judge.Statement.{statement}
 use Rattle.store.proofs.reply.judge.Tie as tie
 
-read-requires : tie.Need-read-requires
-read-requires c κs = search needs
-
-same-length : tie.Need-same-length
-same-length c = search needs
-
 returns : tie.Need-returns
 returns c =
     let a = c .before .before .before .before .before .before .before .before .before in
     let r = c .before .before .before .before .read in
     asked-bad (a .args .schema .now) (a .args .n) (a .args .rows .now) (a .args .request .now) (a .args .fresh .now) (r .last .1 .0) (r .ensures) (not-true _ (c .if1 .taken))
-
-index-1-name-of : tie.Need-index-1-name-of
-index-1-name-of c = search needs
-
-name-of-requires : tie.Need-name-of-requires
-name-of-requires c κs = search needs
-
-is-word-requires : tie.Need-is-word-requires
-is-word-requires c κs = search needs
-
-same-length-2 : tie.Need-same-length-2
-same-length-2 c = search needs
 
 returns-2 : tie.Need-returns-2
 returns-2 c =
@@ -42,12 +24,6 @@ returns-2 c =
     asked-other (a .args .schema .now) (a .args .n) (a .args .rows .now) (a .args .request .now) (a .args .fresh .now) (r .last .1 .0) (r .ensures) (not-false _ (c .before .before .before .before .if1 .left))
     (ap (λ (w : List ℕ). isWord w (treeAt (a .args .request .now) (r .result .name))) (sym (c .before .before .name-of .ensures)) ∙ sym (c .before .is-word .ensures) ∙ not-true _ (c .if2 .taken))
 
-ids-good-requires : tie.Need-ids-good-requires
-ids-good-requires c κs = search needs
-
-same-length-3 : tie.Need-same-length-3
-same-length-3 c = search needs
-
 returns-3 : tie.Need-returns-3
 returns-3 c =
     let a = c .before .before .before .before .before .before .before .before .before .before .before .before .before .before .before in
@@ -55,9 +31,6 @@ returns-3 c =
     asked-fresh (a .args .schema .now) (a .args .n) (a .args .rows .now) (a .args .request .now) (a .args .fresh .now) (r .last .1 .0) (r .ensures) (not-false _ (c .before .before .before .before .before .before .if1 .left))
     (ap (λ (w : List ℕ). isWord w (treeAt (a .args .request .now) (r .result .name))) (sym (c .before .before .before .before .name-of .ensures)) ∙ sym (c .before .before .before .is-word .ensures) ∙ not-false _ (c .before .before .if2 .left))
     (sym (c .before .ids-good .ensures (packedTables (a .args .schema .now))) ∙ not-true _ (c .if3 .taken))
-
-same-length-4 : tie.Need-same-length-4
-same-length-4 c = search needs
 
 returns-4 : tie.Need-returns-4
 returns-4 c =
@@ -71,16 +44,16 @@ pub judge-spec : {M : Type 1} → statement M
 judge-spec =
     tie.close
     (tie.spec
-    read-requires
-    same-length
+    (λ c κs. search needs)
+    (λ c. search needs)
     returns
-    index-1-name-of
-    name-of-requires
-    is-word-requires
-    same-length-2
+    (λ c. search needs)
+    (λ c κs. search needs)
+    (λ c κs. search needs)
+    (λ c. search needs)
     returns-2
-    ids-good-requires
-    same-length-3
+    (λ c κs. search needs)
+    (λ c. search needs)
     returns-3
-    same-length-4
+    (λ c. search needs)
     returns-4)

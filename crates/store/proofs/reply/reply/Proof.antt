@@ -10,32 +10,11 @@ use borrow.Author.Needs.{needs}
 use Rattle.store.proofs.reply.reply.Statement.{statement}
 use Rattle.store.proofs.reply.reply.Tie as tie
 
-row-count-requires : tie.Need-row-count-requires
-row-count-requires c κs = search needs
-
-slice-aggregate-judge : tie.Need-slice-aggregate-judge
-slice-aggregate-judge c = search needs
-
 judge-requires : tie.Need-judge-requires
 judge-requires c κs =
     let a = c .before .before .before .before .before .before .before .before in
     let n = c .before .before .row-count in
     (a .pre .1 .1, ordered-as (a .pre .0) (n .result) (n .ensures))
-
-refuse-requires : tie.Need-refuse-requires
-refuse-requires c κs = search needs
-
-no-effect-requires : tie.Need-no-effect-requires
-no-effect-requires c κs = search needs
-
-same-length : tie.Need-same-length
-same-length c = search needs
-
-same-length-2 : tie.Need-same-length-2
-same-length-2 c = search needs
-
-same-length-3 : tie.Need-same-length-3
-same-length-3 c = search needs
 
 returns : tie.Need-returns
 returns c =
@@ -46,12 +25,6 @@ returns c =
     let k = a .pre .0 in
     refused-asked (x .area .now) (x .schema .now) (x .rows .now) k (x .request .now) (x .fresh .now) (x .records .now) (x .answer .now) (n .result) (n .ensures) (j .judge .ensures) (not-true _ (c .before .before .before .before .before .before .before .before .if1 .taken)) (c .before .before .before .before .before .refuse .ensures) (c .no-effect .ensures)
 
-clear-requires : tie.Need-clear-requires
-clear-requires c κs = search needs
-
-slice-aggregate-transact : tie.Need-slice-aggregate-transact
-slice-aggregate-transact c = search needs
-
 transact-requires : tie.Need-transact-requires
 transact-requires c κs =
     let j = c .before .before .before .before .before .before .before .before .before .before in
@@ -61,21 +34,6 @@ transact-requires c κs =
     let q = j .judge .ensures in
     let h = not-false _ (c .before .before .before .before .before .before .before .if1 .left) in
     (q .running h, (k .accepted, (q .few h, ((few-as k (n .result) (n .ensures), a .pre .1 .0), record { sound = sound-as k (n .result) (n .ensures); ids = q .ids h; operations = q .operations h }))))
-
-refuse-requires-2 : tie.Need-refuse-requires-2
-refuse-requires-2 c κs = search needs
-
-no-effect-requires-2 : tie.Need-no-effect-requires-2
-no-effect-requires-2 c κs = search needs
-
-same-length-4 : tie.Need-same-length-4
-same-length-4 c = search needs
-
-same-length-5 : tie.Need-same-length-5
-same-length-5 c = search needs
-
-same-length-6 : tie.Need-same-length-6
-same-length-6 c = search needs
 
 returns-2 : tie.Need-returns-2
 returns-2 c =
@@ -89,18 +47,6 @@ returns-2 c =
     let k = a .pre .0 in
     refused-long (x .area .now) (x .schema .now) (x .rows .now) k (x .request .now) (x .fresh .now) (x .records .now) (x .answer .now) (n .result) (n .ensures)
     (j .judge .ensures) (not-false _ (g .if1 .left)) (u .clear .ensures) (t .transact .ensures) (t .transact .kept .1 .1 .1 .1 .1 .1 .1 .0 ∙ u .clear .kept .0) (c .before .before .before .before .before .before .before .before .if2 .taken) (c .before .before .before .before .before .refuse2 .ensures) (c .no-effect2 .ensures)
-
-clear-requires-2 : tie.Need-clear-requires-2
-clear-requires-2 c κs = search needs
-
-same-length-7 : tie.Need-same-length-7
-same-length-7 c = search needs
-
-same-length-8 : tie.Need-same-length-8
-same-length-8 c = search needs
-
-same-length-9 : tie.Need-same-length-9
-same-length-9 c = search needs
 
 returns-3 : tie.Need-returns-3
 returns-3 c =
@@ -122,15 +68,6 @@ give-out-requires c κs =
     let k = a .pre .0 in
     (k .accepted, ((omega (arith, k .size), k .few, t .transact .ensures .few, a .pre .1 .2), (area-ordered (rowCount (a .args .area .now)) (a .args .rows .now) (a .args .area .now) (k .read) (k .ordered), t .transact .ensures .ordered (not-false _ (c .before .before .before .if3 .left)))))
 
-same-length-10 : tie.Need-same-length-10
-same-length-10 c = search needs
-
-same-length-11 : tie.Need-same-length-11
-same-length-11 c = search needs
-
-same-length-12 : tie.Need-same-length-12
-same-length-12 c = search needs
-
 returns-4 : tie.Need-returns-4
 returns-4 c =
     let t = c .before .before .before .before .before .before .before .before .before .before .before .before .before .before .before in
@@ -148,31 +85,31 @@ pub reply-spec : {M : Type 1} → statement M
 reply-spec =
     tie.close
     (tie.spec
-    row-count-requires
-    slice-aggregate-judge
+    (λ c κs. search needs)
+    (λ c. search needs)
     judge-requires
-    refuse-requires
-    no-effect-requires
-    same-length
-    same-length-2
-    same-length-3
+    (λ c κs. search needs)
+    (λ c κs. search needs)
+    (λ c. search needs)
+    (λ c. search needs)
+    (λ c. search needs)
     returns
-    clear-requires
-    slice-aggregate-transact
+    (λ c κs. search needs)
+    (λ c. search needs)
     transact-requires
-    refuse-requires-2
-    no-effect-requires-2
-    same-length-4
-    same-length-5
-    same-length-6
+    (λ c κs. search needs)
+    (λ c κs. search needs)
+    (λ c. search needs)
+    (λ c. search needs)
+    (λ c. search needs)
     returns-2
-    clear-requires-2
-    same-length-7
-    same-length-8
-    same-length-9
+    (λ c κs. search needs)
+    (λ c. search needs)
+    (λ c. search needs)
+    (λ c. search needs)
     returns-3
     give-out-requires
-    same-length-10
-    same-length-11
-    same-length-12
+    (λ c. search needs)
+    (λ c. search needs)
+    (λ c. search needs)
     returns-4)

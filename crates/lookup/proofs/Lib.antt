@@ -1,4 +1,0 @@
--- What the proofs of several functions use.
-pub mod Columns
-pub mod Items
-pub mod Tables

@@ -1,0 +1,30 @@
+-- `request_values::first_fault` meets its contract. Assumes nothing.
+use Rattle.request_values.specs.Values.{firstFault}
+use borrow.Author.Needs.{needs}
+use Rattle.request_values.proofs.first_fault.Statement.{statement}
+use Rattle.request_values.proofs.first_fault.Tie as tie
+
+returns : tie.Need-returns
+unfolding firstFault
+returns c = rw (c .before .before .if1 .taken, c .before .if2 .taken, c .if3 .taken)
+
+returns-2 : tie.Need-returns-2
+unfolding firstFault
+returns-2 c = rw (c .before .before .if1 .taken, c .before .if2 .taken, c .if3 .left)
+
+returns-3 : tie.Need-returns-3
+unfolding firstFault
+returns-3 c = rw (c .before .if1 .taken, c .if2 .left)
+
+returns-4 : tie.Need-returns-4
+unfolding firstFault
+returns-4 c = rw (c .if1 .left)
+
+pub first-fault-spec : {M : Type 1} → statement M
+first-fault-spec =
+    tie.close
+    (tie.spec
+    returns
+    returns-2
+    returns-3
+    returns-4)
