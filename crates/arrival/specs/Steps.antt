@@ -118,7 +118,7 @@ pub record Left (s : Schema) (rows : List Row) (count : ℕ) (entry : List (List
 abbrev pub Acted : Schema → Change → ℕ → List (List (List ℕ)) → ℕ → List (List (List ℕ)) → Type 0
 Acted s e count entry left exit = Left s (act s e (working s count entry)) count entry left exit
 
--- an arrival: the answer and the mirror are the model's
+-- an arrival: the status and the mirror are the model's
 pub record Stepped (schema : List (List ℕ)) (run : ℕ) (m : Numbers) (bytes : List ℕ) (count : ℕ) (entry exit : List (List (List ℕ))) (r : Outcome) : Type 0 where
   pub status : r .status ≡ stepOf (packedTables schema) run (mirrorOf m (working (packedTables schema) count entry)) bytes .status
   pub next : mirrorOf (r .numbers) (working (packedTables schema) (r .count) exit) ≡ stepOf (packedTables schema) run (mirrorOf m (working (packedTables schema) count entry)) bytes .next

@@ -38,7 +38,7 @@ pub struct Numbers {
     pub whole: bool,
 }
 
-// What an arrival leaves beside the rows: the answer, the mirror's numbers, and how many rows there are.
+// What an arrival leaves beside the rows: the status, the mirror's numbers, and how many rows there are.
 pub struct Outcome {
     pub status: Status,
     pub numbers: Numbers,

@@ -14,7 +14,7 @@ fn put(s: &[u8]) {
     io::write_all(1, s);
 }
 
-// The number of a refusal, 0 for any other answer.
+// The number of a refusal, 0 for any other status.
 fn refusal_of(status: Status) -> u64 {
     match status {
         Status::Disordered => 1,
@@ -31,7 +31,7 @@ fn refusal_of(status: Status) -> u64 {
     }
 }
 
-// An answer that is no refusal, in a word.
+// A status that is no refusal, in a word.
 fn put_word(status: Status) {
     match status {
         Status::Repeat => put(b"repeat"),
@@ -42,7 +42,7 @@ fn put_word(status: Status) {
     }
 }
 
-// An answer: the number of a refusal, or a word.
+// A status: the number of a refusal, or a word.
 fn put_status(status: Status) {
     let n = refusal_of(status);
     if n == 0 {

@@ -1,4 +1,4 @@
--- What the exported functions return and leave: numbers for answers, and the answers to questions as bytes (the C header says the same). Assumes nothing: these are definitions.
+-- What the exported functions return and leave: numbers for a status, and the answers to questions as bytes (the C header says the same). Assumes nothing: these are definitions.
 use Prim.Native.Nat.{ℕ}
 use mathlib.Core.Bool.{Bool, true, false}
 use mathlib.Core.List.{List, [], _∷_, _++_}
@@ -12,7 +12,7 @@ use Rattle.model.specs.Catalog.{bit}
 use Rattle.model.specs.FirstRefusal.{given, askConditions}
 use Rattle.model.specs.Calls.{zeroed, Progress, mirrorProgress, Presence, mirrorHasRow}
 
--- a question's answer as a number, and its output
+-- a question's status as a number, and its output
 pub record Output : Type 0 where
   pub status : ℕ
   pub out : List ℕ

@@ -13,7 +13,7 @@ ghost use Rattle.model.specs.Calls.{storeStart, storeTransact, storeMark, mirro
 ghost use Rattle.model.specs.FirstRefusal.{storeStartNumber, transactNumber, markNumber, mirrorStartNumber, hearNumber, columnNumber};
 ghost use Rattle.capi.specs.Exports.{progressBytes, presenceBytes, askedNumber};
 
-// An answer's number.
+// A status's number.
 fn number(a: Status) -> u32
     ensures { λ r. ⌜ r ≡ numberOf a ⌝ }
 {

@@ -1,6 +1,6 @@
 // The mirror that a display keeps: starting it, arrivals, and questions, on areas of any bytes.
-// Each promises its answer's number, as the first refusal of document 01 that applies (crates/model/specs/FirstRefusal.antt), and the equation of the model's definition for that
-// call (Calls.antt): its answer, and its area or output afterwards. Demand 3 (Demands.antt) speaks of those same definitions, so with these equations it speaks of this code.
+// Each promises its status's number, as the first refusal of document 01 that applies (crates/model/specs/FirstRefusal.antt), and the equation of the model's definition for that
+// call (Calls.antt): its status, and its area or output afterwards. Demand 3 (Demands.antt) speaks of those same definitions, so with these equations it speaks of this code.
 use arrival::Numbers;
 use model::ATOM;
 use model::CELLS;

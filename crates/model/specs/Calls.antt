@@ -1,4 +1,4 @@
--- The public calls, from all that a call is given to all that it leaves: its answer, and every area and buffer. Assumes nothing: these are definitions.
+-- The public calls, from all that a call is given to all that it leaves: its status, and every area and buffer. Assumes nothing: these are definitions.
 -- "Refusals are checked in this order": 2, 1, 3, 4, 5, 6, 7, 10, 8, 9. "Each leaves store and mirror areas as they were and zeroes every other buffer written to.
 -- In an accepted call, bytes beyond what was written are zero."
 use Prim.Native.Nat.{ℕ, _+_}

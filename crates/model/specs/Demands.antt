@@ -40,7 +40,7 @@ abbrev pub ZeroBeyond : List Buffer → Type 0
 ZeroBeyond [] = Unit
 ZeroBeyond (b ∷ bs) = (length (b .written) ≤ length (b .lent)) × (b .left ≡ b .written ++ replicate (length (b .lent) - length (b .written)) 0) × ZeroBeyond bs
 
--- of a call that is to get a number: its answer, the area before and after it, and every other buffer it writes to
+-- of a call that is to get a number: its status, the area before and after it, and every other buffer it writes to
 pub record Ends (number : ℕ) (status : Status) (area after : List ℕ) (buffers : List Buffer) : Type 0 where
   pub first : numberOf status ≡ number
   -- "A refused call leaves store and mirror untouched and every output buffer zero"
@@ -129,7 +129,7 @@ abbrev pub Demand2 : Type 0
 Demand2 = (area request fresh records text : List ℕ) → areBytes fresh ≡ true → Transacts area request fresh records text
 
 -- ── demand 3: one claim about a whole history and a whole list of arrivals ──
--- what an arrival leaves, by its answer's number: "applied to record n+1, which acts on the rows and moves n by one" (103), "behind to one above n+1 (only the highest heard
+-- what an arrival leaves, by its status's number: "applied to record n+1, which acts on the rows and moves n by one" (103), "behind to one above n+1 (only the highest heard
 -- changes), heard to a mark (rows and n stay)" (101, 102), "repeat to a record numbered n or less (nothing changes)" (100), and nothing changes either where it is refused
 abbrev pub leftBy : Schema → ℕ → Mirror → Option Record → Mirror
 leftBy s status m x = elim (eqb status 103) [ true ↦ applies s m (changeOf x) | false ↦ elim (eqb status 101 || eqb status 102) [ true ↦ hears m (numberCarried x) | false ↦ m ] ]
@@ -159,7 +159,7 @@ module _ (d : Database) (run : ℕ) (area : List ℕ) (calls : List StoreCall) w
     -- what it tells of rows and columns is told of those rows
     pub tellsRow : (t : ℕ) (id : List ℕ) → mirrorHasRow shown t id ≡ record { status = Accepted; there = has (keyOf t (value id)) (rowsAt n) }
     pub tellsColumn : (t : ℕ) (id : List ℕ) (c : ℕ) (out : List ℕ) → length out ≡ columnBytes → mirrorColumn shown t id c out ≡ record { status = Accepted; out = columnAnswer (mirrorAt n heard) t (value id) c }
-    -- whatever comes next: its answer by its conditions, and what that leaves
+    -- whatever comes next: its status by its conditions, and what that leaves
     pub answers : (x : List ℕ) → numberOf (mirrorHear shown x .status) ≡ given (recordConditions (d .tables) run (mirrorAt n heard) (decode x)) (heardAs n (decode x))
     pub leaves : (x : List ℕ) → mirrorHear shown x .area ≡ areaOf (leftBy (d .tables) (numberOf (mirrorHear shown x .status)) (mirrorAt n heard) (decode x))
     -- record n+1, when it comes, moves n by one

@@ -18,7 +18,7 @@ use Rattle.model.specs.Calls.{Started, storeStart, mirrorStart, Transact
 use Rattle.model.specs.Histories.{heardAll}
 use Rattle.model.specs.Laid.{mirrorOr}
 
--- what the last call gave, its answer's number and its buffers; and what a mirror that then heard some of its records tells, with the highest number heard
+-- what the last call gave, its status's number and its buffers; and what a mirror that then heard some of its records tells, with the highest number heard
 pub record Gave : Type 0 where
   pub status : ℕ
   pub text : List ℕ
@@ -86,7 +86,7 @@ got r = gave (callsOf r) (mirrorOn r (callsOf r .records))
 unfoldable pub padded : ℕ → List ℕ → List ℕ
 padded n b = filled n b
 
--- a reading of the store alone: an accepted answer's text and records, zeros after them, and a mirror that heard nothing
+-- a reading of the store alone: an accepted call's text and records, zeros after them, and a mirror that heard nothing
 abbrev pub gives : List ℕ → List ℕ → Gave
 gives text records = record { status = 0; text = padded 1000 text; records = padded leastRecords records; n = 0; highest = 0; level = false }
 

@@ -1,10 +1,10 @@
--- What calls answer, and the numbers of the answers (document 01, the table of refusals). Assumes nothing: these are definitions.
+-- The status of calls, and its numbers (document 01, the table of refusals). Assumes nothing: these are definitions.
 use Prim.Native.Nat.{ℕ}
 use mathlib.Core.Bool.{Bool, true, false}
 use Rattle.model.specs.declared.Status.{Status}
 use Rattle.model.specs.declared.Status.the-variants.{Accepted, Disordered, WrongLength, BadSchema, BadRequest, OtherDatabase, BadFreshIds, AnswerTooLong, BadRecord, OtherRun, NumbersSpent, Repeat, Behind, Heard, Applied}
 
--- each answer's number: document 01's numbers of refusals; 0 where a call is accepted, and a mirror's answers to what it has heard
+-- each status's number: document 01's numbers of refusals; 0 where a call is accepted, and what a mirror answers to what it has heard
 abbrev pub numberOf : Status → ℕ
 numberOf Accepted = 0
 numberOf Disordered = 1
@@ -22,7 +22,7 @@ numberOf Behind = 101
 numberOf Heard = 102
 numberOf Applied = 103
 
--- a call is refused by the answers 1 to 10
+-- a call is refused by the numbers 1 to 10
 abbrev pub isRefusal : Status → Bool
 isRefusal Accepted = false
 isRefusal Disordered = true

@@ -14,7 +14,7 @@ use Rattle.model.specs.Records.{Change, diff}
 use Rattle.model.specs.declared.Status.{Status}
 use Rattle.model.specs.declared.Status.the-variants.{Accepted, BadRequest, OtherDatabase, BadFreshIds, AnswerTooLong, NumbersSpent}
 
--- what a transact gives: the rows after it, the changes it writes, the answer's text
+-- what a transact gives: its status, the rows after it, the changes it writes, the answer's text
 pub record Reply : Type 0 where
   pub status : Status
   pub rows : List Row

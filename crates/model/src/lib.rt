@@ -85,7 +85,7 @@ pub enum Mutator {
     Delete,
 }
 
-// What a call answers: accepted, or the refusal of document 01's table; a mirror tells an accepted arrival apart by four more.
+// A call's status: accepted, or the refusal of document 01's table; a mirror tells an accepted arrival apart by four more. (The answer is a transact's JSON text.)
 pub enum Status {
     Accepted,
     Disordered,

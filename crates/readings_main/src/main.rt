@@ -17,7 +17,7 @@ fn put(s: &[u8]) {
     io::write_all(1, s);
 }
 
-// The number of a refusal, 0 for any other answer.
+// The number of a refusal, 0 for any other status.
 fn refusal_of(status: Status) -> u64 {
     match status {
         Status::Disordered => 1,

@@ -136,7 +136,7 @@ pub record GivenOut (s : Schema) (a : List ℕ) (rows : List (List (List ℕ))) 
       × (recordsOut ≡ filled (length recordsIn) (flat (map encode (numberFrom (runIn a) (numberIn a) (changesFrom s a rows count)))))
       × (textOut ≡ textIn)
 
--- a whole transact: the answer; the rows, where it commits, and that they stay, where it does not; the record numbers that it gives out; and both buffers.
+-- a whole transact: the status; the rows, where it commits, and that they stay, where it does not; the record numbers that it gives out; and both buffers.
 -- Where it does not commit the working rows are free, as many as before: the area has the store's rows
 pub record Replied (s : Schema) (d : replies.Reply) (run number n : ℕ) (before exit : List (List (List ℕ))) (recordsIn recordsOut textIn textOut : List ℕ) (r : Effect) : Type 0 where
   pub status : r .status ≡ d .status

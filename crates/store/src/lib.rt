@@ -1,4 +1,4 @@
-// The calls of a store. Each promises its answer's number, as the first refusal of document 01 that applies (specs FirstRefusal of model), and the equation of the model's definition for that call.
+// The calls of a store. Each promises its status's number, as the first refusal of document 01 that applies (specs FirstRefusal of model), and the equation of the model's definition for that call.
 mod good_order;
 mod reply;
 

@@ -33,7 +33,7 @@ pub struct Question {
     pub ops: Found,
 }
 
-// What a transact answers: whether it commits, how many rows there are then, and how many record numbers it gives out.
+// What a transact comes to: its status, whether it commits, how many rows there are then, and how many record numbers it gives out.
 pub struct Effect {
     pub status: Status,
     pub commits: bool,
