@@ -5,13 +5,13 @@ use Prim.Native.Nat.{ℕ, zero, suc, _+_, _-_, _*_, _≤_, _<_}
 use native.Mathlib.Nat.{add-comm, mul-suc, mul-zero}
 use native.Mathlib.Numerals.{add-one}
 use native.Mathlib.Omega.{arith}
-use lib.ListN.{length, take, drop, getD, set, length-drop, drop-of-length-le}
-use lib.Seq.{drop-cons, drop-drop, take-add, take-suc, take-all, set-at, length-take-le, getD-take, getD-drop}
+use borrow.Rule.Slice.PartMut.{putMid}
+use lib.ListN.{length, take, drop, getD, length-drop}
+use lib.Seq.{drop-drop, take-add, take-suc, take-at, drop-at, length-take-le, getD-take, getD-drop}
 use Rattle.model.specs.Octets.{part, chunks}
 use Rattle.model.specs.Base.{flat}
 use Rattle.model.specs.Records.{cut}
 use Rattle.model.specs.Limits.{rowsOffset}
-use Rattle.model.specs.Value.{Value}
 use Rattle.inner.specs.Working.{valueIn}
 use Rattle.area.specs.Layout.{rowsIn, rowAt, rowsAt, bytesOf}
 
@@ -116,6 +116,22 @@ flat-append (a ∷ l) m = ap (λ (x : List ℕ). a ++ x) (flat-append l m) ∙ s
 pub flat-more : (row : List (List ℕ)) (j : ℕ) → j < length row → flat (take (j + 1) row) ≡ flat (take j row) ++ getD row j []
 flat-more row j h =
     rw (add-one j, take-suc row j [] h) (flat-append (take j row) (getD row j [] ∷ []) ∙ ap (λ (x : List ℕ). flat (take j row) ++ x) (append-nil (getD row j [])))
+
+-- A list is written from its front, piece by piece, as in `write-next`; here a callee that was lent a part of n bytes has written a piece all over it.
+pub write-part : (done piece xs cur : List ℕ) (at n : ℕ) → length done ≡ at → cur ≡ done ++ drop at xs → putMid at (at + n - at) cur piece ≡ (done ++ piece) ++ drop (at + n) xs
+write-part done piece xs cur at n l c =
+    let e : at + n - at ≡ n = omega arith in
+    ap (λ (m : ℕ). putMid at m cur piece) e
+    ∙ ap (λ (a : List ℕ). take at a ++ (piece ++ drop n (drop at a))) c
+    ∙ (λ i. take-at done (drop at xs) at l i ++ (piece ++ drop n (drop-at done (drop at xs) at l i)))
+    ∙ ap (λ (a : List ℕ). done ++ (piece ++ a)) (drop-drop n at xs)
+    ∙ sym (append-assoc done piece (drop (at + n) xs))
+
+-- what it is lent
+pub part-lent : (cur : List ℕ) (at n : ℕ) → at + n ≤ length cur → length (take (at + n - at) (drop at cur)) ≡ n
+part-lent cur at n h =
+    let e : at + n - at ≡ n = omega arith in
+    ap (λ (m : ℕ). length (take m (drop at cur))) e ∙ length-take-le n (drop at cur) (omega (arith, length-drop at cur))
 
 -- ── written row by row ──
 bytes-append : (l m : List (List (List ℕ))) → bytesOf (l ++ m) ≡ bytesOf l ++ bytesOf m

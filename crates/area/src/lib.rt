@@ -119,6 +119,19 @@ pub fn same_column(area: &[u8], i: usize, row: &Row, c: usize) -> bool
     value::equal(&atoms[..], rows::atoms_in(row, c))
 }
 
+// A cell written over a part of its length, by a copy of its own.
+fn put_cell(out: &mut [u8], cell: &Atom)
+    requires { ⌜ length (now out) ≡ atomBytes ⌝ }
+    ensures { λ _. ⌜ now (out .exit) ≡ now (cell .entry) ⌝ }
+{
+    let c = cell_at(&cell[..], 0);
+    let mut k = 0;
+    while k < ATOM {
+        out[k] = c[k];
+        k += 1;
+    }
+}
+
 // A row written to the front of a buffer.
 fn put_row(out: &mut [u8], row: &[Atom])
     requires { ⌜ (length (now row) ≡ rowCellCount) × (rowBytes ≤ length (now out)) ⌝ }
@@ -126,8 +139,8 @@ fn put_row(out: &mut [u8], row: &[Atom])
 {
     let mut j = 0;
     while j < CELLS {
-        let cell = &row[j];
-        octets::put_bytes(&mut out[ATOM * j..], &cell[..]);
+        let at = ATOM * j;
+        put_cell(&mut out[at..at + ATOM], &row[j]);
         j += 1;
     }
 }
@@ -422,6 +435,19 @@ fn put_zeros(out: &mut [u8], n: usize)
     octets::clear(&mut out[0..n]);
 }
 
+// An entry written over a part of its length, by a copy of its own.
+fn put_entry(out: &mut [u8], entry: &Entry)
+    requires { ⌜ length (now out) ≡ entryBytes ⌝ }
+    ensures { λ _. ⌜ now (out .exit) ≡ now (entry .entry) ⌝ }
+{
+    let e = entry_at(&entry[..], 0);
+    let mut k = 0;
+    while k < ENTRY {
+        out[k] = e[k];
+        k += 1;
+    }
+}
+
 // A catalog to the front of a buffer.
 fn put_catalog(out: &mut [u8], catalog: &[Entry])
     requires { ⌜ (length (now catalog) ≡ entryCount) × (catalogBytes ≤ length (now out)) ⌝ }
@@ -429,8 +455,8 @@ fn put_catalog(out: &mut [u8], catalog: &[Entry])
 {
     let mut j = 0;
     while j < ENTRIES {
-        let entry = &catalog[j];
-        octets::put_bytes(&mut out[ENTRY * j..], &entry[..]);
+        let at = ENTRY * j;
+        put_entry(&mut out[at..at + ENTRY], &catalog[j]);
         j += 1;
     }
 }

@@ -45,7 +45,7 @@ module _ {A : Type 0} (q : A → Bool) (d : A) (l : List A) (i : ℕ) (ok : Bool
   pub any-end : length l ≤ i → (ok || any q (drop i l)) ≡ ok
   any-end h = rw (drop-of-length-le l {i = i} h) (or-false ok)
 
--- the same of all different elements, and of two lists
+-- the same of all different elements, and two lists that are compared up to the first elements that differ
 module _ (l : List (List ℕ)) (i : ℕ) (ok : Bool) where
   pub distinct-on : i < length l → (ok && distinct (drop i l)) ≡ ((ok && not (member (getD l i []) (drop (i + 1) l))) && distinct (drop (i + 1) l))
   distinct-on h = rw (drop-cons l i [] h, add-one i) (and-assoc ok (not (member (getD l i []) (drop (suc i) l))) (distinct (drop (suc i) l)))
@@ -53,12 +53,18 @@ module _ (l : List (List ℕ)) (i : ℕ) (ok : Bool) where
   pub distinct-end : length l ≤ i → (ok && distinct (drop i l)) ≡ ok
   distinct-end h = rw (drop-of-length-le l {i = i} h) (and-true ok)
 
-module _ (l m : List (List ℕ)) (i : ℕ) (ok : Bool) where
-  pub lists-on : i < length l → i < length m → (ok && eqLists (drop i l) (drop i m)) ≡ ((ok && eqBytes (getD l i []) (getD m i [])) && eqLists (drop (i + 1) l) (drop (i + 1) m))
-  lists-on h g = rw (drop-cons l i [] h, drop-cons m i [] g, add-one i) (and-assoc ok (eqBytes (getD l i []) (getD m i [])) (eqLists (drop (suc i) l) (drop (suc i) m)))
+module _ (l m : List (List ℕ)) (i : ℕ) where
+  lists-step : i < length l → i < length m → eqLists (drop i l) (drop i m) ≡ (eqBytes (getD l i []) (getD m i []) && eqLists (drop (i + 1) l) (drop (i + 1) m))
+  lists-step h g = rw (drop-cons l i [] h, drop-cons m i [] g, add-one i)
 
-  pub lists-end : length l ≤ i → length m ≤ i → (ok && eqLists (drop i l) (drop i m)) ≡ ok
-  lists-end h g = rw (drop-of-length-le l {i = i} h, drop-of-length-le m {i = i} g) (and-true ok)
+  pub lists-on : i < length l → i < length m → eqBytes (getD l i []) (getD m i []) ≡ true → eqLists (drop i l) (drop i m) ≡ eqLists (drop (i + 1) l) (drop (i + 1) m)
+  lists-on h g e = lists-step h g ∙ rw e
+
+  pub lists-off : i < length l → i < length m → eqBytes (getD l i []) (getD m i []) ≡ false → eqLists (drop i l) (drop i m) ≡ false
+  lists-off h g e = lists-step h g ∙ rw e
+
+  pub lists-end : length l ≤ i → length m ≤ i → eqLists (drop i l) (drop i m) ≡ true
+  lists-end h g = rw (drop-of-length-le l {i = i} h, drop-of-length-le m {i = i} g)
 
 pub lists-length : (l m : List (List ℕ)) → (length l ≡ length m → ⊥) → eqLists l m ≡ false
 lists-length [] [] h = absurd (h refl)

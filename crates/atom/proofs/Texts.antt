@@ -1,6 +1,6 @@
 -- Texts, byte by byte: UTF-8 and the count of characters. Assumes nothing.
 use mathlib.Core.Path.{_≡_, refl, sym, ap, _∙_}
-use mathlib.Core.Bool.{Bool, true, false, _&&_}
+use mathlib.Core.Bool.{Bool, true, false, not, _&&_}
 use mathlib.Core.List.{List, [], _∷_}
 use mathlib.Core.Logic.{_⊎_, inl, inr}
 use mathlib.Core.Option.{none}
@@ -10,11 +10,11 @@ use native.Mathlib.Omega.{arith}
 use lib.Dec.{eqb, ltb, leb}
 use lib.ListN.{length, drop, getD, drop-of-length-le}
 use lib.Seq.{drop-cons}
-use borrow.Author.Tests.{ne-eqb, lt-ltb, le-ltb, ltb-true, ltb-false, eqb-false}
+use borrow.Author.Tests.{ne-eqb, lt-ltb, le-ltb, ltb-true, ltb-false, eqb-true, eqb-false, not-true}
 use Rattle.model.specs.Strings.{Range, _to_, inRange, forms, restOf}
 use Rattle.model.specs.Text.{begins, chars}
 use Rattle.model.specs.Value.{utf8From}
-use Rattle.model.proofs.Tests.{split}
+use Rattle.model.proofs.Tests.{split, and-l, and-r}
 use Rattle.model.proofs.Utf8.{Lead, one, two, three-low, three, three-cut, three-high, four-low, four, four-high, lead-at, no-lead, rest-of}
 use Rattle.atom.specs.Bytes.{dueRanges, moreAfter, fitsAt, dueAfter, lowAfter, highAfter, ones}
 use Rattle.leaf.specs.Bytes.{secondLow, secondHigh}
@@ -131,6 +131,23 @@ module _ (t : List ℕ) (i k low high : ℕ) where
       last : (k : ℕ) → utf8From (dueRanges k low high) [] ≡ eqb k 0
       last zero = refl
       last (suc k) = sym (ne-eqb (suc k) 0 (λ e. omega arith))
+
+-- a byte of ASCII where none is due
+plain-fits : (low high b : ℕ) → ltb b 128 ≡ true → eqb b 0 ≡ false → (fitsAt 0 low high b ≡ true) × (dueAfter 0 b ≡ 0)
+unfolding fitsAt dueAfter moreAfter
+plain-fits low high b h n = (rw (fitsAt, moreAfter, n, h), rw (dueAfter, moreAfter, n, h))
+
+pub utf8-plain : (t : List ℕ) (i k low high : ℕ) → i < length t → ((eqb k 0 && ltb (getD t i 0) 128) && not (eqb (getD t i 0) 0)) ≡ true
+    → utf8From (dueRanges k low high) (drop i t) ≡ utf8From (dueRanges k low high) (drop (i + 1) t)
+utf8-plain t i k low high h e =
+    let b = getD t i 0 in
+    let f = and-l (eqb k 0 && ltb b 128) (not (eqb b 0)) e in
+    let z : k ≡ 0 = eqb-true k 0 (and-l (eqb k 0) (ltb b 128) f) in
+    let p = plain-fits low high b (and-r (eqb k 0) (ltb b 128) f) (not-true _ (and-r (eqb k 0 && ltb b 128) (not (eqb b 0)) e)) in
+    ap (λ (n : ℕ). utf8From (dueRanges n low high) (drop i t)) z
+    ∙ utf8-on t i 0 low high h (p .0)
+    ∙ ap (λ (n : ℕ). utf8From (dueRanges n (lowAfter 0 b) (highAfter 0 b)) (drop (i + 1) t)) (p .1)
+    ∙ ap (λ (n : ℕ). utf8From (dueRanges n low high) (drop (i + 1) t)) (sym z)
 
 -- one byte more counted
 pub chars-on : (t : List ℕ) (i n : ℕ) → i < length t → n + chars (drop i t) ≡ (n + ones (getD t i 0)) + chars (drop (i + 1) t)

@@ -147,7 +147,7 @@ fn high_after(due: u8, b: u8) -> u8
     191
 }
 
-// Whether a text is UTF-8 without 00.
+// Whether a text is UTF-8 without 00. A byte of ASCII where none is due passes at once.
 pub fn is_utf8(t: &[u8]) -> bool
     ensures { λ r. ⌜ r ≡ isUtf8 (now (t .entry)) ⌝ }
 {
@@ -157,13 +157,17 @@ pub fn is_utf8(t: &[u8]) -> bool
     let mut i = 0;
     while i < t.len() {
         let b = t[i];
-        if !fits(due, low, high, b) {
-            return false;
+        if (due == 0) & (b < 128) & (b != 0) {
+            i += 1;
+        } else {
+            if !fits(due, low, high, b) {
+                return false;
+            }
+            low = low_after(due, b);
+            high = high_after(due, b);
+            due = due_after(due, b);
+            i += 1;
         }
-        low = low_after(due, b);
-        high = high_after(due, b);
-        due = due_after(due, b);
-        i += 1;
     }
     due == 0
 }

@@ -112,18 +112,17 @@ pub fn is_id(t: &[u8]) -> bool
     false
 }
 
-// Whether all bytes are zero.
+// Whether all bytes are zero, by a loop with no early end: it is compiled to compares of many bytes.
 fn is_clear(b: &[u8]) -> bool
     ensures { λ r. ⌜ r ≡ all isZero (now (b .entry)) ⌝ }
 {
+    let mut ok = true;
     let mut i = 0;
     while i < b.len() {
-        if b[i] != 0 {
-            return false;
-        }
+        ok = ok & (b[i] == 0);
         i += 1;
     }
-    true
+    ok
 }
 
 // Whether an entry's name is an id, with zeros behind it.

@@ -7,44 +7,45 @@ use native.Mathlib.Omega.{arith}
 use native.Mathlib.Numerals.{add-one}
 use borrow.Author.Tests.{lt-leb, eqb-true, eqb-false}
 use lib.Dec.{eqb, leb}
-use lib.ListN.{length, getD, set, take, length-set, length-append, length-map}
-use lib.Seq.{take-suc-set, getD-set-same, getD-set-other, length-take-le}
+use lib.ListN.{length, set, take, length-set, length-append, length-map}
+use lib.Seq.{take-suc-set, length-take-le}
 use Rattle.model.specs.declared.Found.{Found}
 use Rattle.model.specs.declared.Found.the-variants.{At, Nothing}
+use Rattle.model.specs.Octets.{eqBytes}
 use Rattle.model.specs.Base.{all}
 use Rattle.model.specs.Json.{Json, Named, memberAt, valueAt}
-use Rattle.inner.specs.Positions.{treeAt, wellAt, firstOf, membersFrom, membersFine, nextMember}
+use Rattle.inner.specs.Positions.{treeAt, wellAt, firstOf, membersFrom, membersFine, nextMember, wordIn}
 use Rattle.model.specs.Nav.{kindOf, isObject, isRead}
-use Rattle.model.specs.Members.{membersIn, hasMember, counting}
-use Rattle.inner.specs.Positions.{wordIn}
+use Rattle.model.specs.Members.{membersIn, counting}
 use Rattle.model.specs.Value.{textOf}
 use Rattle.model.specs.SchemaText.{names, isId}
-use Rattle.model.proofs.Tests.{split, clash}
+use Rattle.model.proofs.Tests.{split, clash, and-l, and-r, bytes-same, bytes-self}
 use Rattle.nav.proofs.Rest.{members-fine}
 use Rattle.nav.proofs.Walk.{members-in, pass-end, pass-rest, pass-fine, pass-name}
 use Rattle.names.specs.Names.{shortCell, nameCell}
 use Rattle.catalog.proofs.Ids.{id-none}
+use Rattle.column_types.proofs.Keys.{last}
 use Rattle.column_types.proofs.Tables.{Cell, short, long, cell-of}
-use Rattle.columns.specs.Parts.{memberOf, partsFew, Collected}
+use Rattle.columns.specs.Parts.{memberOf, partsFew, Collected, metAt, without, Forgotten}
+use Rattle.columns.proofs.Kept.{without-few, all-without, all-at, map-without, less, counting-again, Once, once-counting, once-less, counting-long}
 
--- places gathered so far: n of them, of members that count before g
-pub record Gathered (s : List ℕ) (most : ℕ) (j : Json) (n : ℕ) (places : List ℕ) (g : Found) : Type 0 where
+-- whether a member is read at a place
+abbrev readAt : List ℕ → ℕ → Bool
+readAt s p = isRead (memberAt (valueAt 12 s) s p .read)
+
+-- places gathered so far, and their names in cells: n of them, of the members before g that none before g repeats
+pub record Gathered (s : List ℕ) (most : ℕ) (j : Json) (n : ℕ) (places : List ℕ) (kept-cells : List (List ℕ)) (g : Found) : Type 0 where
   pub object : isObject (kindOf j) ≡ true
   pub few : n ≤ most
   pub size : length places ≡ 6
+  pub cells-size : length kept-cells ≡ 6
   pub fine : membersFine s g ≡ true
   pub ids : all isId (names (membersIn j)) ≡ all isId (names (membersFrom s g))
-  pub are : counting (membersIn j) ≡ map (memberOf s) (take n places) ++ counting (membersFrom s g)
-  pub well : (i : ℕ) → i < n → isRead (memberAt (valueAt 12 s) s (getD places i 0) .read) ≡ true
-
--- a member that counts, and one that does not
-counting-more : (m : Named) (ms : List Named) → hasMember (m .name) ms ≡ false → counting (m ∷ ms) ≡ m ∷ counting ms
-unfolding counting
-counting-more m ms h = rw (counting, h)
-
-counting-less : (m : Named) (ms : List Named) → hasMember (m .name) ms ≡ true → counting (m ∷ ms) ≡ counting ms
-unfolding counting
-counting-less m ms h = rw (counting, h)
+  pub kept : all isId (names (map (memberOf s) (take n places))) ≡ true
+  pub cells : take n kept-cells ≡ map shortCell (names (map (memberOf s) (take n places)))
+  pub once : Once (map (memberOf s) (take n places))
+  pub are : counting (membersIn j) ≡ counting (map (memberOf s) (take n places) ++ membersFrom s g)
+  pub well : all (λ (p : ℕ). isRead (memberAt (valueAt 12 s) s p .read)) (take n places) ≡ true
 
 -- a name by its cell
 pub cell-id : (t : List ℕ) → isId (textOf (shortCell t)) ≡ isId t
@@ -61,6 +62,29 @@ cell-short t h = go (cell-of t)
     go (short q) = q
     go (long n q) = absurd (clash (isId t) (sym (cell-id t) ∙ h) n)
 
+cells-same : (t u : List ℕ) → isId t ≡ true → isId u ≡ true → eqBytes (shortCell t) (shortCell u) ≡ eqBytes t u
+cells-same t u h k =
+    split
+    (eqBytes t u)
+    (λ e. ap (λ (x : List ℕ). eqBytes (shortCell x) (shortCell u)) (bytes-same t u e) ∙ bytes-self (shortCell u) ∙ sym e)
+    (λ e.
+    split
+    (eqBytes (shortCell t) (shortCell u))
+    (λ f.
+    let q : t ≡ u = sym (cell-short t (cell-id t ∙ h)) ∙ ap textOf (bytes-same (shortCell t) (shortCell u) f) ∙ cell-short u (cell-id u ∙ k) in
+    absurd (clash (eqBytes t u) (ap (λ (x : List ℕ). eqBytes x u) q ∙ bytes-self u) e))
+    (λ f. f ∙ sym e))
+
+-- the first of a name, by the cells of names that are ids
+met-less : (w : List ℕ) (ms : List Named) → isId w ≡ true → all isId (names ms) ≡ true → without (metAt (shortCell w) (map shortCell (names ms))) ms ≡ less w ms
+met-less w [] h k = refl
+met-less w (m ∷ ms) h k =
+    let c : eqBytes (shortCell (m .name)) (shortCell w) ≡ eqBytes (m .name) w = cells-same (m .name) w (and-l (isId (m .name)) _ k) h in
+    split
+    (eqBytes (m .name) w)
+    (λ e. rw (less, metAt, c, e))
+    (λ e. rw (less, metAt, c, e) (ap (λ (r : List Named). m ∷ r) (met-less w ms h (and-r (isId (m .name)) _ k))))
+
 and-none : (b : Bool) → (b && false) ≡ false
 and-none true = refl
 and-none false = refl
@@ -69,26 +93,28 @@ pub map-snoc : {A B : Type 0} (f : A → B) (l : List A) (a : A) → map f (l ++
 map-snoc f [] a = refl
 map-snoc f (x ∷ l) a = ap (λ (r : List _). f x ∷ r) (map-snoc f l a)
 
+pub all-snoc : {A : Type 0} (p : A → Bool) (l : List A) (a : A) → all p (l ++ (a ∷ [])) ≡ (all p l && p a)
+all-snoc p [] a = last refl
+all-snoc p (x ∷ l) a = split (p x) (λ e. rw e (all-snoc p l a)) (λ e. rw e)
+
 below : (n m : ℕ) → n ≤ m → (n ≡ m → ⊥) → n < m
 below n m h f = split (eqb n m) (λ e. absurd (f (eqb-true n m e))) (λ e. omega (arith, eqb-false n m e))
 
-pub below-six : {n m : ℕ} → n ≤ m → m ≤ 6 → (n ≡ m → ⊥) → n < 6
-below-six {n} {m} h k f = let l = below n m h f in omega arith
-
-below-next : (i n : ℕ) → i < n + 1 → (i ≡ n → ⊥) → i < n
-below-next i n h f = below i n (omega arith) f
-
-pub gather-start : (s : List ℕ) (most at : ℕ) → isObject (kindOf (treeAt s at)) ≡ true → (places : List ℕ) → length places ≡ 6 → wellAt s at ≡ true → Gathered s most (treeAt s at) 0 places (firstOf s 123 125 at)
-gather-start s most at o places l w =
+pub gather-start : (s : List ℕ) (most at : ℕ) → isObject (kindOf (treeAt s at)) ≡ true → (places : List ℕ) (cells : List (List ℕ)) → length places ≡ 6 → length cells ≡ 6 → wellAt s at ≡ true → Gathered s most (treeAt s at) 0 places cells (firstOf s 123 125 at)
+gather-start s most at o places cells l lc w =
     let q = members-in s at w in
     record {
       object = o;
       few = omega arith;
       size = l;
+      cells-size = lc;
       fine = q .1;
       ids = ap (λ (ms : List Named). all isId (names ms)) (q .0);
+      kept = refl;
+      cells = refl;
+      once = tt;
       are = ap counting (q .0);
-      well = λ i h. absurd (omega arith);
+      well = refl;
     }
 
 nine : {most : ℕ} → most ≤ 6 → leb 9 most ≡ false
@@ -108,37 +134,35 @@ module _ {s : List ℕ} {most : ℕ} {j : Json} (small : most ≤ 6) where
   unfolding partsFew
   not-object places h = refused places (rw h)
 
-  module _ {n : ℕ} {places : List ℕ} {g : Found} (k : Gathered s most j n places g) where
+  module _ {n : ℕ} {places : List ℕ} {cells : List (List ℕ)} {g : Found} (k : Gathered s most j n places cells g) where
     pub gather-end : g ≡ Nothing → Collected s most j n places
-    unfolding partsFew counting
+    unfolding partsFew
     gather-end e =
         let none : membersFrom s g ≡ [] = pass-end s e in
         let c : counting (membersIn j) ≡ map (memberOf s) (take n places) =
-        k .are ∙ ap (λ (ms : List Named). map (memberOf s) (take n places) ++ counting ms) none ∙ append-nil (map (memberOf s) (take n places)) in
+        k .are
+        ∙ ap (λ (ms : List Named). counting (map (memberOf s) (take n places) ++ ms)) none
+        ∙ ap counting (append-nil (map (memberOf s) (take n places)))
+        ∙ once-counting (map (memberOf s) (take n places)) (k .once) in
         let i : all isId (names (membersIn j)) ≡ true = k .ids ∙ ap (λ (ms : List Named). all isId (names ms)) none in
-        let t : length (take n places) ≡ n = length-take-le n places (let z = k .few in let y = k .size in omega arith) in
-        let l : length (counting (membersIn j)) ≡ n = ap length c ∙ length-map (take n places) (memberOf s) ∙ t in
-        record { few = rw (k .object, i, l); are = λ h. sym c; well = λ h. k .well }
+        let inside : n ≤ length places = (let z = k .few in let y = k .size in omega arith) in
+        let l : length (counting (membersIn j)) ≡ n = ap length c ∙ length-map (take n places) (memberOf s) ∙ length-take-le n places inside in
+        record {
+          few = rw (k .object, i, l);
+          are = λ h. sym c;
+          well = λ h i l. all-at (readAt s) n places i 0 inside l (k .well);
+        }
 
     module _ {p : ℕ} (e : g ≡ At p) where
-      m : Named
-      m = memberOf s p
-
-      rest : List Named
-      rest = membersFrom s (nextMember s p)
-
       abbrev w : List ℕ
       w = textOf (nameCell (treeAt s p))
 
-      cell-is : w ≡ textOf (shortCell (memberOf s p .name))
+      cell-is : nameCell (treeAt s p) ≡ shortCell (memberOf s p .name)
       unfolding nameCell wordIn
-      cell-is = ap (λ (x : Json). textOf (nameCell x)) (pass-name s e (k .fine))
+      cell-is = ap (λ (x : Json). nameCell x) (pass-name s e (k .fine))
 
       id-is : isId w ≡ isId (memberOf s p .name)
-      id-is = ap isId cell-is ∙ cell-id (memberOf s p .name)
-
-      word-is : isId w ≡ true → w ≡ memberOf s p .name
-      word-is h = cell-is ∙ cell-short (memberOf s p .name) (sym (ap isId cell-is) ∙ h)
+      id-is = ap (λ (x : List ℕ). isId (textOf x)) cell-is ∙ cell-id (memberOf s p .name)
 
       here : isRead (memberAt (valueAt 12 s) s p .read) ≡ true
       here = members-fine s p (subst (λ (x : Found). membersFine s x ≡ true) e (k .fine)) .0
@@ -154,59 +178,93 @@ module _ {s : List ℕ} {most : ℕ} {j : Json} (small : most ≤ 6) where
       ids-next : isId w ≡ true → all isId (names (membersIn j)) ≡ all isId (names (membersFrom s (nextMember s p)))
       ids-next h = k .ids ∙ ap (λ (ms : List Named). all isId (names ms)) (pass-rest s e) ∙ rw (sym id-is ∙ h)
 
-      has-is : isId w ≡ true → hasMember w (membersFrom s (nextMember s p)) ≡ hasMember (memberOf s p .name) (membersFrom s (nextMember s p))
-      has-is h = ap (λ (x : List ℕ). hasMember x (membersFrom s (nextMember s p))) (word-is h)
+      -- once the earlier one of that name went
+      module _ (h : isId w ≡ true) {cell : List ℕ} (there : cell ≡ nameCell (treeAt s p)) {r : ℕ} {places2 : List ℕ} {cells2 : List (List ℕ)} (f : Forgotten cell n r places places2 cells cells2) where
+        abbrev old : List Named
+        old = map (memberOf s) (take n places)
 
-      pub gather-again : isId w ≡ true → hasMember w (membersFrom s (nextMember s p)) ≡ true → Gathered s most j n places (nextMember s p)
-      gather-again h a =
-          record {
-            object = k .object;
-            few = k .few;
-            size = k .size;
-            fine = pass-fine s e (k .fine);
-            ids = ids-next h;
-            are =
-                k .are
-                ∙ ap (λ (ms : List Named). map (memberOf s) (take n places) ++ ms) (ap counting (pass-rest s e) ∙ counting-less (memberOf s p) _ (sym (has-is h) ∙ a));
-            well = k .well;
-          }
+        abbrev gone : ℕ
+        gone = metAt cell (take n cells)
 
-      -- one more that counts
-      more : isId w ≡ true → hasMember w (membersFrom s (nextMember s p)) ≡ false → counting (membersIn j) ≡ (map (memberOf s) (take n places) ++ (memberOf s p ∷ [])) ++ counting (membersFrom s (nextMember s p))
-      more h a =
-          k .are
-          ∙ ap (λ (ms : List Named). map (memberOf s) (take n places) ++ ms) (ap counting (pass-rest s e) ∙ counting-more (memberOf s p) _ (sym (has-is h) ∙ a))
-          ∙ sym (append-assoc (map (memberOf s) (take n places)) (memberOf s p ∷ []) (counting (membersFrom s (nextMember s p))))
+        gone-is : gone ≡ metAt (shortCell (memberOf s p .name)) (map shortCell (names old))
+        gone-is = λ i. metAt ((there ∙ cell-is) i) (k .cells i)
 
-      pub too-many : isId w ≡ true → hasMember w (membersFrom s (nextMember s p)) ≡ false → n ≡ most → Collected s most j 9 places
-      unfolding partsFew
-      too-many h a f =
-          let t : length (take n places) ≡ n = length-take-le n places (let z = k .few in let y = k .size in omega arith) in
-          let l : length (counting (membersIn j)) ≡ n + 1 + length (counting (membersFrom s (nextMember s p))) =
-          ap length (more h a)
-          ∙ length-append (map (memberOf s) (take n places) ++ (memberOf s p ∷ [])) (counting (membersFrom s (nextMember s p)))
-          ∙ ap (λ (x : ℕ). x + length (counting (membersFrom s (nextMember s p)))) (length-append (map (memberOf s) (take n places)) (memberOf s p ∷ []) ∙ ap (λ (x : ℕ). x + 1) (length-map (take n places) (memberOf s) ∙ t)) in
-          let b : leb (length (counting (membersIn j))) most ≡ false = lt-leb (length (counting (membersIn j))) most (omega arith) in
-          refused places (rw (k .object, b) (and-none (all isId (names (membersIn j)))))
+        fewer : r ≤ n
+        fewer =
+            let a = f .count in
+            let b = without-few gone (take n cells) in
+            let c = length-take-le n cells (let z = k .few in let y = k .cells-size in omega arith) in
+            omega arith
 
-      pub gather-more : isId w ≡ true → hasMember w (membersFrom s (nextMember s p)) ≡ false → (n ≡ most → ⊥) → Gathered s most j (n + 1) (set places n p) (nextMember s p)
-      gather-more h a f =
-          let lt : n < most = below n most (k .few) f in
-          let in6 : n < length places = (let y = k .size in omega arith) in
-          let tk : take (n + 1) (set places n p) ≡ take n places ++ (p ∷ []) = rw add-one (take-suc-set places n p in6) in
-          record {
-            object = k .object;
-            few = omega arith;
-            size = length-set places n p ∙ k .size;
-            fine = pass-fine s e (k .fine);
-            ids = ids-next h;
-            are =
-                more h a
-                ∙ ap (λ (ms : List Named). ms ++ counting (membersFrom s (nextMember s p))) (sym (map-snoc (memberOf s) (take n places) p) ∙ ap (map (memberOf s)) (sym tk));
-            well =
-                λ i l.
-                split
-                (eqb i n)
-                (λ q. rw (eqb-true i n q, getD-set-same places n p 0 in6) here)
-                (λ q. rw (getD-set-other places n i p 0 (eqb-false i n q)) (k .well i (below-next i n l (eqb-false i n q))));
-          }
+        gone-old : without gone old ≡ less (memberOf s p .name) old
+        gone-old = ap (λ (x : ℕ). without x old) gone-is ∙ met-less (memberOf s p .name) old (sym id-is ∙ h) (k .kept)
+
+        left-are : map (memberOf s) (take r places2) ≡ less (memberOf s p .name) old
+        left-are = ap (map (memberOf s)) (f .places-are) ∙ map-without (memberOf s) gone (take n places) ∙ gone-old
+
+        left-cells : take r cells2 ≡ map shortCell (names (map (memberOf s) (take r places2)))
+        left-cells =
+            f .names-are
+            ∙ ap (without gone) (k .cells)
+            ∙ sym (map-without shortCell gone (names old))
+            ∙ ap (map shortCell) (sym (map-without (λ (m : Named). m .name) gone old))
+            ∙ ap (λ (ms : List Named). map shortCell (names ms)) (gone-old ∙ sym left-are)
+
+        now-are : counting (membersIn j) ≡ counting ((map (memberOf s) (take r places2) ++ (memberOf s p ∷ [])) ++ membersFrom s (nextMember s p))
+        now-are =
+            k .are
+            ∙ ap (λ (ms : List Named). counting (old ++ ms)) (pass-rest s e)
+            ∙ counting-again old (memberOf s p) (membersFrom s (nextMember s p))
+            ∙ ap (λ (ms : List Named). counting (ms ++ memberOf s p ∷ membersFrom s (nextMember s p))) (sym left-are)
+            ∙ ap counting (sym (append-assoc (map (memberOf s) (take r places2)) (memberOf s p ∷ []) (membersFrom s (nextMember s p))))
+
+        now-once : Once (map (memberOf s) (take r places2) ++ (memberOf s p ∷ []))
+        now-once = subst (λ (ms : List Named). Once (ms ++ (memberOf s p ∷ []))) (sym left-are) (once-less old (memberOf s p) (k .once))
+
+        inside : r ≤ length places2
+        inside = let a = fewer in let b = k .few in let c = k .size in let d = f .size in omega arith
+
+        pub same-places : length places2 ≡ 6
+        same-places = f .size ∙ k .size
+
+        pub too-many : (places3 : List ℕ) → r ≡ most → Collected s most j 9 places3
+        unfolding partsFew
+        too-many places3 q =
+            let l = counting-long (membersFrom s (nextMember s p)) (map (memberOf s) (take r places2) ++ (memberOf s p ∷ [])) now-once in
+            let a : length (map (memberOf s) (take r places2) ++ (memberOf s p ∷ [])) ≡ r + 1 =
+            length-append (map (memberOf s) (take r places2)) (memberOf s p ∷ []) ∙ ap (λ (x : ℕ). x + 1) (length-map (take r places2) (memberOf s) ∙ length-take-le r places2 inside) in
+            let c = ap length now-are in
+            let b : leb (length (counting (membersIn j))) most ≡ false = lt-leb (length (counting (membersIn j))) most (omega arith) in
+            refused places3 (rw (k .object, b) (and-none (all isId (names (membersIn j)))))
+
+        pub in-six : (r ≡ most → ⊥) → r < 6
+        in-six q = let l = below r most (let a = fewer in let b = k .few in omega arith) q in omega arith
+
+        pub gather-more : (r ≡ most → ⊥) → Gathered s most j (r + 1) (set places2 r p) (set cells2 r cell) (nextMember s p)
+        gather-more q =
+            let lt : r < most = below r most (let a = fewer in let b = k .few in omega arith) q in
+            let in-places : r < length places2 = (let y = same-places in omega arith) in
+            let in-cells : r < length cells2 = (let y = k .cells-size in let z = f .names-size in omega arith) in
+            let tk : take (r + 1) (set places2 r p) ≡ take r places2 ++ (p ∷ []) = rw add-one (take-suc-set places2 r p in-places) in
+            let tc : take (r + 1) (set cells2 r cell) ≡ take r cells2 ++ (cell ∷ []) = rw add-one (take-suc-set cells2 r cell in-cells) in
+            let new : map (memberOf s) (take (r + 1) (set places2 r p)) ≡ map (memberOf s) (take r places2) ++ (memberOf s p ∷ []) = ap (map (memberOf s)) tk ∙ map-snoc (memberOf s) (take r places2) p in
+            let new-names : names (map (memberOf s) (take (r + 1) (set places2 r p))) ≡ names (map (memberOf s) (take r places2)) ++ (memberOf s p .name ∷ []) =
+            ap names new ∙ map-snoc (λ (m : Named). m .name) (map (memberOf s) (take r places2)) (memberOf s p) in
+            let left-kept : all isId (names (map (memberOf s) (take r places2))) ≡ true =
+            ap (λ (ms : List Named). all isId (names ms)) (left-are ∙ sym gone-old) ∙ ap (all isId) (map-without (λ (m : Named). m .name) gone old) ∙ all-without isId gone (names old) (k .kept) in
+            record {
+              object = k .object;
+              few = omega arith;
+              size = length-set places2 r p ∙ same-places;
+              cells-size = length-set cells2 r cell ∙ f .names-size ∙ k .cells-size;
+              fine = pass-fine s e (k .fine);
+              ids = ids-next h;
+              kept = ap (all isId) new-names ∙ all-snoc isId (names (map (memberOf s) (take r places2))) (memberOf s p .name) ∙ rw (left-kept, sym id-is ∙ h);
+              cells = tc ∙ (λ i. left-cells i ++ ((there ∙ cell-is) i ∷ [])) ∙ sym (map-snoc shortCell (names (map (memberOf s) (take r places2))) (memberOf s p .name)) ∙ ap (map shortCell) (sym new-names);
+              once = subst Once (sym new) now-once;
+              are = now-are ∙ ap (λ (ms : List Named). counting (ms ++ membersFrom s (nextMember s p))) (sym new);
+              well =
+                  ap (all (readAt s)) tk
+                  ∙ all-snoc (readAt s) (take r places2) p
+                  ∙ rw (ap (all (readAt s)) (f .places-are) ∙ all-without (readAt s) gone (take n places) (k .well), here);
+            }

@@ -1,5 +1,5 @@
 -- What the proofs of several functions use.
-pub mod Walk
+pub mod Kept
 pub mod Gathering
 pub mod Sizes
 pub mod Cells

@@ -21,11 +21,7 @@ use Rattle.column_types.proofs.Keys.{last}
 use Rattle.columns.specs.declared.Read.{Read}
 use Rattle.columns.specs.Parts.{memberOf, partsFew, Collected}
 use Rattle.columns.specs.Columns.{ColumnRead, ColumnsPut, ColumnsRead}
-use Rattle.columns.proofs.Gathering.{map-snoc}
-
-all-snoc : {A : Type 0} (p : A → Bool) (l : List A) (a : A) → all p (l ++ (a ∷ [])) ≡ (all p l && p a)
-all-snoc p [] a = last refl
-all-snoc p (x ∷ l) a = split (p x) (λ e. rw e (all-snoc p l a)) (λ e. rw e)
+use Rattle.columns.proofs.Gathering.{map-snoc, all-snoc}
 
 abbrev fitting : List (List ℕ) → Named → Bool
 fitting tables m = columnFits tables (m .value)

@@ -3,6 +3,7 @@ use column_types::Key;
 use column_types::Shape;
 use members::Places;
 use members::WORDS;
+use model::ATOM;
 use model::Atom;
 use model::COLUMNS;
 use model::ENTRY;
@@ -15,17 +16,16 @@ ghost use mathlib.Core.Bool.{true, false};
 ghost use mathlib.Core.List.{map, _++_};
 ghost use Prim.Native.Nat.{ℕ, _≤_, _<_};
 ghost use lib.Dec.{eqb};
-ghost use lib.ListN.{length, getD, drop};
+ghost use lib.ListN.{length, getD, take, drop};
 ghost use Rattle.model.specs.Limits.{mostTables, mostColumns};
 ghost use Rattle.model.specs.Base.{all};
 ghost use Rattle.model.specs.Json.{memberAt, valueAt};
-ghost use Rattle.inner.specs.Positions.{Says, wellAt, treeAt, membersFrom, membersFine};
+ghost use Rattle.inner.specs.Positions.{Says, wellAt, treeAt};
 ghost use Rattle.model.specs.Nav.{isRead};
-ghost use Rattle.model.specs.Members.{hasMember};
 ghost use Rattle.model.specs.Catalog.{entryName};
 ghost use Rattle.catalog.specs.Writing.{columnEnd};
 ghost use Rattle.model.specs.SchemaText.{isId};
-ghost use Rattle.columns.specs.Parts.{memberOf, Collected};
+ghost use Rattle.columns.specs.Parts.{memberOf, metAt, Dropped, Forgotten, Collected};
 ghost use Rattle.columns.specs.Columns.{small, shapeBytes, TypeIn, truthAllowed, columnAllowed, ColumnRead, ColumnsPut, ColumnsRead};
 
 // A column: whether it fits, and its cell.
@@ -124,7 +124,7 @@ fn read_column(text: &[u8], ends: &[u16], at: usize, tables: &[Entry]) -> Read
     ensures { λ r. ⌜ ColumnRead (map entryName (now (tables .entry))) (memberOf (now (text .entry)) at) r ⌝ }
 {
     let name = names::name_at(text, at);
-    let v = nav::member_value(text, at);
+    let v = nav::member_value(text, ends, at);
     let f = members::fields(text, ends, v, b"\x04type\x09ephemeral\x07mutable");
     let t = type_in(text, ends, tables, f[0]);
     let fits = column_fits(text, f, t.fits);
@@ -164,25 +164,51 @@ fn put_columns(
     good
 }
 
-// Whether a member from g on has that name.
-fn has_from(text: &[u8], ends: &[u16], g: Found, word: &[u8]) -> bool
-    requires { ⌜ Says (now text) (now ends) ⌝ }
-    requires { ⌜ membersFine (now text) g ≡ true ⌝ }
-    ensures { λ r. ⌜ r ≡ hasMember (now (word .entry)) (membersFrom (now (text .entry)) g) ⌝ }
+// The place of the first of n names that is this one, n where none is.
+fn met(names: &[Atom], n: usize, name: &Atom) -> usize
+    requires { ⌜ n ≤ length (now names) ⌝ }
+    ensures { λ r. ⌜ r ≡ metAt (now (name .entry)) (take n (now (names .entry))) ⌝ }
 {
-    let mut h = g;
-    loop {
-        match h {
-            Found::At(p) => {
-                let same = text::is_word(text, p, word);
-                if same {
-                    return true;
-                }
-                h = nav::next_member(text, ends, p);
-            }
-            Found::Nothing => return false,
+    let mut i = 0;
+    while i < n {
+        let same = atom::same(&names[i], name);
+        if same {
+            return i;
         }
+        i += 1;
     }
+    n
+}
+
+// The first n places and names without those at i: what stood after them moves down.
+fn drop_at(places: &mut [usize], names: &mut [Atom], n: usize, i: usize)
+    requires { ⌜ i < n ⌝ }
+    requires { ⌜ n ≤ length (now places) ⌝ }
+    requires { ⌜ n ≤ length (now names) ⌝ }
+    ensures { λ _. ⌜ Dropped i n (now (places .entry)) (now (places .exit)) ⌝ }
+    ensures { λ _. ⌜ Dropped i n (now (names .entry)) (now (names .exit)) ⌝ }
+{
+    let mut k = i;
+    while k + 1 < n {
+        places[k] = places[k + 1];
+        let x = names[k + 1];
+        names[k] = x;
+        k += 1;
+    }
+}
+
+// The first n places and names without the first that has this name: how many are left.
+fn forget(places: &mut [usize], names: &mut [Atom], n: usize, name: &Atom) -> usize
+    requires { ⌜ n ≤ length (now places) ⌝ }
+    requires { ⌜ n ≤ length (now names) ⌝ }
+    ensures { λ r. ⌜ Forgotten (now (name .entry)) n r (now (places .entry)) (now (places .exit)) (now (names .entry)) (now (names .exit)) ⌝ }
+{
+    let i = met(names, n, name);
+    if i < n {
+        drop_at(places, names, n, i);
+        return n - 1;
+    }
+    n
 }
 
 // The places of the members of the object at `at` that count, at most `most`; 9 where they are more, or where it is no object of ids.
@@ -196,28 +222,26 @@ pub fn collect(text: &[u8], ends: &[u16], at: usize, most: usize, places: &mut [
     let k = nav::kind_at(text, at);
     let o = leaf::is_kind(k, Kind::Object);
     if o {
+        let mut names = [[0u8; ATOM]; COLUMNS];
         let mut n = 0;
         let mut g = nav::first(text, at, b'{', b'}');
         loop {
             match g {
                 Found::At(p) => {
                     let name = names::name_at(text, p);
-                    let w = atom::text_of(&name);
-                    let id = catalog::rules::is_id(w);
-                    let rest = nav::next_member(text, ends, p);
+                    let id = catalog::rules::is_id(atom::text_of(&name));
                     if id {
-                        let again = has_from(text, ends, rest, w);
-                        if again {} else {
-                            if n == most {
-                                return 9;
-                            }
-                            places[n] = p;
-                            n += 1;
+                        let left = forget(places, &mut names, n, &name);
+                        if left == most {
+                            return 9;
                         }
+                        places[left] = p;
+                        names[left] = name;
+                        n = left + 1;
                     } else {
                         return 9;
                     }
-                    g = rest;
+                    g = nav::next_member(text, ends, p);
                 }
                 Found::Nothing => return n,
             }

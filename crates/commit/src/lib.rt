@@ -3,11 +3,8 @@ use model::Catalog;
 use model::Fault;
 use model::Row;
 ghost use mathlib.Core.Path.{_≡_};
-ghost use mathlib.Core.Bool.{not};
-ghost use Prim.Native.Nat.{_+_, _≤_, _<_};
-ghost use lib.ListN.{length};
-ghost use Rattle.model.specs.Base.{any, all};
-ghost use Rattle.model.specs.Commit.{loose, lawful};
+ghost use Rattle.model.specs.Base.{all};
+ghost use Rattle.model.specs.Commit.{lawful};
 ghost use Rattle.model.specs.Catalog.{packedTables};
 ghost use Rattle.inner.specs.Working.{working, Ordered};
 ghost use Rattle.references.specs.Links.{referred};
@@ -36,22 +33,6 @@ fn all_found(schema: &Catalog, how: u8, rows: &[Row], n: usize) -> bool
     true
 }
 
-// Whether a row of a table that is not root is held by no other.
-fn any_loose(schema: &Catalog, rows: &[Row], n: usize) -> bool
-    requires { ⌜ Accepted (now schema) ⌝ }
-    requires { ⌜ n ≤ length (now rows) ⌝ }
-    ensures { λ r. ⌜ r ≡ any (loose (packedTables (now (schema .entry))) (working (packedTables (now (schema .entry))) n (now (rows .entry)))) (working (packedTables (now (schema .entry))) n (now (rows .entry))) ⌝ }
-{
-    let mut i = 0;
-    while i < n {
-        if garbage::is_loose(schema, rows, n, &rows[i]) {
-            return true;
-        }
-        i += 1;
-    }
-    false
-}
-
 // The four steps of a commit on the first n rows.
 pub fn commit(schema: &Catalog, rows: &mut [Row], n: usize) -> Settled
     requires { ⌜ Accepted (now schema) ⌝ }
@@ -64,7 +45,7 @@ pub fn commit(schema: &Catalog, rows: &mut [Row], n: usize) -> Settled
             count: n,
         };
     }
-    let m = garbage::collect(schema, rows, n);
+    let m = garbage::counts::collect_by_counts(schema, rows, n);
     garbage::weaken(schema, rows, m);
     if !limits::all_enough(schema, rows, m) {
         return Settled {
@@ -93,7 +74,7 @@ pub fn lawful(schema: &Catalog, rows: &[Row], n: usize) -> bool
     if !all_found(schema, 1, rows, n) {
         return false;
     }
-    if any_loose(schema, rows, n) {
+    if garbage::counts::any_loose(schema, rows, n) {
         return false;
     }
     if !all_found(schema, 2, rows, n) {

@@ -1,27 +1,31 @@
 -- A row without its weak references to absent rows, one column after another. Assumes nothing.
 use mathlib.Core.Path.{_≡_, refl, sym, ap, _∙_}
-use mathlib.Core.Bool.{Bool, true, false}
-use mathlib.Core.List.{List, [], _∷_, _++_}
+use mathlib.Core.Bool.{Bool, _||_}
+use mathlib.Core.List.{List, [], _∷_, _++_, map}
 use mathlib.Core.Option.{Option, none, some}
-use Prim.Native.Nat.{ℕ, zero, suc, _+_, _-_, _≤_, _<_}
+use Prim.Native.Nat.{ℕ, zero, suc, _+_, _-_, _*_, _≤_, _<_}
 use native.Mathlib.Numerals.{add-one}
 use native.Mathlib.Omega.{arith}
-use lib.ListN.{length, getD, take, drop, set, replicate}
-use lib.Seq.{set-getD}
-use Rattle.model.specs.Base.{keep}
+use lib.Dec.{eqb}
+use lib.ListN.{length, getD, take, drop, set, replicate, length-take, length-set}
+use lib.Seq.{set-getD, set-set, take-set-lt, getD-take, map-set-same}
+use Rattle.model.specs.Base.{any, keep}
+use Rattle.model.proofs.Lists.{length-keep}
 use Rattle.model.specs.Schema.{Refers, plain, strong, weak, Column, Schema, columnsOf}
-use Rattle.model.specs.Value.{Value, elements, valueOf, blank}
-use Rattle.model.specs.Rows.{Row, columnValue, setColumn}
-use Rattle.model.specs.Commit.{weakly, present, weakenValue, weakenColumns, weakenRow}
+use Rattle.model.specs.Value.{Value, elements, valueOf, uuidOf, blank}
+use Rattle.model.specs.Rows.{Row, keyOf, key, has, columnValue, setColumn}
+use Rattle.model.specs.Commit.{weakly, present, weakenValue, weakenColumns}
 use Rattle.model.specs.Areas.{rowFrom}
 use Rattle.model.specs.Catalog.{packedTables, columnFrom, columnPlace}
-use Rattle.inner.specs.Working.{working, tableIn, valueIn, TidyRow}
-use Rattle.inner.proofs.Working.{row-table}
+use Rattle.inner.specs.Working.{working, tableIn, keyIn, valueIn, TidyRow, Ordered}
+use Rattle.inner.proofs.Working.{row-table, row-key}
+use Rattle.inner.proofs.Ordering.{working-keys, keys-ordered}
 use Rattle.inner.proofs.Columns.{column-value}
 use Rattle.references.specs.Links.{pick, refersAt}
 use Rattle.catalog.specs.Accepted.{Accepted}
 use Rattle.references.proofs.Packs.{columns-on, few-columns}
-use Rattle.references.proofs.Links.{values-on, values-length}
+use Rattle.references.proofs.Links.{values-on}
+use Rattle.references.proofs.Keeping.{keep-alike}
 use Rattle.garbage.specs.Weak.{keptValue, ColumnWeak, RowWeak}
 
 -- ── one column ──
@@ -43,13 +47,19 @@ drop-same zero n a = let e : n - 0 ≡ n = omega arith in rw e
 drop-same (suc k) zero a = let e : 0 - suc k ≡ 0 = omega arith in rw e
 drop-same (suc k) (suc n) a = let e : suc n - suc k ≡ n - k = omega arith in rw e (drop-same k n a)
 
-pub kept-value : (q : List ℕ → Bool) (v : Value) (atoms out : List (List ℕ)) (n r : ℕ) → take n atoms ≡ elements v → r ≡ length (keep q (take n atoms))
-    → out ≡ keep q (take n atoms) ++ drop r (replicate 4 blank) → record { count = r; atoms = out } ≡ valueOf (keep q (elements v))
-kept-value q v atoms out n r e f g =
-    let k : r ≡ length (keep q (elements v)) = f ∙ ap (λ (l : List (List ℕ)). length (keep q l)) e in
+pub kept-value : (q : List ℕ → Bool) (v : Value) (out : List (List ℕ)) (r : ℕ) → r ≡ length (keep q (elements v))
+    → out ≡ keep q (elements v) ++ drop r (replicate 4 blank) → record { count = r; atoms = out } ≡ valueOf (keep q (elements v))
+kept-value q v out r k g =
     let a : out ≡ keep q (elements v) ++ replicate (4 - length (keep q (elements v))) blank =
-    g ∙ ap (λ (l : List (List ℕ)). keep q l ++ drop r (replicate 4 blank)) e ∙ ap (λ (l : List (List ℕ)). keep q (elements v) ++ l) (drop-same r 4 blank ∙ ap (λ (m : ℕ). replicate (4 - m) blank) k) in
+    g ∙ ap (λ (l : List (List ℕ)). keep q (elements v) ++ l) (drop-same r 4 blank ∙ ap (λ (m : ℕ). replicate (4 - m) blank) k) in
     λ i. record { count = k i; atoms = a i }
+
+-- they are four at most
+pub kept-few : (q : List ℕ → Bool) (c : ℕ) (cells : List (List ℕ)) → length (keep q (elements (valueIn c cells))) ≤ 4
+unfolding valueIn
+kept-few q c cells =
+    let v = valueIn c cells in
+    omega (arith, length-keep q (elements v), length-take (v .count) (v .atoms), length-take 4 (drop (1 + 4 * c) cells))
 
 -- ── the columns before c ──
 module _ (rows : List Row) where
@@ -149,3 +159,56 @@ module _ (schema : List (List ℕ)) (ok : Accepted schema) (n : ℕ) (rows : Lis
             });
         tidy = λ q. k .tidy s b (few-columns schema ok (tableIn row)) (w .tidy q);
       }
+
+-- ── a row at its place among the others, which it may name ──
+-- what is left of a value depends only on which keys there are
+kept-alike : (a b : List Row) → ((k : ℕ) → has k a ≡ has k b) → (o : Option ℕ) (v : Value) → keptValue a o v ≡ keptValue b o v
+unfolding keptValue
+kept-alike a b same none v = refl
+kept-alike a b same (some t) v = ap valueOf (keep-alike (present a t) (present b t) (λ x. same (keyOf t (uuidOf x))) (elements v))
+
+has-in : (k : ℕ) (l : List Row) → has k l ≡ any (eqb k) (map key l)
+has-in k [] = refl
+has-in k (r ∷ l) = ap (λ (b : Bool). eqb k (key r) || b) (has-in k l)
+
+module _ (schema : List (List ℕ)) (ok : Accepted schema) (n i : ℕ) (entry : List (List (List ℕ))) where
+  abbrev old : List (List ℕ)
+  old = getD entry i []
+
+  pub record Turning (c : ℕ) (rows : List (List (List ℕ))) : Type 0 where
+    pub only : rows ≡ set entry i (getD rows i [])
+    pub row : Weakening schema ok n entry old c (getD rows i [])
+
+  pub turning-none : Turning 0 entry
+  turning-none = record { only = sym (set-getD entry i []); row = weakening-none schema ok n entry old }
+
+  module _ (h : i < n) (c : ℕ) (rows : List (List (List ℕ))) (w : Turning c rows) where
+    same-key : keyIn (getD rows i []) ≡ keyIn old
+    same-key = sym (row-key (packedTables schema) (getD rows i [])) ∙ ap key (w .row .row) ∙ row-key (packedTables schema) old
+
+    same-keys : map keyIn (take n rows) ≡ map keyIn (take n entry)
+    same-keys =
+        ap (λ (l : List (List (List ℕ))). map keyIn (take n l)) (w .only) ∙ ap (map keyIn) (take-set-lt n entry i (getD rows i []) h)
+        ∙ map-set-same keyIn (take n entry) i (getD rows i []) [] (same-key ∙ ap keyIn (sym (getD-take n entry i [] h)))
+
+    pub turning-size : length rows ≡ length entry
+    turning-size = ap length (w .only) ∙ length-set entry i (getD rows i [])
+
+    pub turning-ordered : Ordered n entry → Ordered n rows
+    turning-ordered o = keys-ordered n n entry rows (omega (arith, turning-size, o .there)) same-keys o
+
+    same-has : (s : Schema) (k : ℕ) → has k (working s n rows) ≡ has k (working s n entry)
+    same-has s k = has-in k (working s n rows) ∙ ap (any (eqb k)) (working-keys s n rows ∙ same-keys ∙ sym (working-keys s n entry)) ∙ sym (has-in k (working s n entry))
+
+    column-there : (o : Option ℕ) (from to : List (List ℕ)) → ColumnWeak o c n rows from to → ColumnWeak o c n entry from to
+    column-there o from to k = record {
+      row = λ s l. k .row s l ∙ ap (λ (v : Value). setColumn c v (rowFrom s from)) (kept-alike (working s n rows) (working s n entry) (same-has s) o (valueIn c from));
+      tidy = k .tidy;
+    }
+
+    pub turning-on : (t : ℕ) (o : Option ℕ) (next : List (List (List ℕ))) → c < length (columnsOf (packedTables schema) (tableIn old)) → t ≡ tableIn old → o ≡ pick 2 (refersAt schema t c)
+        → next ≡ set rows i (getD next i []) → ColumnWeak o c n rows (getD rows i []) (getD next i []) → Turning (c + 1) next
+    turning-on t o next l e f p k = record {
+      only = p ∙ ap (λ (m : List (List (List ℕ))). set m i (getD next i [])) (w .only) ∙ set-set entry i (getD rows i []) (getD next i []);
+      row = weakening-on schema ok n entry old c t o (getD rows i []) (getD next i []) l e f (column-there o (getD rows i []) (getD next i []) k) (w .row);
+    }

@@ -1,5 +1,8 @@
 // What a commit leaves of the working rows: rows that nothing holds go, and weak references to absent rows.
+pub mod counts;
+
 use model::ATOM;
+use model::Atom;
 use model::Catalog;
 use model::ELEMENTS;
 use model::Found;
@@ -7,17 +10,19 @@ use model::Row;
 use references::Target;
 ghost use mathlib.Core.Path.{_≡_};
 ghost use mathlib.Core.Bool.{not};
+ghost use mathlib.Core.List.{[], _++_};
 ghost use Prim.Native.Nat.{_+_, _-_, _≤_, _<_};
 ghost use lib.Dec.{eqb};
-ghost use lib.ListN.{length};
-ghost use Rattle.model.specs.Limits.{mostColumns};
+ghost use lib.ListN.{length, drop, getD, set};
+ghost use Rattle.model.specs.Limits.{mostColumns, mostElements};
 ghost use Rattle.model.specs.Base.{any, all, keep};
-ghost use Rattle.model.specs.Schema.{Table, isRoot};
+ghost use Rattle.model.specs.Schema.{Schema, Table, isRoot};
+ghost use Rattle.model.specs.Value.{elements};
 ghost use Rattle.model.specs.Rows.{Row};
-ghost use Rattle.model.specs.Commit.{loose, collect};
+ghost use Rattle.model.specs.Commit.{present, loose, collect};
 ghost use Rattle.model.specs.Areas.{rowFrom};
 ghost use Rattle.model.specs.Catalog.{packedTables};
-ghost use Rattle.inner.specs.Working.{working, keyIn, Ordered, place};
+ghost use Rattle.inner.specs.Working.{working, keyIn, valueIn, Ordered, place};
 ghost use Rattle.references.specs.Links.{targetTable};
 ghost use Rattle.catalog.specs.Accepted.{Accepted};
 ghost use Rattle.garbage.specs.Loose.{holds, LooseAt, Collected};
@@ -88,7 +93,7 @@ fn is_held(schema: &Catalog, rows: &[Row], n: usize, row: &Row) -> bool
 }
 
 // Whether a row of a table that is not root is held by no other.
-pub fn is_loose(schema: &Catalog, rows: &[Row], n: usize, row: &Row) -> bool
+fn is_loose(schema: &Catalog, rows: &[Row], n: usize, row: &Row) -> bool
     requires { ⌜ Accepted (now schema) ⌝ }
     requires { ⌜ n ≤ length (now rows) ⌝ }
     ensures { λ r. ⌜ r ≡ loose (packedTables (now (schema .entry))) (working (packedTables (now (schema .entry))) n (now (rows .entry))) (rowFrom (packedTables (now (schema .entry))) (now (row .entry))) ⌝ }
@@ -115,7 +120,8 @@ pub fn first_loose(schema: &Catalog, rows: &[Row], n: usize) -> Found
     Found::Nothing
 }
 
-// Removes the first loose row and calls itself, until there is none. The rows fall by one at each call; those that are left are counted.
+// Removes the first loose row and calls itself, until there is none. The rows fall by one at each call; those that are left are counted. It is
+// the twin of the definition, the collection that document 01 names; `counts::collect_by_counts` promises the same, and a commit calls that.
 pub fn collect(schema: &Catalog, rows: &mut [Row], n: usize) -> usize
     requires { ⌜ Accepted (now schema) ⌝ }
     requires { ⌜ Ordered n (now rows) ⌝ }
@@ -129,34 +135,46 @@ pub fn collect(schema: &Catalog, rows: &mut [Row], n: usize) -> usize
     collect(schema, rows, n - 1)
 }
 
-// The elements of column c that name a row of a table, in their order; another column stays.
-fn weaken_column(row: &mut Row, c: usize, to: Target, rows: &[Row], n: usize)
-    requires { ⌜ (c < mostColumns) × Ordered n (now rows) ⌝ }
-    ensures { λ _. ⌜ ColumnWeak (targetTable to) c n (now (rows .entry)) (now (row .entry)) (now (row .exit)) ⌝ }
+// The elements of column c of row i that name a row of a table, in their order, put in front; and how many they are.
+fn keep_column(rows: &[Row], n: usize, i: usize, c: usize, table: u8, out: &mut [Atom]) -> usize
+    requires { ⌜ (c < mostColumns) × (i < n) × (mostElements ≤ length (now out)) × Ordered n (now rows) ⌝ }
+    ensures { λ r. ⌜ ((s : Schema) → r ≡ length (keep (present (working s n (now (rows .entry))) table) (elements (valueIn c (getD (now (rows .entry)) i []))))) ⌝ }
+    ensures { λ r. ⌜ ((s : Schema) → now (out .exit) ≡ keep (present (working s n (now (rows .entry))) table) (elements (valueIn c (getD (now (rows .entry)) i []))) ++ drop r (now (out .entry))) ⌝ }
+{
+    let row = &rows[i];
+    let count = references::size(rows::count_of(row, c));
+    references::keep_named(rows::atoms_in(row, c), count, table, rows, n, out)
+}
+
+// Column c of row i keeps the elements that name a row of a table, in their order; another column stays, and so do the other rows.
+fn weaken_column(rows: &mut [Row], n: usize, i: usize, c: usize, to: Target)
+    requires { ⌜ (c < mostColumns) × (i < n) × Ordered n (now rows) ⌝ }
+    ensures { λ _. ⌜ now (rows .exit) ≡ set (now (rows .entry)) i (getD (now (rows .exit)) i []) ⌝ }
+    ensures { λ _. ⌜ ColumnWeak (targetTable to) c n (now (rows .entry)) (getD (now (rows .entry)) i []) (getD (now (rows .exit)) i []) ⌝ }
 {
     match to {
         Target::Table(t) => {
             let mut kept = [[0u8; ATOM]; ELEMENTS];
-            let count = references::size(rows::count_of(row, c));
-            let k = references::keep_named(rows::atoms_in(row, c), count, t, rows, n, &mut kept);
-            rows::set_column(row, c, k as u8, &kept);
+            let k = keep_column(rows, n, i, c, t, &mut kept);
+            rows::set_column(&mut rows[i], c, k as u8, &kept);
         }
         Target::Nothing => {}
     }
 }
 
-// A row without its weak references to absent rows.
-fn weaken_row(row: &mut Row, schema: &Catalog, rows: &[Row], n: usize)
+// Row i without its weak references to absent rows; the other rows stay.
+fn weaken_row(rows: &mut [Row], n: usize, i: usize, schema: &Catalog)
     requires { ⌜ Accepted (now schema) ⌝ }
-    requires { ⌜ Ordered n (now rows) ⌝ }
-    ensures { λ _. ⌜ RowWeak (packedTables (now (schema .entry))) n (now (rows .entry)) (now (row .entry)) (now (row .exit)) ⌝ }
+    requires { ⌜ (i < n) × Ordered n (now rows) ⌝ }
+    ensures { λ _. ⌜ now (rows .exit) ≡ set (now (rows .entry)) i (getD (now (rows .exit)) i []) ⌝ }
+    ensures { λ _. ⌜ RowWeak (packedTables (now (schema .entry))) n (now (rows .entry)) (getD (now (rows .entry)) i []) (getD (now (rows .exit)) i []) ⌝ }
 {
-    let table = rows::table_of(row);
+    let table = rows::table_of(&rows[i]);
     let w = references::width(schema, table);
     let mut c = 0;
     while c < w {
         let to = references::refers(schema, table, c, 2);
-        weaken_column(row, c, to, rows, n);
+        weaken_column(rows, n, i, c, to);
         c += 1;
     }
 }
@@ -169,9 +187,7 @@ pub fn weaken(schema: &Catalog, rows: &mut [Row], n: usize)
 {
     let mut i = 0;
     while i < n {
-        let mut row = rows[i];
-        weaken_row(&mut row, schema, rows, n);
-        rows[i] = row;
+        weaken_row(rows, n, i, schema);
         i += 1;
     }
 }

@@ -12,7 +12,10 @@ use lib.Dec.{ltb, eqb}
 use lib.Seq.{set-out, getD-set-same, getD-set-other}
 use Rattle.model.specs.declared.Read.{Read}
 use Rattle.model.specs.declared.Read.the-variants.{End, Stop, Deep}
+use Rattle.model.specs.Scan.{spacesAt}
+use Rattle.model.specs.Strings.{stringAt}
 use Rattle.model.specs.Json.{valueAt}
+use Rattle.scan.proofs.Values.{string-quote, string-value}
 use Rattle.inner.specs.Positions.{Says}
 use Rattle.json.proofs.Mono.{levels-more}
 use Rattle.json.specs.Table.{noted}
@@ -40,3 +43,8 @@ module _ (s ends : List ℕ) (says : Says s ends) (at : ℕ) where
   -- the theorem: what was read with at most 12 levels is true with 12
   pub says-level : (l : ℕ) → l ≤ 12 → {r : Read} → r ≡ valueAt l s at .read → Says s (noted ends at r)
   says-level l g {r} h = says-noted r (λ e q. let k = sym h ∙ q in ap (λ x. x .read) (levels-more s (12 - l) l 12 (omega arith) at e k) ∙ k)
+
+  -- and so is where a name ended: a string is the value at its place
+  pub says-name : {r : Read} → r ≡ stringAt s (spacesAt s at) .read → Says s (noted ends at r)
+  says-name {r} h =
+      says-noted r (λ e q. let k = sym h ∙ q in string-value 12 s at (string-quote s (spacesAt s at) e k) ∙ k)

@@ -95,14 +95,17 @@ fn array(text: &[u8], ends: &mut [u16], at: usize, levels: usize) -> Read
     Read::Stop(i)
 }
 
-// A member of an object.
+// A member of an object; where its name ends is kept at the member's place.
 fn member(text: &[u8], ends: &mut [u16], at: usize, levels: usize) -> Read
     requires { ⌜ levels ≤ 12 ⌝ }
     requires { ⌜ Says (now text) (now ends) ⌝ }
     ensures { λ r. ⌜ r ≡ memberAt (valueAt levels (now (text .entry))) (now (text .entry)) at .read ⌝ }
     ensures { λ r. ⌜ Says (now (text .entry)) (now (ends .exit)) ⌝ }
 {
-    let r = scan::key(text, at);
+    let i = scan::spaces(text, at);
+    let name = scan::string(text, i);
+    note(ends, at, name);
+    let r = scan::colon(text, name);
     let Read::End(e) = r else {
         return r;
     };

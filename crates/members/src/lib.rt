@@ -60,7 +60,7 @@ pub fn fields(text: &[u8], ends: &[u16], at: usize, words: &[u8]) -> Places
         match g {
             Found::At(p) => {
                 let k = choose(text, p, words);
-                let v = nav::member_value(text, p);
+                let v = nav::member_value(text, ends, p);
                 if k < SLOTS {
                     slots[k] = v;
                 }

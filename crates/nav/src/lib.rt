@@ -20,7 +20,13 @@ ghost use Rattle.model.specs.Scan.{between, endOr};
 ghost use Rattle.model.specs.Json.{keyAt, valueAt, memberAt};
 ghost use Rattle.inner.specs.Positions.{Says, foundOf, firstOf, nextItem, nextMember, treeAt, kindBy, isTrue};
 ghost use Rattle.model.specs.Nav.{kindOf};
+ghost use Rattle.nav.specs.Known.{nextAfter, KeyKnown};
 ghost use Rattle.model.specs.Whole.{sized, plusOf, minusOf, wholeText, wholeOf};
+
+// Characters as `peek` gives them.
+const COMMA: u16 = b',' as u16;
+
+const COLON: u16 = b':' as u16;
 
 // The entry of the table, 0 past its end.
 fn entry(ends: &[u16], at: usize) -> usize
@@ -73,17 +79,52 @@ pub fn first(text: &[u8], at: usize, opener: u8, close: u8) -> Found
     Found::Nothing
 }
 
+// The place after the comma that follows what ends at e, if there is one.
+fn next_after(text: &[u8], e: usize) -> Found
+    ensures { λ r. ⌜ r ≡ nextAfter (now (text .entry)) e ⌝ }
+{
+    let i = scan::spaces(text, e);
+    let b = scan::peek(text, i);
+    if b == COMMA {
+        return Found::At(i + 1);
+    }
+    Found::Nothing
+}
+
 // The item of an array after the one at `at`.
 pub fn next_item(text: &[u8], ends: &[u16], at: usize) -> Found
     requires { ⌜ Says (now text) (now ends) ⌝ }
     ensures { λ r. ⌜ r ≡ nextItem (now (text .entry)) at ⌝ }
 {
-    let r = end_of(text, ends, at);
-    found(scan::after(text, r, b']'))
+    let e = entry(ends, at);
+    if e == 0 {
+        let r = json::end_at(text, at);
+        return found(scan::after(text, r, b']'));
+    }
+    next_after(text, e)
+}
+
+// Where the value of the member at `at` begins, where the table says where its name ends; else 0.
+fn value_known(text: &[u8], ends: &[u16], at: usize) -> usize
+    requires { ⌜ Says (now text) (now ends) ⌝ }
+    ensures { λ r. ⌜ KeyKnown (now (text .entry)) at r ⌝ }
+{
+    let e = entry(ends, at);
+    let i = scan::spaces(text, at);
+    let b = scan::peek(text, i);
+    if (e == 0) | (b != QUOTE) {
+        return 0;
+    }
+    let j = scan::spaces(text, e);
+    let c = scan::peek(text, j);
+    if c == COLON {
+        return j + 1;
+    }
+    0
 }
 
 // The end of the member at `at`.
-pub fn member_end(text: &[u8], ends: &[u16], at: usize) -> Read
+fn member_end(text: &[u8], ends: &[u16], at: usize) -> Read
     requires { ⌜ Says (now text) (now ends) ⌝ }
     ensures { λ r. ⌜ r ≡ memberAt (valueAt 12 (now (text .entry))) (now (text .entry)) at .read ⌝ }
 {
@@ -99,8 +140,13 @@ pub fn next_member(text: &[u8], ends: &[u16], at: usize) -> Found
     requires { ⌜ Says (now text) (now ends) ⌝ }
     ensures { λ r. ⌜ r ≡ nextMember (now (text .entry)) at ⌝ }
 {
-    let r = member_end(text, ends, at);
-    found(scan::after(text, r, b'}'))
+    let v = value_known(text, ends, at);
+    let e = entry(ends, v);
+    if (v == 0) | (e == 0) {
+        let r = member_end(text, ends, at);
+        return found(scan::after(text, r, b'}'));
+    }
+    next_after(text, e)
 }
 
 // What a value is that begins with this byte.
@@ -146,9 +192,14 @@ pub fn truth_at(text: &[u8], at: usize) -> bool
 }
 
 // Where the value of the member at `at` begins.
-pub fn member_value(text: &[u8], at: usize) -> usize
+pub fn member_value(text: &[u8], ends: &[u16], at: usize) -> usize
+    requires { ⌜ Says (now text) (now ends) ⌝ }
     ensures { λ r. ⌜ r ≡ endOr at (keyAt (now (text .entry)) at .read) ⌝ }
 {
+    let v = value_known(text, ends, at);
+    if v != 0 {
+        return v;
+    }
     let r = scan::key(text, at);
     match r {
         Read::End(e) => e,

@@ -45,6 +45,7 @@ use Rattle.request_rows.specs.Assigned.{slotted, writtenRow, RowRead, Born, Upd
 use Rattle.request_rows.proofs.Rows.{inserted-row}
 use Rattle.request_rows.proofs.Updates.{updated-rows}
 use Rattle.operations.specs.Clauses.{SlotFine, whereAt, mutationsIn, rowAt, Earlier}
+use Rattle.operations.proofs.Unmoved.{update-none, delete-none, mutate-none, counts-none}
 use Rattle.operations.proofs.Slots.{slot-find, slot-fine, where-by, mutations-by, row-by, row-fine, row-as}
 use Rattle.operations.specs.declared.on_table.Call.{Call}
 use Rattle.operations.specs.declared.on_table.Done.{Done}
@@ -53,7 +54,7 @@ use Rattle.operations.specs.declared.on_table.Operation.{Operation}
 use Rattle.operations.specs.declared.on_table.Operation.the-variants.{Insert, Select, Update, Mutate, Delete}
 use Rattle.operations.specs.declared.on_table.Reply.{Reply}
 use Rattle.operations.specs.declared.on_table.Reply.the-variants.{Empty, Count, Id, Rows}
-use Rattle.operations.specs.Ran.{Ready, Ran, Answers, performed, membersOf, outcome, isMutate, Effect, Silent, TableColumns, Words, testsOf, Matching, listedFault, countUnless, roomFault}
+use Rattle.operations.specs.Ran.{Ready, Ran, mayChange, Answers, performed, membersOf, outcome, isMutate, Effect, Silent, TableColumns, Words, testsOf, Matching, listedFault, countUnless, roomFault}
 
 -- ── the fault of several checks ──
 worst-two : (a b : Fault) → worst (a ∷ b ∷ []) ≡ earlier a b
@@ -83,19 +84,21 @@ ran-failed {f = f} few e bad =
       few = few;
       rows = λ y. absurd (clash (isFine f) y bad);
       reply = λ y. absurd (clash (isFine f) y bad);
+      same = λ y. absurd (clash (isFine f) y bad);
       still = λ _. refl;
       tidy = λ t. t;
     }
 
 pub ran-done : {s : Schema} {d : Model.Done} {replies : Reply → List ℕ → Type 0} {n m : ℕ} {entry exit : List (List (List ℕ))} {f : Fault} {q : Reply}
     → m ≤ mostRows → f ≡ d .fault → isFine f ≡ true → working s m exit ≡ d .rows → (Tidy s (take n entry) → Tidy s (take m exit)) → replies q (d .answer)
-    → Ran s d replies n entry exit (record { fault = Fine; count = m; reply = q })
-ran-done {f = f} few e y rows tidy reply =
+    → (mayChange q ≡ false → d .rows ≡ working s n entry) → Ran s d replies n entry exit (record { fault = Fine; count = m; reply = q })
+ran-done {f = f} few e y rows tidy reply same =
     record {
       fault = sym (fine-is f y) ∙ e;
       few = few;
       rows = λ _. rows;
       reply = λ _. reply;
+      same = λ _. same;
       still = λ x. absurd (clash true refl x);
       tidy = tidy;
     }
@@ -113,10 +116,11 @@ module _ {k : Operation} {text names : List ℕ} {schema : List (List ℕ)} {cal
   pub effect-done : {entry exit : List (List (List ℕ))} {at m : ℕ} {before after : List ℕ} {q : Reply} → isFine f ≡ true → m ≤ mostRows
       → (Tidy (packedTables schema) (take (call .count) entry) → Tidy (packedTables schema) (take m exit))
       → ((given : List (List ℕ)) → Earlier text names (call .number) given → (f ≡ outcome k given text names schema call entry .fault) × (working (packedTables schema) m exit ≡ outcome k given text names schema call entry .rows) × Answers (freshAt names (call .number)) at before after q (outcome k given text names schema call entry .answer))
+      → ((given : List (List ℕ)) → mayChange q ≡ false → outcome k given text names schema call entry .rows ≡ working (packedTables schema) (call .count) entry)
       → Effect k text names schema call entry exit at before after (record { fault = Fine; count = m; reply = q })
-  effect-done y few tidy e =
+  effect-done y few tidy e same =
       record {
-        does = λ given g. let p = e given g in ran-done few (p .0) y (p .1) tidy (p .2);
+        does = λ given g. let p = e given g in ran-done few (p .0) y (p .1) tidy (p .2) (same given);
         rows = λ _ bad. absurd (clash true refl bad);
         answer = λ bad. absurd (clash true refl bad);
       }
@@ -154,9 +158,16 @@ module _ {text names : List ℕ} {schema ws : List (List ℕ)} {call : Call} {ro
   marks-all = marked-front (columnsOf (packedTables schema) (call .table)) (testsOf text names schema call .got) (call .table) (call .count) rows (m .marks) (k .marks y) long
 
   -- the reply's count is that of the rows that match
+  count-is : {c : ℕ} → c ≡ marked (m .marks) (call .count) → c ≡ count (matches (call .table) (testsOf text names schema call .got)) (working (packedTables schema) (call .count) rows)
+  count-is e =
+      e ∙ marked-count (columnsOf (packedTables schema) (call .table)) (testsOf text names schema call .got) (call .table) rows (m .marks) (packedTables schema) refl (call .count) long marks-all
+
   count-all : {c : ℕ} → c ≡ marked (m .marks) (call .count) → countText (count (matches (call .table) (testsOf text names schema call .got)) (working (packedTables schema) (call .count) rows)) ≡ countText c
-  count-all e =
-      sym (ap countText (e ∙ marked-count (columnsOf (packedTables schema) (call .table)) (testsOf text names schema call .got) (call .table) rows (m .marks) (packedTables schema) refl (call .count) long marks-all))
+  count-all e = sym (ap countText (count-is e))
+
+  -- where it is 0 no row matches
+  count-none : {c : ℕ} → c ≡ marked (m .marks) (call .count) → mayChange (Count c) ≡ false → count (matches (call .table) (testsOf text names schema call .got)) (working (packedTables schema) (call .count) rows) ≡ 0
+  count-none e h = counts-none (count-is e) h
 
 -- ── delete ──
 abbrev delete-words : List (List ℕ)
@@ -175,6 +186,7 @@ module _ {text names : List ℕ} {schema : List (List ℕ)} {call : Call} {rows 
       let d = gone (columnsOf (packedTables schema) (call .table)) (call .table) (testsOf text names schema call .got) (marks-all k long y) in
       let x = d .few in
       effect-done (m .fault) y (omega arith) (d .tidy (packedTables schema)) (λ given _. (delete-fault given, d .rows (packedTables schema) refl, (count-all k long y ec, refl)))
+      (λ given h. delete-none (matches (call .table) (testsOf text names schema call .got)) (working (packedTables schema) (call .count) rows) (count-none k long y ec h))
 
 -- ── a row that is read ──
 -- without a fault it is there
@@ -214,6 +226,7 @@ module _ {text names : List ℕ} {schema columns : List (List ℕ)} {call : Call
       let d = updated-rows text names columns (getD (m .slots) 3 0) (call .count) (m .marks) ts (call .table) (w .1) (w .2) up marks in
       effect-done f y few (d .tidy s (here .same))
       (λ given _. (update-fault given, d .rows s (here .same) ∙ ap (λ (j : Judged (List (Option Value))). map (Model.updateRow (matches (call .table) ts) (j .got)) (working s (call .count) rows)) (sym (update-row ∙ w .0)), (count-all k long (p .0) ec, refl)))
+      (λ given h. update-none (matches (call .table) ts) (Model.readRow (namesAt text names) Model.noFault Model.immutableFault (columnsOf s (call .table)) (membersOf text call) .got) (working s (call .count) rows) (count-none k long (p .0) ec h))
 
 -- ── select ──
 pub slot-well : (s : List ℕ) (p : ℕ) → SlotFine s p → slotWell s p ≡ true
@@ -243,6 +256,7 @@ module _ {text names : List ℕ} {schema columns : List (List ℕ)} {call : Call
       let w = put (Model.shows (slotted text (getD (m .slots) 3 0))) ts (subst (λ (l : List (List ℕ)). Flagged (Model.shows (slotted text (getD (m .slots) 3 0))) l (c .flags)) (here .cells) (read .flags (p .1))) (k .marks (p .0)) in
       effect-done f y few (λ t. t)
       (λ given _. (select-fault given, refl, put-is w (sym (λ i. selected (Model.shows (shown i)) (columnsOf (packedTables schema) (call .table)) (call .table) ts (working (packedTables schema) (call .count) rows))) (omega arith)))
+      (λ given h. refl)
 
 -- ── mutate ──
 abbrev mutate-words : List (List ℕ)
@@ -301,6 +315,7 @@ module _ {text names : List ℕ} {schema columns : List (List ℕ)} {call : Call
             few = few;
             rows = λ x. d .rows s (here .same) (ap isFine (sym is) ∙ x) ∙ ap (λ (j : Judged (List Row)). j .got) same;
             reply = λ _. (count-all k long y ec, refl);
+            same = λ _ h. mutate-none (matches (call .table) ts) (mutations .got) (working s (call .count) rows) (count-none k long y ec h);
             still = λ _. refl;
             tidy = d .tidy s (here .same);
           };
@@ -378,6 +393,7 @@ module _ (text names : List ℕ) (schema : List (List ℕ)) (call : Call) (rows 
             ∙ sym (λ j. add (record { table = call .table; id = sym (fresh .is) j; columns = Model.assigned ((insert-row ∙ w .0) j .got) (map initial (here .same j)) }) (working s (call .count) rows)),
         (refl, refl),
       ))
+      (λ given h. absurd (clash true refl h))
 
   pub insertion : Insertion text names schema call rows row f
   insertion = record { room = insert-room; failed = λ bad _ _. effect-failed f few bad insert-fault; done = insert-done }

@@ -1,7 +1,7 @@
 -- Where a run stands between two operations. Assumes nothing.
-use mathlib.Core.Path.{_≡_, sym, ap, subst, subst₃, _∙_}
+use mathlib.Core.Path.{_≡_, refl, sym, ap, subst, subst₃, _∙_}
 use mathlib.Core.List.{List, [], _∷_, _++_, append-nil}
-use mathlib.Core.Bool.{true, false}
+use mathlib.Core.Bool.{Bool, true, false, _||_}
 use Prim.Native.Nat.{ℕ, _+_, _*_, _≤_, _<_}
 use native.Mathlib.Omega.{arith}
 use lib.Dec.{eqb}
@@ -18,7 +18,7 @@ use Rattle.model.specs.Faults.{isFine}
 use Rattle.inner.specs.Working.{working, Tidy}
 use Rattle.model.specs.Transact as model
 use Rattle.model.specs.Transact.{insertName, withName, followed}
-use Rattle.model.proofs.Tests.{split, clash}
+use Rattle.model.proofs.Tests.{split, clash, or-l, or-r}
 use Rattle.nav.proofs.Walk.{walk-rest, walk-fine}
 use Rattle.json_writer.specs.Put.{Put}
 use Rattle.json_writer.specs.Texts.{commaText, joined, errorResult}
@@ -43,19 +43,20 @@ module _ (schema : List (List ℕ)) (text : List ℕ) (ops : Found) (names : Lis
   whole = runWhole (packedTables schema) text ops names (working (packedTables schema) n rows₀)
 
   -- after i operations, with m rows left: what the operations from g on do is what is still due
-  pub record Going (rows : List (List (List ℕ))) (answer : List ℕ) (at : ℕ) (g : Found) (i m : ℕ) : Type 0 where
+  pub record Going (rows : List (List (List ℕ))) (answer : List ℕ) (at : ℕ) (g : Found) (i m : ℕ) (pending : Bool) : Type 0 where
     pub given : List (List ℕ)
     pub naming : (w : List ℕ) → Naming text ops given i g w
     pub fault : whole .fault ≡ runFrom (packedTables schema) text names given i (working (packedTables schema) m rows) g .fault
     pub left : whole .rows ≡ runFrom (packedTables schema) text names given i (working (packedTables schema) m rows) g .rows
     pub due : Due answer₀ at₀ (joined true (whole .results)) answer at (joined (eqb i 0) (runFrom (packedTables schema) text names given i (working (packedTables schema) m rows) g .results))
+    pub same : pending ≡ false → working (packedTables schema) m rows ≡ working (packedTables schema) n rows₀
     pub fine : itemsFine text g ≡ true
     pub size : i + length (itemsFrom text g) ≤ 16
     pub short : at ≤ at₀ + 200001 * i
     pub few : m ≤ 32
     pub tidy : Tidy (packedTables schema) (take n rows₀) → Tidy (packedTables schema) (take m rows)
 
-  pub going-start : itemsFine text ops ≡ true → length (itemsFrom text ops) ≤ 16 → n ≤ 32 → Going rows₀ answer₀ at₀ ops 0 n
+  pub going-start : itemsFine text ops ≡ true → length (itemsFrom text ops) ≤ 16 → n ≤ 32 → Going rows₀ answer₀ at₀ ops 0 n false
   going-start f l h =
       let e = run-first (packedTables schema) text ops names (working (packedTables schema) n rows₀) in
       record {
@@ -64,6 +65,7 @@ module _ (schema : List (List ℕ)) (text : List ℕ) (ops : Found) (names : Lis
         fault = ap (λ r. r .fault) e;
         left = ap (λ r. r .rows) e;
         due = due-is (due-all answer₀ at₀ (joined true (whole .results))) (ap (λ r. joined true (r .results)) e);
+        same = λ _. refl;
         fine = f;
         size = omega arith;
         short = omega arith;
@@ -71,19 +73,21 @@ module _ (schema : List (List ℕ)) (text : List ℕ) (ops : Found) (names : Lis
         tidy = λ t. t;
       }
 
-module _ {schema : List (List ℕ)} {text : List ℕ} {ops : Found} {names : List ℕ} {rows₀ : List (List (List ℕ))} {n : ℕ} {answer₀ : List ℕ} {at₀ : ℕ} {rows : List (List (List ℕ))} {answer : List ℕ} {at : ℕ} {g : Found} {i m : ℕ}
-    (c : Going schema text ops names rows₀ n answer₀ at₀ rows answer at g i m) where
+module _ {schema : List (List ℕ)} {text : List ℕ} {ops : Found} {names : List ℕ} {rows₀ : List (List (List ℕ))} {n : ℕ} {answer₀ : List ℕ} {at₀ : ℕ} {rows : List (List (List ℕ))} {answer : List ℕ} {at : ℕ} {g : Found} {i m : ℕ} {pending : Bool}
+    (c : Going schema text ops names rows₀ n answer₀ at₀ rows answer at g i m pending) where
   abbrev s : Schema
   s = packedTables schema
 
   going-earlier : ((w : List ℕ) → placeIn text names w ≡ placeNamed 0 w (operationsAt text ops)) → Earlier text names i (c .given)
   going-earlier same = naming-earlier text ops names same (c .naming)
 
-  pub going-end : {before : List ℕ} → Put 1 before 0 (91 ∷ []) at₀ answer₀ → g ≡ Nothing → AllDone text ops names schema n rows₀ rows before answer (record { fault = Fine; count = m; at = at })
+  pub going-end : {before : List ℕ} → Put 1 before 0 (91 ∷ []) at₀ answer₀ → g ≡ Nothing → AllDone text ops names schema n rows₀ rows before answer (record { fault = Fine; pending = pending; count = m; at = at })
   going-end first h =
       let e = run-end s text ops names (c .given) i (working s m rows) h in
       record {
         fault = sym (c .fault ∙ ap (λ r. r .fault) e);
+        fine = λ _. refl;
+        same = λ h f. c .left ∙ ap (λ r. r .rows) e ∙ c .same h;
         few = c .few;
         rows = λ f. sym (c .left ∙ ap (λ r. r .rows) e);
         tidy = λ f t. c .tidy t;
@@ -107,8 +111,8 @@ module _ {schema : List (List ℕ)} {text : List ℕ} {ops : Found} {names : Lis
 
       pub going-on : isFine (r .fault) ≡ true → {answer3 : List ℕ} {at2 : ℕ}
           → ((begun t : List ℕ) → single.Answers (freshAt names i) at1 begun answer2 (r .reply) t → Put 200000 begun at1 t at2 answer3)
-          → {k : ℕ} → k ≡ i + 1 → {g2 : Found} → g2 ≡ nextItem text p → Going schema text ops names rows₀ n answer₀ at₀ rows2 answer3 at2 g2 k (r .count)
-      going-on f put {k} ek {g2} eg =
+          → {k : ℕ} → k ≡ i + 1 → {g2 : Found} → g2 ≡ nextItem text p → {moved : Bool} → moved ≡ single.mayChange (r .reply) → Going schema text ops names rows₀ n answer₀ at₀ rows2 answer3 at2 g2 k (r .count) (pending || moved)
+      going-on f put {k} ek {g2} eg {moved} em =
           let o = done s text ops names (c .given) i (working s m rows) p in
           let w = put answer1 (o .answer) (did .reply f) in
           let more = withName (insertName (membersIn (treeAt text p))) (c .given) in
@@ -121,6 +125,7 @@ module _ {schema : List (List ℕ)} {text : List ℕ} {ops : Found} {names : Lis
             fault = c .fault ∙ ap (λ r. r .fault) e;
             left = c .left ∙ ap (λ r. r .rows) e;
             due = due-is (due-next (due-next (due-is (c .due) (ap (λ r. joined (eqb i 0) (r .results)) e)) comma) w) (ap (λ b. joined b (runFrom s text names more (i + 1) (working s (r .count) rows2) (nextItem text p) .results)) (sym (not-first i)));
+            same = λ x. did .rows f ∙ did .same f (sym em ∙ or-r pending moved x) ∙ c .same (or-l pending moved x);
             fine = walk-fine text h (c .fine) .1;
             size = omega (arith, c .size, ap length (walk-rest text h));
             short = omega (arith, c .short, comma .short, w .short);
@@ -140,6 +145,8 @@ module _ {schema : List (List ℕ)} {text : List ℕ} {ops : Found} {names : Lis
           let bad : isFine (x .fault) ≡ false = ap isFine (y .fault) ∙ f in
           record {
             fault = y .fault ∙ did .fault ∙ sym (c .fault ∙ ap (λ r. r .fault) e);
+            fine = λ q. absurd (clash (x .pending) q (y .idle));
+            same = λ _ q. absurd (clash (isFine (x .fault)) q bad);
             few = let z = y .count in omega (arith, c .few);
             rows = λ q. absurd (clash (isFine (x .fault)) q bad);
             tidy = λ q. absurd (clash (isFine (x .fault)) q bad);

@@ -1,4 +1,5 @@
 pub mod Choosing
+pub mod Unmoved
 pub mod Doing
 pub mod Slots
 pub mod Nulls

@@ -57,13 +57,18 @@ Answers id at before after (Count k) t = (t ≡ countText k) × (after ≡ befor
 Answers id at before after Id t = (t ≡ insertText id) × (after ≡ before)
 Answers id at before after (Rows e) t = Put resultMost before at t e after
 
+-- whether an operation that answers so may have changed a row: an insert has, and one of which rows match
+abbrev pub mayChange : Reply → Bool
+mayChange r = elim r [ Empty ↦ false | Count k ↦ ltb 0 k | Id ↦ true | Rows e ↦ false ]
+
 -- ── what it does ──
--- where d is what the model says of it: its fault, and where that is Fine the rows and the reply; rows that were tidy are tidy after it, whatever its fault is
+-- where d is what the model says of it: its fault, and where that is Fine the rows and the reply, which tells where the rows are as they were; rows that were tidy are tidy after it, whatever its fault is
 pub record Ran (s : Schema) (d : Model.Done) (replies : Reply → List ℕ → Type 0) (n : ℕ) (entry exit : List (List (List ℕ))) (r : Done) : Type 0 where
   pub fault : r .fault ≡ d .fault
   pub few : r .count ≤ mostRows
   pub rows : isFine (r .fault) ≡ true → working s (r .count) exit ≡ d .rows
   pub reply : isFine (r .fault) ≡ true → replies (r .reply) (d .answer)
+  pub same : isFine (r .fault) ≡ true → mayChange (r .reply) ≡ false → d .rows ≡ working s n entry
   pub still : isFine (r .fault) ≡ false → r .count ≡ n
   pub tidy : Tidy s (take n entry) → Tidy s (take (r .count) exit)
 

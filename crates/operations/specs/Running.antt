@@ -50,15 +50,18 @@ answerMost = 4000000
 unfoldable pub nullsFrom : List ℕ → Found → List (List ℕ)
 nullsFrom text g = map (λ (j : Json). nullText) (itemsFrom text g)
 
--- what a fault leaves: it, how many rows there were, and its error with the nulls behind it in the answer
+-- what a fault leaves: it, nothing to commit, how many rows there were, and its error with the nulls behind it in the answer
 pub record Stopped (text : List ℕ) (g : Found) (f : Fault) (n at : ℕ) (before after : List ℕ) (r : Finish) : Type 0 where
   pub fault : r .fault ≡ f
+  pub idle : r .pending ≡ false
   pub count : r .count ≡ n
   pub answer : Put stopMost before at (errorResult f ++ joined false (nullsFrom text g)) (r .at) after
 
--- what is left of the rows, and the answer up to its closing bracket; after a fault the rows are free, but tidy where they were
+-- what is left of the rows, that without a fault they are as they were where nothing is to be committed, and the answer up to its closing bracket; after a fault the rows are free, but tidy where they were
 pub record RunAll (s : Schema) (d : model.Ran) (n : ℕ) (entry exit : List (List (List ℕ))) (before after : List ℕ) (r : Finish) : Type 0 where
   pub fault : r .fault ≡ d .fault
+  pub fine : r .pending ≡ true → isFine (r .fault) ≡ true
+  pub same : r .pending ≡ false → isFine (r .fault) ≡ true → d .rows ≡ working s n entry
   pub few : r .count ≤ mostRows
   pub rows : isFine (r .fault) ≡ true → working s (r .count) exit ≡ d .rows
   pub tidy : isFine (r .fault) ≡ true → Tidy s (take n entry) → Tidy s (take (r .count) exit)

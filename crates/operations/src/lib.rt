@@ -21,14 +21,27 @@ ghost use Rattle.json_writer.specs.Put.{Put};
 ghost use Rattle.json_writer.specs.Texts.{joined};
 ghost use Rattle.fresh.specs.Fresh.{freshAt};
 ghost use Rattle.uuids.specs.Named.{Running};
-ghost use Rattle.operations.specs.Ran.{Answers};
+ghost use Rattle.operations.specs.Ran.{mayChange, Answers};
 ghost use Rattle.operations.specs.Running.{Listed, nullsMost, stopMost, nullsFrom, Stopped, AllDone};
 
-// What the operations leave: the first fault, how many rows there are, and where the answer ends.
+// What the operations leave: the first fault, whether there is something to commit (no fault, and an operation that may have changed a row), how many rows there are, and where the answer ends.
 pub struct Finish {
     pub fault: Fault,
+    pub pending: bool,
     pub count: usize,
     pub at: usize,
+}
+
+// Whether an operation that answers so may have changed a row.
+fn may_change(reply: Reply) -> bool
+    ensures { λ r. ⌜ r ≡ mayChange reply ⌝ }
+{
+    match reply {
+        Reply::Empty => false,
+        Reply::Count(k) => 0 < k,
+        Reply::Id => true,
+        Reply::Rows(_) => false,
+    }
 }
 
 // Nulls for the operations from g on, at most 16 of them, each after a comma.
@@ -88,6 +101,7 @@ fn stop(
     let end = put_nulls(text, ends, g, answer, e);
     Finish {
         fault: fault,
+        pending: false,
         count: n,
         at: end,
     }
@@ -114,10 +128,12 @@ pub fn run(
     let mut g = ops;
     let mut i = 0;
     let mut m = n;
+    let mut pending = false;
     loop {
         let Found::At(p) = g else {
             return Finish {
                 fault: Fault::Fine,
+                pending: pending,
                 count: m,
                 at: at,
             };
@@ -128,9 +144,9 @@ pub fn run(
         let f = d.fault;
         let q = d.reply;
         g = nav::next_item(text, ends, p);
-        let fine = leaf::is_fine(f);
-        if fine {
+        if leaf::is_fine(f) {
             at = put_result(answer, at, q, names, i);
+            pending = pending | may_change(q);
             m = d.count;
             i += 1;
         } else {

@@ -4,6 +4,7 @@ pub mod Items
 pub mod Values
 pub mod Ends
 pub mod Same
+pub mod Plain
 pub mod Past
 pub mod Enough
 mod Examples

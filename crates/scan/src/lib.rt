@@ -9,6 +9,7 @@ ghost use Prim.Native.Nat.{ℕ, _-_};
 ghost use Rattle.model.specs.Scan.{wordAt};
 ghost use Rattle.model.specs.declared.Read.the-variants.{End};
 ghost use Rattle.model.specs.Strings.{shortOf, hexOf, escapeBy, going, charBy, bodyAt, stringAt};
+ghost use Rattle.scan.specs.Strings.{isPlain, colonAt};
 ghost use Rattle.scan.specs.Units.{hexStep, outside, inside, hexAt, lowHexAt, halfOf, lowAt, pairBy, unitBy, wideBy};
 ghost use Rattle.leaf.specs.Bytes.{secondLow, secondHigh};
 ghost use Rattle.model.specs.Numbers.{minusAt, signAt, someAt, wholeAt, fracAt, isExp, expAt, numberAt};
@@ -487,18 +488,34 @@ pub fn character(text: &[u8], at: usize) -> Next
     go_on(wide(text, at))
 }
 
+// Whether a byte is a character by itself: ASCII from the space on, and neither a quote nor a backslash.
+pub fn is_plain(b: u16) -> bool
+    ensures { λ r. ⌜ r ≡ isPlain b ⌝ }
+{
+    (SPACE <= b) & (b < 128) & (b != QUOTE) & (b != BACKSLASH)
+}
+
 // The characters of a string up to its last quote.
 pub fn body(text: &[u8], at: usize) -> Read
     ensures { λ r. ⌜ r ≡ bodyAt (now (text .entry)) at .read ⌝ }
 {
     let mut i = at;
     for k in 0..text.len() {
-        let n = character(text, i);
-        match n {
-            Next::More(e) => {
-                i = e;
+        let b = peek(text, i);
+        let plain = is_plain(b);
+        if plain {
+            i += 1;
+        } else {
+            if b == QUOTE {
+                return Read::End(i + 1);
             }
-            Next::Done(d) => return d,
+            let n = character(text, i);
+            match n {
+                Next::More(e) => {
+                    i = e;
+                }
+                Next::Done(d) => return d,
+            }
         }
     }
     Read::Stop(i)
@@ -639,15 +656,21 @@ pub fn after(text: &[u8], item: Read, close: u8) -> Next
     Next::Done(within(text, Read::End(i), close, close))
 }
 
+// The colon after a name that was read.
+pub fn colon(text: &[u8], name: Read) -> Read
+    ensures { λ r. ⌜ r ≡ colonAt (now (text .entry)) name ⌝ }
+{
+    let Read::End(e) = name else {
+        return name;
+    };
+    let j = spaces(text, e);
+    within(text, Read::End(j), b':', b':')
+}
+
 // An object's name and its colon.
 pub fn key(text: &[u8], at: usize) -> Read
     ensures { λ r. ⌜ r ≡ keyAt (now (text .entry)) at .read ⌝ }
 {
     let i = spaces(text, at);
-    let q = string(text, i);
-    let Read::End(e) = q else {
-        return q;
-    };
-    let j = spaces(text, e);
-    within(text, Read::End(j), b':', b':')
+    colon(text, string(text, i))
 }

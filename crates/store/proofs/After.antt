@@ -50,6 +50,11 @@ module _ (a : List ℕ) (cells : List (List ℕ)) (rows : List (List (List ℕ))
   unfolding storeIn
   sound = let p = store-parts store (store-of-is a store (k .store) .1) in record { good = p .rows; meet = p .meets }
 
+  -- every commit rule holds of them
+  pub settled : lawful s (working s (rowCount a) rows) ≡ true
+  unfolding storeIn
+  settled = store-parts store (store-of-is a store (k .store) .1) .lawful
+
   -- a reply is that to the schema and the rows in cells
   pub reply-is : (request fresh : List ℕ) (room : ℕ) → replyOf store request fresh room ≡ reply (databaseFrom cells) (numberIn a) (working s (rowCount a) rows) request fresh room
   unfolding storeIn
@@ -74,3 +79,6 @@ module _ {a : List ℕ} {cells : List (List ℕ)} {rows : List (List (List ℕ))
 
   pub sound-as : Sound (packedTables cells) (working (packedTables cells) n rows)
   sound-as = rw e (sound a cells rows k)
+
+  pub settled-as : lawful (packedTables cells) (working (packedTables cells) n rows) ≡ true
+  settled-as = rw e (settled a cells rows k)

@@ -11,19 +11,23 @@ use Rattle.model.specs.Catalog.{packedTables, databaseFrom}
 use Rattle.model.specs.Members.{membersIn}
 use Rattle.model.specs.declared.Found.{Found}
 use Rattle.model.specs.declared.Fault.{Fault}
+use Rattle.model.specs.declared.Fault.the-variants.{Fine}
 use Rattle.inner.specs.Positions.{isNothing, itemsFrom}
 use Rattle.model.specs.Schema.{Schema}
 use Rattle.model.specs.Rows.{Row}
-use Rattle.model.specs.Faults.{isFine}
+use Rattle.model.specs.Faults.{isFine, Judged}
 use Rattle.model.specs.Commit.{allFound, commit}
 use Rattle.inner.specs.Working.{working, Ordered}
 use Rattle.inner.proofs.Ordering.{sorted-ordered}
 use Rattle.catalog.specs.Accepted.{Accepted}
 use Rattle.model.proofs.Order.{Sorted}
 use Rattle.model.proofs.Octets.{octet}
+use Rattle.model.proofs.Settled.{lawful-settled}
+use Rattle.model.proofs.Same.{diff-self}
 use Rattle.model.proofs.RunKeeps.{fresh-short, fresh-length, run-keeps}
 use Rattle.model.proofs.TransactKeeps.{sane-modest}
 use Rattle.model.specs.Answers.{bracketed, errorText}
+use Rattle.model.specs.Replies.{changesOf}
 use Rattle.model.specs.Transact as model
 use Rattle.model.specs.Transact.{freshIds, namesOf, runAll, atCommit}
 use Rattle.model.specs.Written.{Names}
@@ -155,14 +159,15 @@ module _ (s : Schema) (text : List ℕ) (ops : Found) (fresh : List ℕ) (n : �
   abbrev done : model.Transaction
   done = transactOn s text ops fresh (working s n entry)
 
-  pub ended-stopped : isFine (q .fault) ≡ false → n ≤ 32 → {end : ℕ} {after : List ℕ} → Put 1 answer (q .at) (93 ∷ []) end after
+  ended-stopped : isFine (q .fault) ≡ false → n ≤ 32 → {end : ℕ} {after : List ℕ} → Put 1 answer (q .at) (93 ∷ []) end after
       → Ended s done n entry mid before after (record { commits = false; count = n; at = end })
   ended-stopped h k p =
       let e = stopped-is s text ops fresh (working s n entry) (ap isFine (sym (ran .fault)) ∙ h) in
       record {
-        commits = sym (ap (λ (t : model.Transaction). t .commits) e);
+        commits = λ t. absurd (clash false t refl);
         rows = λ t. absurd (clash false t refl);
         stays = λ t. ap (λ (t : model.Transaction). t .rows) e;
+        none = λ t. ap (changesOf s (working s n entry)) e;
         few = k;
         tidy = λ t. absurd (clash false t refl);
         ordered = λ t. absurd (clash false t refl);
@@ -174,14 +179,38 @@ module _ (s : Schema) (text : List ℕ) (ops : Found) (fresh : List ℕ) (n : �
     went : done ≡ atCommit s (working s n entry) run
     went = went-on s text ops fresh (working s n entry) (ap isFine (sym (ran .fault)) ∙ f)
 
+    -- rows that no operation changed are settled: the commit leaves them, and writes no record
+    ended-same : run .rows ≡ working s n entry → Sure s text ops fresh (working s n entry) → n ≤ 32 → {end : ℕ} {after : List ℕ} → Put 1 answer (q .at) (93 ∷ []) end after
+        → Ended s done n entry mid before after (record { commits = false; count = n; at = end })
+    unfolding committed
+    ended-same same sure k p =
+        let rows = working s n entry in
+        let settled : committed s (run .rows) ≡ record { fault = Fine; got = rows } = ap (committed s) same ∙ lawful-settled s rows (sure .sound .good) (sure .lawful) in
+        let e = went ∙ fine-is s rows run (ap (λ (j : Judged (List Row)). isFine (j .fault)) settled) ∙ ap (λ (j : Judged (List Row)). ended (j .got)) settled in
+        record {
+          commits = λ t. absurd (clash false t refl);
+          rows = λ t. absurd (clash false t refl);
+          stays = λ t. ap (λ (t : model.Transaction). t .rows) e;
+          none = λ t. ap (changesOf s rows) e ∙ diff-self s rows (sure .sound .good .sorted);
+          few = k;
+          tidy = λ t. absurd (clash false t refl);
+          ordered = λ t. absurd (clash false t refl);
+          room = kept;
+          text = put-is (put-then (ran .answer) p) (bracketed-is (run .results) ∙ sym (ap (λ (t : model.Transaction). t .text) e)) (omega arith);
+        }
+      where
+        ended : List Row → model.Transaction
+        ended rows = record { commits = true; rows = rows; text = bracketed (run .results) }
+
     module _ {exit : List (List (List ℕ))} {after : List ℕ} {r : Outcome} (c : Closed s (committed s (run .rows)) (q .count) mid exit (isNothing ops) (q .at) answer after r) where
       after-fine : isFine (committed s (run .rows) .fault) ≡ true → Ended s done n entry exit before after r
       after-fine h =
           let e = went ∙ fine-is s (working s n entry) run h in
           record {
-            commits = c .commits ∙ h ∙ sym (ap (λ (t : model.Transaction). t .commits) e);
+            commits = λ t. ap (λ (t : model.Transaction). t .commits) e;
             rows = λ t. c .rows t ∙ sym (ap (λ (t : model.Transaction). t .rows) e);
             stays = λ t. absurd (clash (r .commits) (c .commits ∙ h) t);
+            none = λ t. absurd (clash (r .commits) (c .commits ∙ h) t);
             few = omega (arith, c .few, ran .few);
             tidy = λ t x. c .tidy t (ran .tidy f x);
             ordered = c .ordered;
@@ -193,9 +222,10 @@ module _ (s : Schema) (text : List ℕ) (ops : Found) (fresh : List ℕ) (n : �
       after-failed h =
           let e = went ∙ failed-is s (working s n entry) run h in
           record {
-            commits = c .commits ∙ h ∙ sym (ap (λ (t : model.Transaction). t .commits) e);
+            commits = λ t. absurd (clash (r .commits) t (c .commits ∙ h));
             rows = λ t. absurd (clash (r .commits) t (c .commits ∙ h));
             stays = λ t. ap (λ (t : model.Transaction). t .rows) e;
+            none = λ t. ap (changesOf s (working s n entry)) e;
             few = omega (arith, c .few, ran .few);
             tidy = λ t. absurd (clash (r .commits) t (c .commits ∙ h));
             ordered = λ t. absurd (clash (r .commits) t (c .commits ∙ h));
@@ -209,3 +239,8 @@ module _ (s : Schema) (text : List ℕ) (ops : Found) (fresh : List ℕ) (n : �
         let c1 = subst (λ (b : Bool). Closed s (committed s (working s (q .count) mid)) (q .count) mid exit b (q .at) answer after r) e c in
         let c2 = subst (λ (l : List Row). Closed s (committed s l) (q .count) mid exit (isNothing ops) (q .at) answer after r) (ran .rows f) c1 in
         split (isFine (committed s (run .rows) .fault)) (after-fine c2) (after-failed c2)
+
+  -- nothing to commit: an operation failed, or none changed a row
+  pub ended-idle : q .pending ≡ false → Sure s text ops fresh (working s n entry) → n ≤ 32 → {end : ℕ} {after : List ℕ} → Put 1 answer (q .at) (93 ∷ []) end after
+      → Ended s done n entry mid before after (record { commits = false; count = n; at = end })
+  ended-idle h sure k p = split (isFine (q .fault)) (λ f. ended-same f (ran .same h f) sure k p) (λ f. ended-stopped f k p)

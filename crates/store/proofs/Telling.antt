@@ -59,10 +59,10 @@ module _ (s : Schema) (number : ℕ) (rows : List Row) (room : ℕ) (t : Transac
       spent : lastNumber < number + length es → numbered number rows t es ≡ refused NumbersSpent rows
       spent k = by-test (λ (r : Reply). r ≡ refused NumbersSpent rows) (leb (number + length es) lastNumber) (λ e. absurd (clash _ e (lt-leb (number + length es) lastNumber k))) (λ e. refl)
 
-    concluded-stays : t .commits ≡ false → number ≤ lastNumber → concludedOf s number rows room t ≡ record { status = Accepted; rows = t .rows; changes = []; text = t .text }
+    concluded-stays : changesOf s rows t ≡ [] → number ≤ lastNumber → concludedOf s number rows room t ≡ record { status = Accepted; rows = t .rows; changes = []; text = t .text }
     concluded-stays c k =
         let z : number + 0 ≤ lastNumber = omega arith in
-        concluded-fits (by-test (λ (l : List Change). l ≡ []) (t .commits) (λ e. absurd (clash _ e c)) (λ e. refl)) ∙ enough [] z
+        concluded-fits c ∙ enough [] z
 
     module _ (c : t .commits ≡ true) where
       some-changes : changesOf s rows t ≡ diff s rows (t .rows)
@@ -122,7 +122,7 @@ module _ (s : Schema) (d : Reply) (run number n : ℕ) (before exit : List (List
       pub replied-stays : o .commits ≡ false → n ≤ 32 → {recordsOut : List ℕ} → recordsOut ≡ replicate (length records) 0
           → Replied s d run number n before exit recordsIn recordsOut textIn textOut (record { status = Accepted; commits = false; count = n; changes = 0 })
       replied-stays c k b =
-          let w = concluded ∙ concluded-stays s number (working s n before) (length textIn) t fits (sym (e .commits) ∙ c) low in
+          let w = concluded ∙ concluded-stays s number (working s n before) (length textIn) t fits (e .none c) low in
           record {
             status = sym (ap (λ (d : Reply). d .status) w);
             refuses = λ x. refl;
@@ -147,13 +147,13 @@ module _ (s : Schema) (d : Reply) (run number n : ℕ) (before exit : List (List
         count-is = count ∙ ap (λ (l : List Row). length (diff s (working s n before) l)) rows-are
 
         pub replied-spent : 4294967295 < number + k → d ≡ refused NumbersSpent (working s n before)
-        replied-spent h = concluded ∙ concluded-spent s number (working s n before) (length textIn) t fits (sym (e .commits) ∙ c) (subst (λ (k : ℕ). 4294967295 < number + k) count-is h)
+        replied-spent h = concluded ∙ concluded-spent s number (working s n before) (length textIn) t fits (e .commits c) (subst (λ (k : ℕ). 4294967295 < number + k) count-is h)
 
         pub replied-given : number + k ≤ 4294967295 → {recordsOut : List ℕ}
             → recordsOut ≡ filled (length records) (flat (map encode (numberFrom run number (diff s (working s n before) (working s (o .count) exit)))))
             → Replied s d run number n before exit recordsIn recordsOut textIn textOut (record { status = Accepted; commits = true; count = o .count; changes = k })
         replied-given h b =
-            let w = concluded ∙ concluded-given s number (working s n before) (length textIn) t fits (sym (e .commits) ∙ c) (subst (λ (k : ℕ). number + k ≤ 4294967295) count-is h) in
+            let w = concluded ∙ concluded-given s number (working s n before) (length textIn) t fits (e .commits c) (subst (λ (k : ℕ). number + k ≤ 4294967295) count-is h) in
             record {
               status = sym (ap (λ (d : Reply). d .status) w);
               refuses = λ x. absurd (clash false x refl);

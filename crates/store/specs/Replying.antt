@@ -15,7 +15,7 @@ use Rattle.inner.specs.Positions.{Says, itemsFrom, itemsFine}
 use Rattle.model.specs.Faults.{Judged, isFine}
 use Rattle.model.specs.Schema.{Schema}
 use Rattle.model.specs.Rows.{Row}
-use Rattle.model.specs.Commit.{commit}
+use Rattle.model.specs.Commit.{commit, lawful}
 use Rattle.model.specs.Catalog.{packedTables, databaseFrom}
 use Rattle.inner.specs.Working.{working, Tidy, Ordered}
 use Rattle.model.specs.Records.{Change, diff, numberFrom, encode}
@@ -25,7 +25,7 @@ use Rattle.model.specs.Transact.{freshIds, idsGood, namesOf, runAll, transactRo
 use Rattle.model.proofs.RunKeeps.{operationGood, Sound}
 use Rattle.model.specs.Calls.{zeroed}
 use Rattle.model.specs.Replies as replies
-use Rattle.model.specs.Replies.{refused, concluded, reply}
+use Rattle.model.specs.Replies.{refused, changesOf, concluded, reply}
 use Rattle.area.specs.Layout.{rowCount, rowsAt}
 use Rattle.area.specs.Writing.{numberIn}
 use Rattle.json_writer.specs.Put.{Put}
@@ -64,9 +64,10 @@ unfoldable pub replyOn : List (List ℕ) → ℕ → ℕ → List (List (List �
 replyOn cells number n before request fresh room = reply (databaseFrom cells) number (working (packedTables cells) n before) request fresh room
 
 -- ── what is known of a request that is run ──
--- the rows are in order and their values meet their types, the fresh ids may be given (refusal 6), and the operations' strings are good
+-- the rows are in order, their values meet their types and every commit rule holds, the fresh ids may be given (refusal 6), and the operations' strings are good
 pub record Sure (s : Schema) (text : List ℕ) (ops : Found) (fresh : List ℕ) (rows : List Row) : Type 0 where
   pub sound : Sound s rows
+  pub lawful : lawful s rows ≡ true
   pub ids : idsGood (freshIds fresh) rows ≡ true
   pub operations : all operationGood (operationsAt text ops) ≡ true
 
@@ -85,11 +86,12 @@ pub record Closed (s : Schema) (j : Judged (List Row)) (n : ℕ) (entry exit : L
   pub room : length exit ≡ length entry
   pub text : Put 45 before at (closing (j .fault) first) (r .at) after
 
--- a transaction, and the whole of the answer's text; where it does not commit the working rows are free, as many as before
+-- a transaction, and the whole of the answer's text; where it commits no change there is no record, and the working rows are free, as many as before
 pub record Ended (s : Schema) (t : model.Transaction) (n : ℕ) (entry exit : List (List (List ℕ))) (before after : List ℕ) (r : Outcome) : Type 0 where
-  pub commits : r .commits ≡ t .commits
+  pub commits : r .commits ≡ true → t .commits ≡ true
   pub rows : r .commits ≡ true → working s (r .count) exit ≡ t .rows
   pub stays : r .commits ≡ false → t .rows ≡ working s n entry
+  pub none : r .commits ≡ false → changesOf s (working s n entry) t ≡ []
   pub few : r .count ≤ mostRows
   pub tidy : r .commits ≡ true → Tidy s (take n entry) → Tidy s (take (r .count) exit)
   pub ordered : r .commits ≡ true → Ordered (r .count) exit

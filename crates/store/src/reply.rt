@@ -19,7 +19,10 @@ ghost use Rattle.catalog.specs.Accepted.{Accepted};
 ghost use Rattle.store.specs.GoodOrder.{Held};
 ghost use Rattle.store.specs.Replying.{Readable, Sure, ClosedOn, EndedOn, Asked, noEffect, GivenOut, RepliedOn};
 
-// What a transaction comes to: whether it commits, how many rows there are then, and where the answer ends.
+// A request of so many bytes has a small table of ends, which is cleared sooner.
+const SHORT_REQUEST: usize = 1024;
+
+// What a transaction comes to: whether it commits a change, how many rows there are then, and where the answer ends.
 pub struct Outcome {
     pub commits: bool,
     pub count: usize,
@@ -85,7 +88,7 @@ fn at_commit(
     }
 }
 
-// Runs the operations and commits, with the answer's whole text.
+// Runs the operations and commits, with the answer's whole text. Where no row was changed there is nothing to commit: the rows of a store are settled.
 fn transact(
     text: &[u8],
     ends: &[u16],
@@ -106,8 +109,7 @@ fn transact(
     let mut names = [0u8; uuids::NAMES];
     uuids::fill_names(text, ends, ops, fresh, &mut names[..]);
     let ran = operations::run(text, ends, ops, &names[..], schema, rows, n, answer);
-    let f = ran.fault;
-    if leaf::is_fine(f) {
+    if ran.pending {
         let first = is_nothing(ops);
         return at_commit(schema, rows, ran.count, first, answer, ran.at);
     }
@@ -203,12 +205,13 @@ fn give_out(
     }
 }
 
-// A request on a store whose area is in good order; its rows are read, and the area has them until it is written.
-pub fn reply(
+// A request on a store whose area is in good order, with a table for where its values end.
+fn reply_by(
     schema: &Catalog,
     area: &[u8],
     rows: &mut [Row],
     request: &[u8],
+    ends: &mut [u16],
     fresh: &[u8],
     records: &mut [u8],
     answer: &mut [u8],
@@ -218,15 +221,14 @@ pub fn reply(
     ensures { λ r. ⌜ RepliedOn (now (schema .entry)) (now (area .entry)) (now (request .entry)) (now (fresh .entry)) (now (rows .entry)) (now (rows .exit)) (now (records .entry)) (now (records .exit)) (now (answer .entry)) (now (answer .exit)) r ⌝ }
 {
     let n = area::row_count(area);
-    let mut ends = [0u16; REQUEST_TEXT];
-    let q = judge(schema, rows, n, request, &mut ends[..], fresh);
+    let q = judge(schema, rows, n, request, ends, fresh);
     let why = q.status;
     if !q.runs {
         return no_effect(refuse(why, records, answer));
     }
     let ops = q.ops;
     octets::clear(answer);
-    let o = transact(request, &ends[..], ops, fresh, schema, rows, n, answer);
+    let o = transact(request, ends, ops, fresh, schema, rows, n, answer);
     if answer.len() < o.at {
         return no_effect(refuse(Status::AnswerTooLong, records, answer));
     }
@@ -240,4 +242,44 @@ pub fn reply(
         };
     }
     give_out(schema, area, rows, o.count, records, answer)
+}
+
+// A request on a store whose area is in good order; its rows are read, and the area has them until it is written. The table of ends is no longer than a short request needs.
+pub fn reply(
+    schema: &Catalog,
+    area: &[u8],
+    rows: &mut [Row],
+    request: &[u8],
+    fresh: &[u8],
+    records: &mut [u8],
+    answer: &mut [u8],
+) -> Effect
+    requires { ⌜ Held (now area) (now schema) (now rows) ⌝ }
+    requires { ⌜ (mostRows ≤ length (now rows)) × (length (now fresh) ≡ freshBytes) × (leastRecords ≤ length (now records)) ⌝ }
+    ensures { λ r. ⌜ RepliedOn (now (schema .entry)) (now (area .entry)) (now (request .entry)) (now (fresh .entry)) (now (rows .entry)) (now (rows .exit)) (now (records .entry)) (now (records .exit)) (now (answer .entry)) (now (answer .exit)) r ⌝ }
+{
+    if request.len() <= SHORT_REQUEST {
+        let mut ends = [0u16; SHORT_REQUEST];
+        return reply_by(
+            schema,
+            area,
+            rows,
+            request,
+            &mut ends[..],
+            fresh,
+            records,
+            answer,
+        );
+    }
+    let mut ends = [0u16; REQUEST_TEXT];
+    reply_by(
+        schema,
+        area,
+        rows,
+        request,
+        &mut ends[..],
+        fresh,
+        records,
+        answer,
+    )
 }

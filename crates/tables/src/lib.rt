@@ -154,7 +154,7 @@ fn read_each(
     let mut i = heads.len();
     while 0 < i {
         i -= 1;
-        let v = nav::member_value(text, places[i]);
+        let v = nav::member_value(text, ends, places[i]);
         let name = heads[i];
         let first = FIRST_COLUMN + COLUMNS * i;
         let r = read_table(text, ends, v, name, heads, &mut cells[first..]);

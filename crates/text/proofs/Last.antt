@@ -1,8 +1,8 @@
 -- The last member of a name: a walk over the members that keeps the last place found. Assumes nothing.
-use mathlib.Core.Path.{_≡_, refl, sym, ap, subst, _∙_}
-use mathlib.Core.List.{List, [], _∷_}
+use mathlib.Core.Path.{_≡_, refl, sym, ap, _∙_}
+use mathlib.Core.List.{List}
 use mathlib.Core.Bool.{Bool, true, false, _||_}
-use Prim.Native.Nat.{ℕ, _<_}
+use Prim.Native.Nat.{ℕ}
 use Rattle.model.specs.declared.Found.{Found}
 use Rattle.model.specs.declared.Found.the-variants.{At, Nothing}
 use Rattle.model.specs.Octets.{eqBytes}
@@ -13,7 +13,6 @@ use Rattle.model.specs.Text.{isWord}
 use Rattle.model.specs.Members.{membersIn, hasMember, namedOr, valueOr, memberValue}
 use Rattle.inner.specs.Positions.{Means}
 use Rattle.nav.proofs.Walk.{members-in, pass-end, pass-rest, pass-fine, pass-name, pass-value}
-use Rattle.text.specs.Match.{orLast}
 
 pub seen : Found → Bool
 seen (At p) = true
@@ -73,22 +72,25 @@ module _ (s w : List ℕ) where
       unfolding isWord
       named = rw (pass-name s h (so .fine))
 
-      pub sofar-on : {b : Bool} {v : ℕ} {l n : Found} → b ≡ isWord w (treeAt s p) → v ≡ endOr p (keyAt s p .read) → l ≡ orLast b v last → n ≡ nextMember s p → Sofar s w all l n
-      unfolding seen treeOr WellOr hasMember valueOr orLast
-      sofar-on {b} {v} {l} {n} eb ev el en = go b (sym (eb ∙ named)) el
-        where
-          go : (d : Bool) → eqBytes (memberAt (valueAt 12 s) s p .tree .name) w ≡ d → l ≡ orLast d v last → Sofar s w all l n
-          go true q e =
-              rw (e, en) (record {
-                is = so .is ∙ ap (λ x. seen last || hasMember w x) (pass-rest s h) ∙ rw (hasMember, q) (or-true (seen last));
-                value = so .value ∙ ap (valueOr w (treeOr s last)) (pass-rest s h) ∙ ap (λ x. valueOr w x (membersFrom s (nextMember s p))) (named-yes w (treeOr s last) _ q ∙ pass-value s h (so .fine) .0 ∙ ap (treeAt s) (sym ev));
-                well = rw ev (pass-value s h (so .fine) .1);
-                fine = pass-fine s h (so .fine);
-              })
-          go false q e =
-              rw (e, en) (record {
-                is = so .is ∙ ap (λ x. seen last || hasMember w x) (pass-rest s h) ∙ rw (hasMember, q);
-                value = so .value ∙ ap (valueOr w (treeOr s last)) (pass-rest s h) ∙ ap (λ x. valueOr w x (membersFrom s (nextMember s p))) (named-no w (treeOr s last) _ q);
-                well = so .well;
-                fine = pass-fine s h (so .fine);
-              })
+      -- a member of the name, and one of another
+      pub sofar-named : {v : ℕ} {l n : Found} → isWord w (treeAt s p) ≡ true → v ≡ endOr p (keyAt s p .read) → l ≡ At v → n ≡ nextMember s p → Sofar s w all l n
+      unfolding seen treeOr WellOr hasMember valueOr
+      sofar-named b ev el en =
+          let q = sym named ∙ b in
+          rw (el, en) (record {
+            is = so .is ∙ ap (λ x. seen last || hasMember w x) (pass-rest s h) ∙ rw (hasMember, q) (or-true (seen last));
+            value = so .value ∙ ap (valueOr w (treeOr s last)) (pass-rest s h) ∙ ap (λ x. valueOr w x (membersFrom s (nextMember s p))) (named-yes w (treeOr s last) _ q ∙ pass-value s h (so .fine) .0 ∙ ap (treeAt s) (sym ev));
+            well = rw ev (pass-value s h (so .fine) .1);
+            fine = pass-fine s h (so .fine);
+          })
+
+      pub sofar-other : {l n : Found} → isWord w (treeAt s p) ≡ false → l ≡ last → n ≡ nextMember s p → Sofar s w all l n
+      unfolding seen treeOr WellOr hasMember valueOr
+      sofar-other b el en =
+          let q = sym named ∙ b in
+          rw (el, en) (record {
+            is = so .is ∙ ap (λ x. seen last || hasMember w x) (pass-rest s h) ∙ rw (hasMember, q);
+            value = so .value ∙ ap (valueOr w (treeOr s last)) (pass-rest s h) ∙ ap (λ x. valueOr w x (membersFrom s (nextMember s p))) (named-no w (treeOr s last) _ q);
+            well = so .well;
+            fine = pass-fine s h (so .fine);
+          })

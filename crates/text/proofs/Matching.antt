@@ -1,5 +1,5 @@
 -- Bytes compared one after another, quotes looked for. Assumes nothing.
-use mathlib.Core.Path.{_≡_, refl}
+use mathlib.Core.Path.{_≡_, refl, sym, _∙_}
 use mathlib.Core.List.{List, [], _∷_, _++_}
 use mathlib.Core.Bool.{Bool, true, false, cond}
 use Prim.Native.Nat.{ℕ, suc, _+_, _-_, _<_, _≤_}
@@ -15,7 +15,10 @@ use Rattle.model.specs.declared.Found.{Found}
 use Rattle.model.specs.declared.Found.the-variants.{At, Nothing}
 use Rattle.model.specs.Octets.{eqBytes}
 use Rattle.model.specs.Scan.{byte, between}
-use Rattle.model.specs.Strings.{charBy}
+use Rattle.model.specs.Strings.{charBy, charBytes}
+use Rattle.scan.specs.Strings.{isPlain}
+use Rattle.scan.proofs.Bytes.{getD-any, inside-byte}
+use Rattle.scan.proofs.Plain.{inside-plain, plain-is, quote-ends}
 use Rattle.inner.specs.Positions.{quoteEnd, quoteFrom}
 use Rattle.nav.proofs.FirstByte.{split}
 use Rattle.text.specs.Match.{matched}
@@ -42,6 +45,24 @@ module _ (x : ℕ) (xs w : List ℕ) (o : ℕ) where
   pub matched-on : o < length w → x ≡ getD w o 0 → matched (x ∷ xs) w o ≡ matched xs w (o + 1)
   unfolding matched
   matched-on h e = rw (matched, lt-ltb o (length w) h, eq-eqb x (getD w o 0) e)
+
+-- one byte, and whether it stands there
+pub matched-byte : (x : ℕ) (w : List ℕ) (o : ℕ) → x < 256 → x ≡ byte w o → matched (x ∷ []) w o ≡ At (o + 1)
+unfolding matched
+matched-byte x w o h e = let l = inside-byte w o x (sym e) h in matched-on x [] w o l (e ∙ getD-any w o 256 0 l)
+
+pub matched-other : (x : ℕ) (w : List ℕ) (o : ℕ) → (x ≡ byte w o → ⊥) → matched (x ∷ []) w o ≡ Nothing
+matched-other x w o n =
+    split (ltb o (length w))
+    (λ t. let l = ltb-true o (length w) t in matched-off x [] w o l (λ q. n (q ∙ getD-any w o 0 256 l)))
+    (λ t. matched-past x [] w o (ltb-false o (length w) t))
+
+-- a plain byte stands for itself
+pub plain-bytes : (s : List ℕ) (i : ℕ) → isPlain (byte s i) ≡ true → charBytes s i (i + 1) (byte s i) ≡ byte s i ∷ []
+unfolding charBytes
+plain-bytes s i h =
+    let l = inside-plain s i h in
+    rw (charBytes, ne-eqb _ _ (plain-is (byte s i) h .3), first-between s i (i + 1) (omega arith) (omega arith), no-between s (i + 1) (i + 1) (omega arith), getD-any s i 0 256 l)
 
 -- what is left to compare after a match
 unfoldable pub goingOn : List ℕ → List ℕ → Found → Bool
@@ -75,6 +96,10 @@ module _ (s : List ℕ) (n k i : ℕ) where
   pub quote-escape : k < n → byte s i ≡ 92 → quoteFrom s (n - k) i ≡ Nothing
   unfolding quoteFrom
   quote-escape h b = rw (left h, quoteFrom, eq-eqb _ _ b)
+
+  pub quote-here : k < n → byte s i ≡ 34 → quoteFrom s (n - k) i ≡ At i
+  unfolding quoteEnd
+  quote-here h b = quote-done h (λ q. let z : _≡_ {A = ℕ} 34 92 = sym b ∙ q in omega arith) (quote-ends s i (byte s i) b)
 
   pub quote-spent : n ≤ k → quoteFrom s (n - k) i ≡ Nothing
   unfolding quoteFrom

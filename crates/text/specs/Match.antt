@@ -20,8 +20,3 @@ pub record Held (text before scratch : List ℕ) (inside : Bool) (start len : �
   pub decoded : scratch ≡ cond esc (bs ++ drop (length bs) before) before
   pub fits : start + len ≤ length (cond inside scratch text)
   pub bytes : take len (drop start (cond inside scratch text)) ≡ bs
-
--- a place where one was found, and else the one before
-unfoldable pub orLast : Bool → ℕ → Found → Found
-orLast true p f = At p
-orLast false p f = f

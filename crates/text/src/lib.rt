@@ -6,6 +6,7 @@ use model::Read;
 use scan::BACKSLASH;
 use scan::Hex;
 use scan::LETTER_U;
+use scan::QUOTE;
 ghost use mathlib.Core.Path.{_≡_};
 ghost use mathlib.Core.List.{[], _∷_};
 ghost use mathlib.Core.Bool.{true, cond};
@@ -22,7 +23,7 @@ ghost use Rattle.model.specs.Members.{membersIn, hasMember, memberValue};
 ghost use Rattle.inner.specs.Positions.{Means};
 ghost use Rattle.text.specs.Push.{Pushed, countOf};
 ghost use Rattle.text.specs.Units.{unitOr, unitEnd, characterOf, escapeBytes};
-ghost use Rattle.text.specs.Match.{matched, Held, orLast};
+ghost use Rattle.text.specs.Match.{matched, Held};
 ghost use Rattle.text.specs.Steps.{bodyFrom, Inside, picked, Steps, Begins};
 ghost use Rattle.text.specs.declared.Written.the-variants.{To};
 
@@ -212,13 +213,23 @@ pub fn decode(text: &[u8], at: usize, out: &mut [u8]) -> Written
     let mut i = at;
     let mut x = Written::To(0);
     for k in 0..text.len() {
-        let n = scan::character(text, i);
-        match n {
-            Next::More(e) => {
-                x = emit(text, i, e, out, x);
-                i = e;
+        let b = scan::peek(text, i);
+        let plain = scan::is_plain(b);
+        if plain {
+            x = push(out, x, b as u8);
+            i += 1;
+        } else {
+            if b == QUOTE {
+                return x;
             }
-            Next::Done(_) => return x,
+            let n = scan::character(text, i);
+            match n {
+                Next::More(e) => {
+                    x = emit(text, i, e, out, x);
+                    i = e;
+                }
+                Next::Done(_) => return x,
+            }
         }
     }
     x
@@ -250,15 +261,23 @@ fn quote(text: &[u8], at: usize) -> Found
     let mut i = at;
     for k in 0..text.len() {
         let b = scan::peek(text, i);
-        if b == BACKSLASH {
-            return Found::Nothing;
-        }
-        let n = scan::character(text, i);
-        match n {
-            Next::More(e) => {
-                i = e;
+        let plain = scan::is_plain(b);
+        if plain {
+            i += 1;
+        } else {
+            if b == QUOTE {
+                return Found::At(i);
             }
-            Next::Done(r) => return quote_end(i, r),
+            if b == BACKSLASH {
+                return Found::Nothing;
+            }
+            let n = scan::character(text, i);
+            match n {
+                Next::More(e) => {
+                    i = e;
+                }
+                Next::Done(r) => return quote_end(i, r),
+            }
         }
     }
     Found::Nothing
@@ -516,19 +535,33 @@ fn body_is(text: &[u8], at: usize, word: &[u8]) -> bool
     let mut i = at;
     let mut o: usize = 0;
     for k in 0..text.len() {
-        let n = scan::character(text, i);
-        match n {
-            Next::More(e) => {
-                let m = char_is(text, i, e, word, o);
-                match m {
-                    Found::At(p) => {
-                        o = p;
-                    }
-                    Found::Nothing => return false,
-                }
-                i = e;
+        let b = scan::peek(text, i);
+        let plain = scan::is_plain(b);
+        if plain {
+            let c = scan::peek(word, o);
+            if b != c {
+                return false;
             }
-            Next::Done(_) => return o == word.len(),
+            o += 1;
+            i += 1;
+        } else {
+            if b == QUOTE {
+                return o == word.len();
+            }
+            let n = scan::character(text, i);
+            match n {
+                Next::More(e) => {
+                    let m = char_is(text, i, e, word, o);
+                    match m {
+                        Found::At(p) => {
+                            o = p;
+                        }
+                        Found::Nothing => return false,
+                    }
+                    i = e;
+                }
+                Next::Done(_) => return o == word.len(),
+            }
         }
     }
     o == word.len()
@@ -547,16 +580,6 @@ pub fn is_word(text: &[u8], at: usize, word: &[u8]) -> bool
     false
 }
 
-// The place p, if so, and else the one before.
-fn or_last(here: bool, p: usize, last: Found) -> Found
-    ensures { λ r. ⌜ r ≡ orLast here p last ⌝ }
-{
-    if here {
-        return Found::At(p);
-    }
-    last
-}
-
 // Where the value of the last member of that name begins, in the object at `at`.
 pub fn find(text: &[u8], ends: &[u16], at: usize, word: &[u8]) -> Found
     requires { ⌜ Says (now text) (now ends) ⌝ }
@@ -569,8 +592,10 @@ pub fn find(text: &[u8], ends: &[u16], at: usize, word: &[u8]) -> Found
         match g {
             Found::At(p) => {
                 let same = is_word(text, p, word);
-                let v = nav::member_value(text, p);
-                last = or_last(same, v, last);
+                if same {
+                    let v = nav::member_value(text, ends, p);
+                    last = Found::At(v);
+                }
                 g = nav::next_member(text, ends, p);
             }
             Found::Nothing => return last,

@@ -103,7 +103,7 @@ fn show_member(text: &[u8], ends: &[u16], scratch: &mut [u8], at: usize)
     put(b" ");
     show(text, ends, scratch, at);
     put(b"=");
-    let v = nav::member_value(text, at);
+    let v = nav::member_value(text, ends, at);
     show(text, ends, scratch, v);
 }
 

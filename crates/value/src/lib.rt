@@ -50,14 +50,14 @@ pub fn equal(l: &[Atom], m: &[Atom]) -> bool
     if l.len() != m.len() {
         return false;
     }
-    let mut ok = true;
     let mut i = 0;
     while i < l.len() {
-        let e = atom::same(&l[i], &m[i]);
-        ok = ok & e;
+        if !atom::same(&l[i], &m[i]) {
+            return false;
+        }
         i += 1;
     }
-    ok
+    true
 }
 
 // Whether all atoms are well formed for a base type; whether all are zero. Their type says how many bytes they have.

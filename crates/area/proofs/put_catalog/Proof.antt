@@ -1,7 +1,7 @@
 -- `area::put_catalog` meets its contract. Assumes nothing.
 use lib.ListN.{getD}
-use lib.Seq.{length-take-le, take-all}
-use Rattle.area.proofs.Copies.{flat-more}
+use lib.Seq.{take-all}
+use Rattle.area.proofs.Copies.{flat-more, write-part, part-lent}
 use borrow.Rule.Slice.PartMut.{putMid}
 use mathlib.Core.Path.{_≡_, refl, sym, ap, _∙_}
 use mathlib.Core.List.{List, [], _++_}
@@ -9,7 +9,6 @@ use Prim.Native.Nat.{ℕ, _+_, _-_, _*_, _≤_, _<_}
 use native.Mathlib.Omega.{arith}
 use lib.ListN.{length, take, drop, length-append, length-drop}
 use Rattle.model.specs.Base.{flat}
-use Rattle.octets.proofs.Rests.{write-next}
 use borrow.Author.Needs.{needs}
 use Rattle.area.proofs.put_catalog.Statement.{statement}
 use Rattle.area.proofs.put_catalog.Tie as tie
@@ -23,32 +22,31 @@ abbrev μ-loop : tie.MeasureT-loop
 loop-holds : tie.Need-loop-holds Inv-loop μ-loop
 loop-holds c = (omega arith, refl, refl, refl)
 
-mul-entry : tie.Need-mul-entry Inv-loop μ-loop
-mul-entry c = omega arith
+mul-at : tie.Need-mul-at Inv-loop μ-loop
+mul-at c = omega arith
 
-shared-slice-element-entry : tie.Need-shared-slice-element-entry Inv-loop μ-loop
-shared-slice-element-entry c = omega arith
+add-put-entry : tie.Need-add-put-entry Inv-loop μ-loop
+add-put-entry c = omega arith
 
-mul-put-bytes : tie.Need-mul-put-bytes Inv-loop μ-loop
-mul-put-bytes c = omega arith
+sub-put-entry : tie.Need-sub-put-entry Inv-loop μ-loop
+sub-put-entry c = search needs
 
-sub-put-bytes : tie.Need-sub-put-bytes Inv-loop μ-loop
-sub-put-bytes c = search needs
+part-put-entry-start : tie.Need-part-put-entry-start Inv-loop μ-loop
+part-put-entry-start c = search needs
 
-part-put-bytes-start : tie.Need-part-put-bytes-start Inv-loop μ-loop
-part-put-bytes-start c = search needs
+part-put-entry-end : tie.Need-part-put-entry-end Inv-loop μ-loop
+part-put-entry-end c = search needs
 
-part-put-bytes-end : tie.Need-part-put-bytes-end Inv-loop μ-loop
-part-put-bytes-end c = search needs
+mul-put-entry : tie.Need-mul-put-entry Inv-loop μ-loop
+mul-put-entry c = omega arith
 
-put-bytes-requires : tie.Need-put-bytes-requires Inv-loop μ-loop
-put-bytes-requires c κs =
-    let s = c .before .before .before .before .before .before in
-    let l = c .before .before .before .before .loop in
-    let e : length (getD (s .args .catalog .now) (l .j) []) ≡ 48 = omega arith in
-    let d = drop (48 * l .j) (l .out) in
-    let m = length-drop (48 * l .j) (l .out) in
-    omega (arith, length-take-le (length (l .out) - 48 * l .j) d (omega (arith, m)), e)
+shared-slice-element-put-entry : tie.Need-shared-slice-element-put-entry Inv-loop μ-loop
+shared-slice-element-put-entry c = omega arith
+
+put-entry-requires : tie.Need-put-entry-requires Inv-loop μ-loop
+put-entry-requires c κs =
+    let l = c .before .before .before .loop in
+    part-lent (l .out) (48 * l .j) 48 (omega arith)
 
 add-j : tie.Need-add-j Inv-loop μ-loop
 add-j c = omega arith
@@ -58,18 +56,20 @@ loop-less c = omega arith
 
 loop-again : tie.Need-loop-again Inv-loop μ-loop
 loop-again c =
-    let s = c .before .before .before .before .before .before .before .before .before in
-    let l = c .before .before .before .before .before .before .before .loop in
+    let s = c .before .before .before .before .before .before .before .before in
+    let l = c .before .before .before .before .before .before .loop in
     let x = s .args .catalog .now in
+    let y = s .args .out .now in
     let t : l .j < 29 = omega arith in
-    let e : length (getD x (l .j) []) ≡ 48 = omega arith in
+    let e : length (getD x (l .j) []) ≡ 48 = ap length (sym (c .before .before .put-entry .ensures)) ∙ omega arith in
     let f : flat (take (l .j + 1) x) ≡ flat (take (l .j) x) ++ getD x (l .j) [] = flat-more x (l .j) (omega arith) in
-    let k : 48 * l .j + length (getD x (l .j) []) ≡ 48 * (l .j + 1) = omega arith in
+    let k : 48 * l .j + 48 ≡ 48 * (l .j + 1) = omega arith in
     let z : length (flat (take (l .j + 1) x)) ≡ 48 * (l .j + 1) = ap length f ∙ length-append (flat (take (l .j) x)) (getD x (l .j) []) ∙ omega arith in
-    let w : putMid (48 * l .j) (length (l .out) - 48 * l .j) (l .out) (c .before .before .put-bytes .last .0) ≡ flat (take (l .j + 1) x) ++ drop (48 * (l .j + 1)) (s .args .out .now) =
-    write-next (flat (take (l .j) x)) (getD x (l .j) []) (s .args .out .now) (l .out) (c .before .before .put-bytes .last .0) (48 * l .j) (length (getD x (l .j) [])) (l .inv .2) (l .inv .3) (c .before .before .put-bytes .ensures)
-    ∙ (λ i. sym f i ++ drop (k i) (s .args .out .now)) in
-    (omega arith, ap length w ∙ length-append (flat (take (l .j + 1) x)) (drop (48 * (l .j + 1)) (s .args .out .now)) ∙ omega (arith, z, length-drop (48 * (l .j + 1)) (s .args .out .now)), z, w)
+    let w : putMid (48 * l .j) (48 * l .j + 48 - 48 * l .j) (l .out) (c .before .before .put-entry .last .0) ≡ flat (take (l .j + 1) x) ++ drop (48 * (l .j + 1)) y =
+    ap (putMid (48 * l .j) (48 * l .j + 48 - 48 * l .j) (l .out)) (c .before .before .put-entry .ensures)
+    ∙ write-part (flat (take (l .j) x)) (getD x (l .j) []) y (l .out) (48 * l .j) 48 (l .inv .2) (l .inv .3)
+    ∙ (λ i. sym f i ++ drop (k i) y) in
+    (omega arith, ap length w ∙ length-append (flat (take (l .j + 1) x)) (drop (48 * (l .j + 1)) y) ∙ omega (arith, z, length-drop (48 * (l .j + 1)) y), z, w)
 
 same-length : tie.Need-same-length Inv-loop μ-loop
 same-length c = c .before .loop .inv .1
@@ -92,13 +92,14 @@ put-catalog-spec =
     Inv-loop
     μ-loop
     loop-holds
-    mul-entry
-    shared-slice-element-entry
-    mul-put-bytes
-    sub-put-bytes
-    part-put-bytes-start
-    part-put-bytes-end
-    put-bytes-requires
+    mul-at
+    add-put-entry
+    sub-put-entry
+    part-put-entry-start
+    part-put-entry-end
+    mul-put-entry
+    shared-slice-element-put-entry
+    put-entry-requires
     add-j
     loop-less
     loop-again

@@ -1,7 +1,7 @@
 -- `area::put_row` meets its contract. Assumes nothing.
 use lib.ListN.{getD}
-use lib.Seq.{length-take-le, take-all}
-use Rattle.area.proofs.Copies.{flat-more}
+use lib.Seq.{take-all}
+use Rattle.area.proofs.Copies.{flat-more, write-part, part-lent}
 use borrow.Rule.Slice.PartMut.{putMid}
 use mathlib.Core.Path.{_≡_, refl, sym, ap, _∙_}
 use mathlib.Core.List.{List, [], _++_}
@@ -9,7 +9,6 @@ use Prim.Native.Nat.{ℕ, _+_, _-_, _*_, _≤_, _<_}
 use native.Mathlib.Omega.{arith}
 use lib.ListN.{length, take, drop, length-append, length-drop}
 use Rattle.model.specs.Base.{flat}
-use Rattle.octets.proofs.Rests.{write-next}
 use borrow.Author.Needs.{needs}
 use Rattle.area.proofs.put_row.Statement.{statement}
 use Rattle.area.proofs.put_row.Tie as tie
@@ -23,32 +22,31 @@ abbrev μ-loop : tie.MeasureT-loop
 loop-holds : tie.Need-loop-holds Inv-loop μ-loop
 loop-holds c = (omega arith, refl, refl, refl)
 
-mul-cell : tie.Need-mul-cell Inv-loop μ-loop
-mul-cell c = omega arith
+mul-at : tie.Need-mul-at Inv-loop μ-loop
+mul-at c = omega arith
 
-shared-slice-element-cell : tie.Need-shared-slice-element-cell Inv-loop μ-loop
-shared-slice-element-cell c = omega arith
+add-put-cell : tie.Need-add-put-cell Inv-loop μ-loop
+add-put-cell c = omega arith
 
-mul-put-bytes : tie.Need-mul-put-bytes Inv-loop μ-loop
-mul-put-bytes c = omega arith
+sub-put-cell : tie.Need-sub-put-cell Inv-loop μ-loop
+sub-put-cell c = search needs
 
-sub-put-bytes : tie.Need-sub-put-bytes Inv-loop μ-loop
-sub-put-bytes c = search needs
+part-put-cell-start : tie.Need-part-put-cell-start Inv-loop μ-loop
+part-put-cell-start c = search needs
 
-part-put-bytes-start : tie.Need-part-put-bytes-start Inv-loop μ-loop
-part-put-bytes-start c = search needs
+part-put-cell-end : tie.Need-part-put-cell-end Inv-loop μ-loop
+part-put-cell-end c = search needs
 
-part-put-bytes-end : tie.Need-part-put-bytes-end Inv-loop μ-loop
-part-put-bytes-end c = search needs
+mul-put-cell : tie.Need-mul-put-cell Inv-loop μ-loop
+mul-put-cell c = omega arith
 
-put-bytes-requires : tie.Need-put-bytes-requires Inv-loop μ-loop
-put-bytes-requires c κs =
-    let s = c .before .before .before .before .before .before in
-    let l = c .before .before .before .before .loop in
-    let e : length (getD (s .args .row .now) (l .j) []) ≡ 25 = omega arith in
-    let d = drop (25 * l .j) (l .out) in
-    let m = length-drop (25 * l .j) (l .out) in
-    omega (arith, length-take-le (length (l .out) - 25 * l .j) d (omega (arith, m)), e)
+shared-slice-element-put-cell : tie.Need-shared-slice-element-put-cell Inv-loop μ-loop
+shared-slice-element-put-cell c = omega arith
+
+put-cell-requires : tie.Need-put-cell-requires Inv-loop μ-loop
+put-cell-requires c κs =
+    let l = c .before .before .before .loop in
+    part-lent (l .out) (25 * l .j) 25 (omega arith)
 
 add-j : tie.Need-add-j Inv-loop μ-loop
 add-j c = omega arith
@@ -58,18 +56,20 @@ loop-less c = omega arith
 
 loop-again : tie.Need-loop-again Inv-loop μ-loop
 loop-again c =
-    let s = c .before .before .before .before .before .before .before .before .before in
-    let l = c .before .before .before .before .before .before .before .loop in
+    let s = c .before .before .before .before .before .before .before .before in
+    let l = c .before .before .before .before .before .before .loop in
     let x = s .args .row .now in
+    let y = s .args .out .now in
     let t : l .j < 25 = omega arith in
-    let e : length (getD x (l .j) []) ≡ 25 = omega arith in
+    let e : length (getD x (l .j) []) ≡ 25 = ap length (sym (c .before .before .put-cell .ensures)) ∙ omega arith in
     let f : flat (take (l .j + 1) x) ≡ flat (take (l .j) x) ++ getD x (l .j) [] = flat-more x (l .j) (omega arith) in
-    let k : 25 * l .j + length (getD x (l .j) []) ≡ 25 * (l .j + 1) = omega arith in
+    let k : 25 * l .j + 25 ≡ 25 * (l .j + 1) = omega arith in
     let z : length (flat (take (l .j + 1) x)) ≡ 25 * (l .j + 1) = ap length f ∙ length-append (flat (take (l .j) x)) (getD x (l .j) []) ∙ omega arith in
-    let w : putMid (25 * l .j) (length (l .out) - 25 * l .j) (l .out) (c .before .before .put-bytes .last .0) ≡ flat (take (l .j + 1) x) ++ drop (25 * (l .j + 1)) (s .args .out .now) =
-    write-next (flat (take (l .j) x)) (getD x (l .j) []) (s .args .out .now) (l .out) (c .before .before .put-bytes .last .0) (25 * l .j) (length (getD x (l .j) [])) (l .inv .2) (l .inv .3) (c .before .before .put-bytes .ensures)
-    ∙ (λ i. sym f i ++ drop (k i) (s .args .out .now)) in
-    (omega arith, ap length w ∙ length-append (flat (take (l .j + 1) x)) (drop (25 * (l .j + 1)) (s .args .out .now)) ∙ omega (arith, z, length-drop (25 * (l .j + 1)) (s .args .out .now)), z, w)
+    let w : putMid (25 * l .j) (25 * l .j + 25 - 25 * l .j) (l .out) (c .before .before .put-cell .last .0) ≡ flat (take (l .j + 1) x) ++ drop (25 * (l .j + 1)) y =
+    ap (putMid (25 * l .j) (25 * l .j + 25 - 25 * l .j) (l .out)) (c .before .before .put-cell .ensures)
+    ∙ write-part (flat (take (l .j) x)) (getD x (l .j) []) y (l .out) (25 * l .j) 25 (l .inv .2) (l .inv .3)
+    ∙ (λ i. sym f i ++ drop (k i) y) in
+    (omega arith, ap length w ∙ length-append (flat (take (l .j + 1) x)) (drop (25 * (l .j + 1)) y) ∙ omega (arith, z, length-drop (25 * (l .j + 1)) y), z, w)
 
 same-length : tie.Need-same-length Inv-loop μ-loop
 same-length c = c .before .loop .inv .1
@@ -92,13 +92,14 @@ put-row-spec =
     Inv-loop
     μ-loop
     loop-holds
-    mul-cell
-    shared-slice-element-cell
-    mul-put-bytes
-    sub-put-bytes
-    part-put-bytes-start
-    part-put-bytes-end
-    put-bytes-requires
+    mul-at
+    add-put-cell
+    sub-put-cell
+    part-put-cell-start
+    part-put-cell-end
+    mul-put-cell
+    shared-slice-element-put-cell
+    put-cell-requires
     add-j
     loop-less
     loop-again

@@ -15,7 +15,7 @@ returns c =
 returns-2 : tie.Need-returns-2
 returns-2 c =
     let a = c .before .before .before .before .before .before .before .before .before .before .before .before in
-    let m = c .before .before .before .before .before .before .before .collect in
+    let m = c .before .before .before .before .before .before .before .collect-by-counts in
     let w = c .before .before .before .before .weaken in
     commit-few (packedTables (a .args .schema .now)) (a .args .n) (a .args .rows .now) (m .result) (m .last .1 .0) (w .last .1 .0) (a .pre .1 .there)
     (sym (c .before .before .before .before .before .before .before .before .before .before .all-found .ensures) ∙ not-false _ (c .before .before .before .before .before .before .before .before .before .if1 .left))
@@ -25,7 +25,7 @@ returns-2 c =
 returns-3 : tie.Need-returns-3
 returns-3 c =
     let a = c .before .before .before .before .before .before .before .before .before .before .before .before .before .before .before in
-    let m = c .before .before .before .before .before .before .before .before .before .before .collect in
+    let m = c .before .before .before .before .before .before .before .before .before .before .collect-by-counts in
     let w = c .before .before .before .before .before .before .before .weaken in
     commit-over (packedTables (a .args .schema .now)) (a .args .n) (a .args .rows .now) (m .result) (m .last .1 .0) (w .last .1 .0) (a .pre .1 .there)
     (sym (c .before .before .before .before .before .before .before .before .before .before .before .before .before .all-found .ensures) ∙ not-false _ (c .before .before .before .before .before .before .before .before .before .before .before .before .if1 .left))
@@ -36,7 +36,7 @@ returns-3 c =
 returns-4 : tie.Need-returns-4
 returns-4 c =
     let a = c .before .before .before .before .before .before .before .before .before .before .before .before .before .before .before in
-    let m = c .before .before .before .before .before .before .before .before .before .before .collect in
+    let m = c .before .before .before .before .before .before .before .before .before .before .collect-by-counts in
     let w = c .before .before .before .before .before .before .before .weaken in
     commit-fine (packedTables (a .args .schema .now)) (a .args .n) (a .args .rows .now) (m .result) (m .last .1 .0) (w .last .1 .0) (a .pre .1 .there)
     (sym (c .before .before .before .before .before .before .before .before .before .before .before .before .before .all-found .ensures) ∙ not-false _ (c .before .before .before .before .before .before .before .before .before .before .before .before .if1 .left))

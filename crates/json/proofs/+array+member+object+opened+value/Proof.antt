@@ -13,8 +13,11 @@ use Rattle.scan.proofs.Bytes.{inside-byte, inside-open}
 use Rattle.scan.proofs.Items.{turn, done, spent}
 use Rattle.scan.proofs.Values.{nested, nested-is, value-is}
 use Rattle.scan.proofs.Ends.{then-not}
+use Rattle.scan.proofs.Plain.{colon-key}
+use Rattle.scan.specs.Strings.{colonAt}
+use Rattle.model.specs.Strings.{stringAt}
 use Rattle.inner.specs.Positions.{Says}
-use Rattle.json.proofs.Levels.{says-level}
+use Rattle.json.proofs.Levels.{says-level, says-name}
 use borrow.Fn.Kinds.{In}
 use borrow.Fn.PlainCycle.{Measures, is, falls, and}
 use Rattle.json.proofs.array.Reads as array
@@ -33,11 +36,12 @@ use Rattle.json.proofs.value.Reads as value
 use Rattle.json.proofs.value.Kinds as value-kinds
 use Rattle.json.proofs.+array+member+object+opened+value.Lts-value as value-lts
 use Rattle.scan.proofs.after.Reads as after-reads
-use Rattle.scan.proofs.key.Reads as key-reads
+use Rattle.scan.proofs.colon.Reads as colon-reads
 use Rattle.scan.proofs.opening_at.Reads as opening-at-reads
 use Rattle.scan.proofs.peek.Reads as peek-reads
 use Rattle.scan.proofs.scalar.Reads as scalar-reads
 use Rattle.scan.proofs.spaces.Reads as spaces-reads
+use Rattle.scan.proofs.string.Reads as string-reads
 use Rattle.json.proofs.note.Reads as note-reads
 use Rattle.json.proofs.+array+member+object+opened+value.{statement}
 use Rattle.json.proofs.+array+member+object+opened+value.Tie.{close}
@@ -94,7 +98,7 @@ abbrev object-claims : ℕ → object-lts.Claims
 object-claims t = (spaces-reads.Asked, spaces-reads.Learnt, peek-reads.Asked, peek-reads.Learnt, member-below t, member.Post, after-reads.Asked, after-reads.Learnt)
 
 abbrev member-claims : ℕ → member-lts.Claims
-member-claims t = (key-reads.Asked, key-reads.Learnt, value-below t, value.Post)
+member-claims t = (spaces-reads.Asked, spaces-reads.Learnt, string-reads.Asked, string-reads.Learnt, note-reads.Asked, note-reads.Learnt, colon-reads.Asked, colon-reads.Learnt, value-below t, value.Post)
 
 abbrev opened-claims : ℕ → opened-lts.Claims
 opened-claims t = (spaces-reads.Asked, spaces-reads.Learnt, opening-at-reads.Asked, opening-at-reads.Learnt, scalar-reads.Asked, scalar-reads.Learnt, array-below t, array.Post, object-below t, object.Post)
@@ -191,32 +195,59 @@ array-returns-3 t c =
     let s = a .text .now in
     (sym (l .loop .inv .1 ∙ spent (itemTurn (valueAt (a .levels) s) s 93) _ _ _ (c .loop-test .left)), l .loop .inv .2)
 
-member-key-requires : (t : ℕ) → member-lts.Need-key-requires (member-claims t) (member-at t) member.Post
-member-key-requires t c κs = tt
+member-spaces-requires : (t : ℕ) → member-lts.Need-spaces-requires (member-claims t) (member-at t) member.Post
+member-spaces-requires t c κs = tt
+
+member-string-requires : (t : ℕ) → member-lts.Need-string-requires (member-claims t) (member-at t) member.Post
+member-string-requires t c κs = tt
+
+member-note-requires : (t : ℕ) → member-lts.Need-note-requires (member-claims t) (member-at t) member.Post
+member-note-requires t c κs = tt
+
+member-colon-requires : (t : ℕ) → member-lts.Need-colon-requires (member-claims t) (member-at t) member.Post
+member-colon-requires t c κs = tt
 
 member-enum-known-r : (t : ℕ) → member-lts.Need-enum-known-r (member-claims t) (member-at t) member.Post
 member-enum-known-r t c = search needs
 
+member-same-length : (t : ℕ) → member-lts.Need-same-length (member-claims t) (member-at t) member.Post
+member-same-length t c = search needs
+
 member-returns : (t : ℕ) → member-lts.Need-returns (member-claims t) (member-at t) member.Post
 unfolding memberAt
 member-returns t c =
-    let st = c .before .before .before .before in
-    (rw (← c .before .key .ensures) (then-not _ _ _ (c .match .keys2)), st .pre .1 .1)
+    let n = c .before .before .before .before in
+    let q = n .before .before in
+    let st = q .before .before .before .before in
+    let s = st .args .text .now in
+    let name = q .string .ensures ∙ ap (λ i. stringAt s i .read) (q .before .spaces .ensures) in
+    let key = c .before .colon .ensures ∙ ap (colonAt s) name ∙ colon-key s (st .args .at) in
+    (rw (← key) (then-not _ _ _ (c .match .keys2)), rw (n .note .ensures) (says-name s _ (st .pre .1 .1) (st .args .at) name))
 
 member-value-requires : (t : ℕ) → member-lts.Need-value-requires (member-claims t) (member-at t) member.Post
 member-value-requires t c κs =
-    let st = c .before .before .before .before .before .before .before in
-    (omega arith, st .pre .1)
+    let n = c .before .before .before .before .before .before .before in
+    let q = n .before .before in
+    let st = q .before .before .before .before in
+    let s = st .args .text .now in
+    let name = q .string .ensures ∙ ap (λ i. stringAt s i .read) (q .before .spaces .ensures) in
+    (omega arith, (st .pre .1 .0, rw (n .note .ensures) (says-name s _ (st .pre .1 .1) (st .args .at) name)))
 
-member-same-length : (t : ℕ) → member-lts.Need-same-length (member-claims t) (member-at t) member.Post
-member-same-length t c = search needs
+member-same-length-2 : (t : ℕ) → member-lts.Need-same-length-2 (member-claims t) (member-at t) member.Post
+member-same-length-2 t c = search needs
 
 member-returns-2 : (t : ℕ) → member-lts.Need-returns-2 (member-claims t) (member-at t) member.Post
 unfolding memberAt andThen
 member-returns-2 t c =
     let v = c .before .before in
     let r = v .before .before .before in
-    (rw (← r .before .before .key .ensures, r .r .given .1) (v .value .ensures .0), v .value .ensures .1)
+    let k = r .before .before in
+    let q = k .before .before .before .before .before in
+    let st = q .before .before .before .before in
+    let s = st .args .text .now in
+    let name = q .string .ensures ∙ ap (λ i. stringAt s i .read) (q .before .spaces .ensures) in
+    let key = k .colon .ensures ∙ ap (colonAt s) name ∙ colon-key s (st .args .at) in
+    (rw (← key, r .r .given .1) (v .value .ensures .0), v .value .ensures .1)
 
 abbrev object-Inv-loop : object-lts.InvT-loop
 object-Inv-loop text ends₀ at levels j b i₀ k₀ k-end ends i k =
@@ -448,11 +479,15 @@ pub +array+member+object+opened+value-spec : {M : Type 1} → statement M
     (member-claims t)
     (member-at t)
     member.Post
-    (member-key-requires t)
+    (member-spaces-requires t)
+    (member-string-requires t)
+    (member-note-requires t)
+    (member-colon-requires t)
     (member-enum-known-r t)
+    (member-same-length t)
     (member-returns t)
     (member-value-requires t)
-    (member-same-length t)
+    (member-same-length-2 t)
     (member-returns-2 t))
     (λ t. object-lts.spec (object-claims t)
     (object-at t)

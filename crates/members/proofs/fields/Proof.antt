@@ -39,7 +39,7 @@ choose-requires : tie.Need-choose-requires Inv-loop μ-loop
 choose-requires c κs = tt
 
 member-value-requires : tie.Need-member-value-requires Inv-loop μ-loop
-member-value-requires c κs = tt
+member-value-requires c κs = c .before .before .before .before .before .before .before .before .before .pre .0
 
 mul-slots : tie.Need-mul-slots Inv-loop μ-loop
 mul-slots c = search needs

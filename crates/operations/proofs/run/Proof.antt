@@ -12,11 +12,11 @@ use Rattle.operations.proofs.run.Statement.{statement}
 use Rattle.operations.proofs.run.Tie as tie
 
 abbrev Inv-loop : tie.InvT-loop
-Inv-loop text ends names schema rows₀ n answer₀ at₀ g₀ i₀ m₀ rows answer at g i m =
-    (length rows ≡ length rows₀) × (length answer ≡ length answer₀) × Going schema text g₀ names rows₀ n answer₀ at₀ rows answer at g i m
+Inv-loop text ends names schema rows₀ n answer₀ at₀ g₀ i₀ m₀ pending₀ rows answer at g i m pending =
+    (length rows ≡ length rows₀) × (length answer ≡ length answer₀) × Going schema text g₀ names rows₀ n answer₀ at₀ rows answer at g i m pending
 
 abbrev μ-loop : tie.MeasureT-loop
-μ-loop text ends names schema rows₀ n answer₀ at₀ g₀ i₀ m₀ rows answer at g i m = left text g
+μ-loop text ends names schema rows₀ n answer₀ at₀ g₀ i₀ m₀ pending₀ rows answer at g i m pending = left text g
 
 -- ── places: the start, the loop, the operation that is next, and where it was done ──
 abbrev begun : tie.At-loop Inv-loop μ-loop → tie.After-put-byte Inv-loop μ-loop
@@ -90,20 +90,20 @@ put-result-requires c κs =
 
 loop-less : tie.Need-loop-less Inv-loop μ-loop
 loop-less c =
-    let fi = c .before .before .before .before .before in
+    let fi = c .before .before .before .before .before .before in
     let pc = comma (reads (done fi)) in
     rw (fi .before .next-item .ensures) (walk-less (start (loop pc) .args .text .now) (next pc .g .given .1))
 
 loop-again : tie.Need-loop-again Inv-loop μ-loop
 loop-again c =
-    let pr = c .before .before in
+    let pr = c .before .before .before in
     let th = pr .before .before in
     let fi = th .before in
     let op = done fi in
     let rd = reads op in
     let pc = comma rd in
     let v = loop pc .loop .inv in
-    (op .operate .kept .1 .1 .1 .1 .1 .0 ∙ v .0, pr .put-result .kept .0 ∙ op .operate .kept .1 .1 .1 .1 .1 .1 .0 ∙ pc .put-comma .kept .0 ∙ v .1, going-on (v .2) (next pc .g .given .1) (start (loop pc) .pre .1 .1 .0 .places) (pc .put-comma .ensures) (rd .read .ensures) (op .operate .ensures) (sym (fi .is-fine .ensures) ∙ th .if1 .taken) (pr .put-result .ensures) refl (fi .before .next-item .ensures))
+    (op .operate .kept .1 .1 .1 .1 .1 .0 ∙ v .0, pr .put-result .kept .0 ∙ op .operate .kept .1 .1 .1 .1 .1 .1 .0 ∙ pc .put-comma .kept .0 ∙ v .1, going-on (v .2) (next pc .g .given .1) (start (loop pc) .pre .1 .1 .0 .places) (pc .put-comma .ensures) (rd .read .ensures) (op .operate .ensures) (sym (fi .is-fine .ensures) ∙ th .if1 .taken) (pr .put-result .ensures) refl (fi .before .next-item .ensures) (c .may-change .ensures))
 
 stop-requires : tie.Need-stop-requires Inv-loop μ-loop
 stop-requires c κs =
@@ -150,7 +150,8 @@ run-spec =
     (λ c κs. start (loop (comma (reads (c .before .before .before)))) .pre .0 .says)
     (λ c κs. tt)
     put-result-requires
-    (λ c. omega (arith, loop (comma (reads (done (c .before .before .before .before .before)))) .loop .inv .2 .size))
+    (λ c κs. search needs)
+    (λ c. omega (arith, loop (comma (reads (done (c .before .before .before .before .before .before)))) .loop .inv .2 .size))
     loop-less
     loop-again
     stop-requires

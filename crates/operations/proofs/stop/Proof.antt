@@ -16,7 +16,7 @@ returns : tie.Need-returns
 returns c =
     let pn = c .before .before in
     let pe = pn .before .before .before .before in
-    record { fault = refl; count = refl; answer = put-then (pe .put-error .ensures) (pn .put-nulls .ensures) }
+    record { fault = refl; idle = refl; count = refl; answer = put-then (pe .put-error .ensures) (pn .put-nulls .ensures) }
 
 pub stop-spec : {M : Type 1} → statement M
 stop-spec = tie.close (tie.spec (λ c κs. search needs) put-nulls-requires (λ c. search needs) returns)

@@ -115,7 +115,7 @@ read-each-spec =
     (λ c. search needs)
     (λ c. omega (arith, low (c .before)))
     (λ c. listed (c .before))
-    (λ c κs. tt)
+    (λ c κs. st (c .before) .pre .0)
     (λ c. omega (arith, low (c .before .before .before)))
     (λ c. headed (c .before .before))
     (λ c. omega (arith, low (c .before .before .before .before)))

@@ -1,9 +1,11 @@
 -- `text::find` meets its contract. Assumes nothing.
 use borrow.Author.Needs.{needs}
+use mathlib.Core.Path.{sym, _∙_}
+use mathlib.Core.Logic.{⊎-elim}
 use Rattle.inner.specs.Positions.{treeAt, left}
 use Rattle.model.specs.Members.{membersIn}
 use Rattle.nav.proofs.Walk.{pass-less}
-use Rattle.text.proofs.Last.{Sofar, sofar-start, sofar-on, sofar-end}
+use Rattle.text.proofs.Last.{Sofar, sofar-start, sofar-named, sofar-other, sofar-end}
 use Rattle.text.proofs.find.Statement.{statement}
 use Rattle.text.proofs.find.Tie as tie
 
@@ -28,26 +30,26 @@ is-word-requires : tie.Need-is-word-requires Inv-loop μ-loop
 is-word-requires c κs = tt
 
 member-value-requires : tie.Need-member-value-requires Inv-loop μ-loop
-member-value-requires c κs = tt
-
-or-last-requires : tie.Need-or-last-requires Inv-loop μ-loop
-or-last-requires c κs = tt
+member-value-requires c κs = c .before .before .before .before .before .before .before .before .before .before .pre .0
 
 next-member-requires : tie.Need-next-member-requires Inv-loop μ-loop
-next-member-requires c κs = c .before .before .before .before .before .before .before .before .before .before .before .pre .0
+next-member-requires c κs = c .before .before .before .before .before .before .before .before .before .before .pre .0
 
 loop-less : tie.Need-loop-less Inv-loop μ-loop
 loop-less c =
-    let g = c .before .before .before .before .before in
+    let g = c .before .before .before .before in
     let l = g .before .before in
     rw (c .next-member .ensures) (pass-less (l .before .before .before .before .before .args .text .now) (g .g .given .1))
 
 loop-again : tie.Need-loop-again Inv-loop μ-loop
 loop-again c =
-    let g = c .before .before .before .before .before in
+    let g = c .before .before .before .before in
     let l = g .before .before in
     let a = l .before .before .before .before .before .args in
-    sofar-on (a .text .now) (a .word .now) (l .loop .inv) (g .g .given .1) (c .before .before .before .is-word .ensures) (c .before .before .member-value .ensures) (c .before .or-last .ensures) (c .next-member .ensures)
+    ⊎-elim
+    (λ w. sofar-named (a .text .now) (a .word .now) (l .loop .inv) (g .g .given .1) (sym (c .before .before .is-word .ensures) ∙ w .0 .taken) (w .1 .ensures) (w .2) (c .next-member .ensures))
+    (λ w. sofar-other (a .text .now) (a .word .now) (l .loop .inv) (g .g .given .1) (sym (c .before .before .is-word .ensures) ∙ w .0 .left) (w .1) (c .next-member .ensures))
+    (c .before .if1 .came)
 
 enum-told : tie.Need-enum-told Inv-loop μ-loop
 enum-told c = search needs
@@ -69,7 +71,6 @@ find-spec =
     enum-known-g
     is-word-requires
     member-value-requires
-    or-last-requires
     next-member-requires
     loop-less
     loop-again

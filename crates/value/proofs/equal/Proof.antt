@@ -1,20 +1,20 @@
 -- `value::equal` meets its contract. Assumes nothing.
-use mathlib.Core.Path.{_≡_, refl, sym, ap, _∙_}
-use mathlib.Core.Bool.{Bool, _&&_}
-use Prim.Native.Nat.{_+_, _-_}
+use mathlib.Core.Path.{_≡_, refl, sym, _∙_}
+use Prim.Native.Nat.{_-_}
 use native.Mathlib.Omega.{arith}
 use borrow.Author.Needs.{needs}
+use borrow.Author.Tests.{not-true, not-false}
 use lib.ListN.{length, drop}
 use Rattle.model.specs.Base.{eqLists}
-use Rattle.atom.proofs.Cells.{lists-on, lists-end, lists-length}
+use Rattle.atom.proofs.Cells.{lists-on, lists-off, lists-end, lists-length}
 use Rattle.value.proofs.equal.Statement.{statement}
 use Rattle.value.proofs.equal.Tie as tie
 
 abbrev Inv-loop : tie.InvT-loop
-Inv-loop l m ok₀ i₀ ok i = eqLists l m ≡ (ok && eqLists (drop i l) (drop i m))
+Inv-loop l m i₀ i = eqLists l m ≡ eqLists (drop i l) (drop i m)
 
 abbrev μ-loop : tie.MeasureT-loop
-μ-loop l m ok₀ i₀ ok i = length l - i
+μ-loop l m i₀ i = length l - i
 
 returns : tie.Need-returns Inv-loop μ-loop
 returns c = sym (lists-length (c .before .args .l .now) (c .before .args .m .now) (c .if1 .taken))
@@ -37,6 +37,12 @@ shared-slice-element-same-2 c = omega (arith, c .before .before .before .if1 .le
 same-requires : tie.Need-same-requires Inv-loop μ-loop
 same-requires c κs = tt
 
+returns-2 : tie.Need-returns-2 Inv-loop μ-loop
+returns-2 c =
+    let s = c .before .before .before .before .before .before in
+    let o = c .before .before .before .before .before .loop in
+    sym (o .inv ∙ lists-off (s .before .args .l .now) (s .before .args .m .now) (o .i) (omega arith) (omega (arith, s .if1 .left)) (sym (c .before .same .ensures) ∙ not-true _ (c .if2 .taken)))
+
 add-i : tie.Need-add-i Inv-loop μ-loop
 add-i c = omega arith
 
@@ -45,17 +51,15 @@ loop-less c = omega arith
 
 loop-again : tie.Need-loop-again Inv-loop μ-loop
 loop-again c =
-    let s = c .before .before .before .before .before in
-    let o = c .before .before .before .before .loop in
-    let l = s .before .args .l .now in
-    let m = s .before .args .m .now in
-    o .inv ∙ lists-on l m (o .i) (o .ok) (omega arith) (omega (arith, s .if1 .left)) ∙ ap (λ (b : Bool). (o .ok && b) && eqLists (drop (o .i + 1) l) (drop (o .i + 1) m)) (sym (c .same .ensures))
+    let s = c .before .before .before .before .before .before in
+    let o = c .before .before .before .before .before .loop in
+    o .inv ∙ lists-on (s .before .args .l .now) (s .before .args .m .now) (o .i) (omega arith) (omega (arith, s .if1 .left)) (sym (c .before .same .ensures) ∙ not-false _ (c .if2 .left))
 
-returns-2 : tie.Need-returns-2 Inv-loop μ-loop
-returns-2 c =
+returns-3 : tie.Need-returns-3 Inv-loop μ-loop
+returns-3 c =
     let s = c .before .before in
     let o = c .before .loop in
-    sym (o .inv ∙ lists-end (s .before .args .l .now) (s .before .args .m .now) (o .i) (o .ok) (c .loop-test .left) (omega (arith, s .if1 .left)))
+    sym (o .inv ∙ lists-end (s .before .args .l .now) (s .before .args .m .now) (o .i) (c .loop-test .left) (omega (arith, s .if1 .left)))
 
 pub equal-spec : {M : Type 1} → statement M
 equal-spec =
@@ -70,7 +74,8 @@ equal-spec =
     mul-same-2
     shared-slice-element-same-2
     same-requires
+    returns-2
     add-i
     loop-less
     loop-again
-    returns-2)
+    returns-3)
