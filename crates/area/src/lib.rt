@@ -350,19 +350,17 @@ fn entry_at(area: &[u8], at: usize) -> Entry
     entry
 }
 
-// The catalog of an area.
-pub fn catalog_of(area: &[u8]) -> Catalog
-    requires { ⌜ storeBytes ≤ length (now area) ⌝ }
-    ensures { λ r. ⌜ r ≡ entriesIn (now (area .entry)) ⌝ }
+// The catalog of an area, read into entries.
+pub fn read_catalog(area: &[u8], catalog: &mut [Entry])
+    requires { ⌜ (storeBytes ≤ length (now area)) × (length (now catalog) ≡ entryCount) ⌝ }
+    ensures { λ _. ⌜ now (catalog .exit) ≡ entriesIn (now (area .entry)) ⌝ }
 {
-    let mut catalog = [[0u8; ENTRY]; ENTRIES];
     let mut j = 0;
     while j < ENTRIES {
         let entry = entry_at(area, CATALOG_OFFSET + ENTRY * j);
         catalog[j] = entry;
         j += 1;
     }
-    catalog
 }
 
 // Whether the rows of the part of an area that stores and mirrors share are in good order, by its catalog. They are read on the way, unless there are too many of them or the rest is not zero.

@@ -103,21 +103,19 @@ fn text_at(text: &[u8], at: usize, out: &mut model::Atom) -> Atom
     ensures { λ r. ⌜ TextReads (treeAt (now (text .entry)) at) r (now (out .exit)) ⌝ }
 {
     octets::clear(&mut out[..]);
-    let k = nav::kind_at(text, at);
-    let t = leaf::is_kind(k, Kind::Text);
-    if t {
-        let i = scan::spaces(text, at);
-        let mut buf = [0u8; TEXT];
-        let w = text::decode(text, i + 1, &mut buf);
-        match w {
-            Written::To(n) => {
-                put_text(&buf[..n], &mut out[..]);
-                return Atom::Fits;
-            }
-            Written::Full => return Atom::Long,
+    let f = text::body_at(text, at);
+    let Found::At(i) = f else {
+        return Atom::Wrong;
+    };
+    let mut buf = [0u8; TEXT];
+    let w = text::decode(text, i, &mut buf);
+    match w {
+        Written::To(n) => {
+            put_text(&buf[..n], &mut out[..]);
+            Atom::Fits
         }
+        Written::Full => Atom::Long,
     }
-    Atom::Wrong
 }
 
 // That an element fits, if so; else that it is mistyped, and a blank atom.

@@ -25,7 +25,7 @@ use Rattle.model.proofs.Collected.{collect-none}
 use Rattle.inner.proofs.Working.{working-at, working-length, row-key, row-table}
 use Rattle.inner.proofs.Ordering.{ordered-sorted, sorted-ordered}
 use Rattle.garbage.specs.Loose.{LooseAt, Collected}
-use Rattle.garbage.specs.Counts.{left, nobody, free, from, refs, all-held, goes, held, Counted, Tallied, mayGo, NextAt, Swept, Put, Compacted}
+use Rattle.garbage.specs.Counts.{left, nobody, free, from, refs, all-held, goes, held, Counted, Tallied, mayGo, NextAt, Swept, PartlySwept, Put, Compacted}
 use Rattle.garbage.proofs.Tallying.{True, left-sorted, left-map, at-in, in-marked, free-loose, held-tight, tallies-is}
 use Rattle.garbage.proofs.Counting.{held-from, lowered-is}
 
@@ -105,6 +105,10 @@ module _ (s : Schema) (n : ℕ) (cells : List (List (List ℕ))) (o : Ordered n 
           ∙ ap (λ (w : ℕ). getD cs k 0 - w) (held-from s n cells o i (f .0) k p
           ∙ ap (λ (x : ℕ). from s x (rowFrom s (getD cells i []))) (sym (key-is k p))
           ∙ ap (from s (key (getD rows k nobody))) (sym (working-at s cells n (o .there) i nobody (f .0))))) t
+
+      pub partly-on : (next : List ℕ) → Counted false n cells i (strongOf s (rowFrom s (getD cells i []))) cs next → (start counts : List ℕ) → PartlySwept s n cells start counts ms cs → PartlySwept s n cells start counts (set ms i 0) next
+      unfolding PartlySwept
+      partly-on next g start counts w = λ end t. w end (sweep-on next g end t)
 
       pub sweep-less : length (left rows (set ms i 0)) < length (left rows ms)
       unfolding NextAt mayGo

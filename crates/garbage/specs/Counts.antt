@@ -82,6 +82,10 @@ NextAt s n cells ms cs Nothing = (i : ℕ) → i < n → mayGo s (getD cells i [
 unfoldable pub Swept : Schema → ℕ → List (List (List ℕ)) → List ℕ → List ℕ → List ℕ → Type 0
 Swept s n cells ms cs end = Tallies s (working s n cells) ms cs end
 
+-- some rows went by their marks: what is swept from there is swept from the start
+unfoldable pub PartlySwept : Schema → ℕ → List (List (List ℕ)) → List ℕ → List ℕ → List ℕ → List ℕ → Type 0
+PartlySwept s n cells ms cs later lower = (end : List ℕ) → Swept s n cells later lower end → Swept s n cells ms cs end
+
 -- row j at place m, if it is marked
 unfoldable pub Put : ℕ → ℕ → ℕ → ℕ → List (List (List ℕ)) → List (List (List ℕ)) → Type 0
 Put m j mark r entry exit = elim (eqb mark 0) [ true ↦ (r ≡ m) × (exit ≡ entry) | false ↦ (r ≡ m + 1) × (exit ≡ set entry m (getD entry j [])) ]

@@ -25,7 +25,10 @@ ghost use Rattle.inner.specs.Working.{working, valueIn, Ordered};
 ghost use Rattle.references.specs.Links.{targetTable};
 ghost use Rattle.catalog.specs.Accepted.{Accepted};
 ghost use Rattle.garbage.specs.Loose.{Collected};
-ghost use Rattle.garbage.specs.Counts.{shifted, mostCount, Room, Counted, Tallied, mayGo, NextAt, Swept, Put, Compacted};
+ghost use Rattle.garbage.specs.Counts.{shifted, mostCount, Room, Counted, Tallied, mayGo, NextAt, Swept, PartlySwept, Put, Compacted};
+
+// Every place, as bits.
+const EVERY_PLACE: u64 = 18446744073709551615;
 
 // A count with one more, or with one less.
 fn moved(c: u16, up: bool) -> u16
@@ -41,7 +44,8 @@ fn moved(c: u16, up: bool) -> u16
     0
 }
 
-// The count of the row that an atom names, moved, if it is a different row than the one at place `own`.
+// The count of the row that an atom names, moved, if it is a different row than the one at place `own`; and as bits the places whose count
+// is 0 then. Whoever looks there tests the row again.
 fn count_named(
     atom: &Atom,
     table: u8,
@@ -50,7 +54,7 @@ fn count_named(
     own: usize,
     up: bool,
     counts: &mut [u16],
-)
+) -> u64
     requires { ⌜ Ordered n (now rows) × (n ≤ length (now counts)) ⌝ }
     requires { ⌜ Room up n (now rows) own (keyOf table (uuidOf (now atom)) ∷ []) (now counts) ⌝ }
     ensures { λ _. ⌜ Counted up n (now (rows .entry)) own (keyOf table (uuidOf (now (atom .entry))) ∷ []) (now (counts .entry)) (now (counts .exit)) ⌝ }
@@ -58,14 +62,18 @@ fn count_named(
     let id = &atom[..];
     let found = rows::find_key(rows, n, table, &id[0..ID]);
     let Found::At(i) = found else {
-        return;
+        return 0;
     };
     if i == own {
-        return;
+        return 0;
     }
     let c = counts[i];
     let d = moved(c, up);
     counts[i] = d;
+    if d == 0 {
+        return 1u64 << (i % 64);
+    }
+    0
 }
 
 // The same of the first atoms.
@@ -78,16 +86,19 @@ fn count_atoms(
     own: usize,
     up: bool,
     counts: &mut [u16],
-)
+) -> u64
     requires { ⌜ (count ≤ length (now atoms)) × Ordered n (now rows) × (n ≤ length (now counts)) ⌝ }
     requires { ⌜ Room up n (now rows) own (keysOf (some table) (take count (now atoms))) (now counts) ⌝ }
     ensures { λ _. ⌜ Counted up n (now (rows .entry)) own (keysOf (some table) (take count (now (atoms .entry)))) (now (counts .entry)) (now (counts .exit)) ⌝ }
 {
+    let mut zeros = 0u64;
     let mut k = 0;
     while k < count {
-        count_named(&atoms[k], table, rows, n, own, up, counts);
+        let z = count_named(&atoms[k], table, rows, n, own, up, counts);
+        zeros = zeros | z;
         k += 1;
     }
+    zeros
 }
 
 // The same of the elements of column c, as one to a table.
@@ -100,7 +111,7 @@ fn count_column(
     own: usize,
     up: bool,
     counts: &mut [u16],
-)
+) -> u64
     requires { ⌜ (c < mostColumns) × Ordered n (now rows) × (n ≤ length (now counts)) ⌝ }
     requires { ⌜ Room up n (now rows) own (keysOf (targetTable to) (elements (valueIn c (now row)))) (now counts) ⌝ }
     ensures { λ _. ⌜ Counted up n (now (rows .entry)) own (keysOf (targetTable to) (elements (valueIn c (now (row .entry))))) (now (counts .entry)) (now (counts .exit)) ⌝ }
@@ -116,7 +127,7 @@ fn count_column(
             up,
             counts,
         ),
-        Target::Nothing => {}
+        Target::Nothing => 0,
     }
 }
 
@@ -129,7 +140,7 @@ fn count_row(
     own: usize,
     up: bool,
     counts: &mut [u16],
-)
+) -> u64
     requires { ⌜ Accepted (now schema) ⌝ }
     requires { ⌜ Ordered n (now rows) × (n ≤ length (now counts)) ⌝ }
     requires { ⌜ Room up n (now rows) own (strongOf (packedTables (now schema)) (rowFrom (packedTables (now schema)) (now row))) (now counts) ⌝ }
@@ -137,12 +148,15 @@ fn count_row(
 {
     let table = rows::table_of(row);
     let w = references::width(schema, table);
+    let mut zeros = 0u64;
     let mut c = 0;
     while c < w {
         let to = references::refers(schema, table, c, 1);
-        count_column(row, c, to, rows, n, own, up, counts);
+        let z = count_column(row, c, to, rows, n, own, up, counts);
+        zeros = zeros | z;
         c += 1;
     }
+    zeros
 }
 
 // Each row's count.
@@ -188,7 +202,34 @@ fn next_to_go(schema: &Catalog, rows: &[Row], n: usize, marks: &[u8], counts: &[
     Found::Nothing
 }
 
-// Rows that may go are marked as gone, one after another, until none may; each takes its references off the counts.
+// Rows that may go are marked as gone, one after another; each takes its references off the counts. `pending` has the places to look at as
+// bits: every place at first, and then each whose count fell to 0. So a row is looked at once, and once more where its count fell to 0. That
+// none is left that may go is not promised here: `sweep` finds it.
+fn sweep_noted(schema: &Catalog, rows: &[Row], n: usize, marks: &mut [u8], counts: &mut [u16])
+    requires { ⌜ Accepted (now schema) ⌝ }
+    requires { ⌜ Ordered n (now rows) × (n ≤ length (now marks)) × (n ≤ length (now counts)) ⌝ }
+    ensures { λ _. ⌜ PartlySwept (packedTables (now (schema .entry))) n (now (rows .entry)) (now (marks .entry)) (now (counts .entry)) (now (marks .exit)) (now (counts .exit)) ⌝ }
+{
+    let mut pending = EVERY_PLACE;
+    for k in 0..n + n {
+        if pending == 0 {
+            return;
+        }
+        let i = u64::trailing_zeros(pending) as usize;
+        if n <= i {
+            return;
+        }
+        pending = pending & (pending - 1);
+        if may_go(schema, &rows[i], marks[i], counts[i]) {
+            marks[i] = 0;
+            let z = count_row(schema, &rows[i], rows, n, i, false, counts);
+            pending = pending | z;
+        }
+    }
+}
+
+// Rows that may go are marked as gone, one after another, until none may; each takes its references off the counts. After each the search
+// starts at the first row again. After `sweep_noted` it looks at all rows once and finds none.
 fn sweep(schema: &Catalog, rows: &[Row], n: usize, marks: &mut [u8], counts: &mut [u16])
     requires { ⌜ Accepted (now schema) ⌝ }
     requires { ⌜ Ordered n (now rows) × (n ≤ length (now marks)) × (n ≤ length (now counts)) ⌝ }
@@ -255,7 +296,8 @@ fn any_not_root(schema: &Catalog, rows: &[Row], n: usize) -> bool
 }
 
 // What collection leaves of the rows: just what `collect` leaves, with one count of the references in place of a search for each row that
-// goes. Where no row can go, or none goes, no row is moved.
+// goes. `sweep_noted` marks the rows that go, and `sweep` looks at all rows once more and finds none. Where no row can go, or none goes, no
+// row is moved.
 pub fn collect_by_counts(schema: &Catalog, rows: &mut [Row], n: usize) -> usize
     requires { ⌜ Accepted (now schema) ⌝ }
     requires { ⌜ Ordered n (now rows) ⌝ }
@@ -270,6 +312,7 @@ pub fn collect_by_counts(schema: &Catalog, rows: &mut [Row], n: usize) -> usize
     let mut counts = [0u16; ROWS];
     count_all(schema, rows, n, &mut counts);
     let mut marks = [1u8; ROWS];
+    sweep_noted(schema, rows, n, &mut marks, &mut counts);
     sweep(schema, rows, n, &mut marks, &mut counts);
     keep_marked(rows, n, &marks)
 }

@@ -64,7 +64,7 @@ pub fn fields(text: &[u8], ends: &[u16], at: usize, words: &[u8]) -> Places
                 if k < SLOTS {
                     slots[k] = v;
                 }
-                g = nav::next_member(text, ends, p);
+                g = nav::next_past(text, ends, p, v);
             }
             Found::Nothing => return slots,
         }

@@ -43,8 +43,7 @@ fn opened(area: &[u8], schema: &mut Catalog, rows: &mut [Row]) -> bool
     requires { ⌜ (length (now area) ≡ mirrorBytes) × (mostRows ≤ length (now rows)) ⌝ }
     ensures { λ r. ⌜ Opened (now (area .entry)) (now (schema .exit)) (now (rows .exit)) r ⌝ }
 {
-    let entries = area::catalog_of(area);
-    *schema = entries;
+    area::read_catalog(area, &mut schema[..]);
     if !catalog::rules::is_accepted(schema) {
         return false;
     }

@@ -41,17 +41,14 @@ pub name-none : (j : Json) → isText (kindOf j) ≡ false → replicate 25 0 �
 unfolding nameCell shortCell
 name-none j h = sym (ap shortCell (no-string j h))
 
-module _ (s : List ℕ) (at : ℕ) (t : isText (kindOf (treeAt s at)) ≡ true) {i : ℕ} (q : i ≡ spacesAt s at) where
-  string-is : wordIn (treeAt s at) ≡ bodyAt s (i + 1) .tree
+module _ (s : List ℕ) (at : ℕ) (t : isText (kindOf (treeAt s at)) ≡ true) {i : ℕ} (q : i ≡ spacesAt s at + 1) where
+  string-is : wordIn (treeAt s at) ≡ bodyAt s i .tree
   unfolding wordIn
   string-is = rw (text-tree s at t .1, q)
 
-  pub spaces-fit : i + 1 ≤ length s
-  spaces-fit = omega (arith, q, text-tree s at t .0)
-
-  module _ {w : Written} {out : List ℕ} (p : Pushed (replicate 24 0) (To 0) (bodyAt s (i + 1) .tree) w out) where
+  module _ {w : Written} {out : List ℕ} (p : Pushed (replicate 24 0) (To 0) (bodyAt s i .tree) w out) where
     abbrev bs : List ℕ
-    bs = bodyAt s (i + 1) .tree
+    bs = bodyAt s i .tree
 
     pub name-long : w ≡ Full → replicate 25 0 ≡ nameCell (treeAt s at)
     unfolding nameCell shortCell

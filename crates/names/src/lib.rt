@@ -1,7 +1,7 @@
 // Names read from a text into cells, and versions.
 use model::ATOM;
 use model::Atom;
-use model::Kind;
+use model::Found;
 use text::Written;
 ghost use mathlib.Core.Path.{_≡_};
 ghost use Rattle.inner.specs.Positions.{treeAt};
@@ -13,20 +13,18 @@ pub fn name_at(text: &[u8], at: usize) -> Atom
     ensures { λ r. ⌜ r ≡ nameCell (treeAt (now (text .entry)) at) ⌝ }
 {
     let mut cell = [0u8; ATOM];
-    let k = nav::kind_at(text, at);
-    let t = leaf::is_kind(k, Kind::Text);
-    if t {
-        let i = scan::spaces(text, at);
-        let w = text::decode(text, i + 1, &mut cell[1..]);
-        match w {
-            Written::To(n) => {
-                cell[0] = n as u8;
-                return cell;
-            }
-            Written::Full => return [0u8; ATOM],
+    let f = text::body_at(text, at);
+    let Found::At(i) = f else {
+        return cell;
+    };
+    let w = text::decode(text, i, &mut cell[1..]);
+    match w {
+        Written::To(n) => {
+            cell[0] = n as u8;
+            cell
         }
+        Written::Full => [0u8; ATOM],
     }
-    cell
 }
 
 // Whether a text is a version: digits, dot, digits, dot, digits.

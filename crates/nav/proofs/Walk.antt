@@ -122,6 +122,10 @@ module _ (s : List ℕ) where
         pub pass-fine : membersFine s (nextMember s p) ≡ true
         pass-fine = here .1
 
+        -- the key ends
+        pub pass-key : keyAt s p .read ≡ End (endOr p (keyAt s p .read))
+        pass-key = let m = member-well s p (here .0) in rw (m .1)
+
         pub pass-name : treeAt s p ≡ str (memberAt (valueAt 12 s) s p .tree .name)
         pass-name = name-at p (here .0)
 

@@ -16,6 +16,7 @@ use scan::QUOTE;
 ghost use mathlib.Core.Path.{_≡_};
 ghost use Prim.Native.Nat.{_≤_, _-_};
 ghost use lib.ListN.{length, getD};
+ghost use Rattle.model.specs.declared.Read.the-variants.{End};
 ghost use Rattle.model.specs.Scan.{between, endOr};
 ghost use Rattle.model.specs.Json.{keyAt, valueAt, memberAt};
 ghost use Rattle.inner.specs.Positions.{Says, foundOf, firstOf, nextItem, nextMember, treeAt, kindBy, isTrue};
@@ -145,6 +146,19 @@ pub fn next_member(text: &[u8], ends: &[u16], at: usize) -> Found
     if (v == 0) | (e == 0) {
         let r = member_end(text, ends, at);
         return found(scan::after(text, r, b'}'));
+    }
+    next_after(text, e)
+}
+
+// The same of a member whose value begins at v.
+pub fn next_past(text: &[u8], ends: &[u16], at: usize, v: usize) -> Found
+    requires { ⌜ Says (now text) (now ends) ⌝ }
+    requires { ⌜ keyAt (now text) at .read ≡ End v ⌝ }
+    ensures { λ r. ⌜ r ≡ nextMember (now (text .entry)) at ⌝ }
+{
+    let e = entry(ends, v);
+    if e == 0 {
+        return next_member(text, ends, at);
     }
     next_after(text, e)
 }

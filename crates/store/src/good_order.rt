@@ -32,8 +32,7 @@ pub fn opened(area: &[u8], schema: &mut Catalog, rows: &mut [Row]) -> bool
     if area.len() != STORE_BYTES {
         return false;
     }
-    let entries = area::catalog_of(area);
-    *schema = entries;
+    area::read_catalog(area, &mut schema[..]);
     if !catalog::rules::is_accepted(schema) {
         return false;
     }

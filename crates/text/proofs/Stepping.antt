@@ -15,9 +15,8 @@ use Rattle.model.specs.declared.Found.the-variants.{At, Nothing}
 use Rattle.model.specs.Octets.{eqBytes}
 use Rattle.model.specs.Scan.{byte, between, run, spacesAt}
 use Rattle.model.specs.Strings.{utf8, escapedAt, charBy, charBytes, charAdds, charTurn}
-use Rattle.model.specs.Json.{Json, str}
+use Rattle.model.specs.Json.{str}
 use Rattle.model.specs.Text.{isWord, begins, chars}
-use Rattle.model.specs.Nav.{kindOf, isText}
 use Rattle.inner.specs.Positions.{treeAt, wordIn}
 use Rattle.scan.proofs.Past.{by-test, PastNext, char-past}
 use Rattle.scan.proofs.Enough.{enough, run-on, body-enough}
@@ -25,8 +24,8 @@ use Rattle.nav.proofs.FirstByte.{split}
 use Rattle.text.specs.declared.Step.{Step}
 use Rattle.text.specs.declared.Step.the-variants.{Byte, End}
 use Rattle.text.proofs.Sizes.{string-size}
-use Rattle.text.proofs.Words.{text-tree, word-not, word-text, no-string}
-use Rattle.text.specs.Steps.{bodyFrom, Inside, picked, bytesOf, Going, Steps, Begins}
+use Rattle.text.proofs.Words.{text-tree, word-not, word-text, no-string, place-text, place-none}
+use Rattle.text.specs.Steps.{bodyPlace, bodyFrom, Inside, picked, bytesOf, Going, Steps}
 
 -- ── bytes of a character ──
 module _ (bytes : List ℕ) (from to : ℕ) where
@@ -171,27 +170,24 @@ module _ (s : List ℕ) where
   unfolding bodyFrom
   body-size at = omega (arith, string-size s (suc (length s)) at)
 
-  -- where a string begins
-  pub begins-body : (at i : ℕ) → isText (kindOf (treeAt s at)) ≡ true → i ≡ spacesAt s at → (i < length s) × Begins s (treeAt s at) (At (i + 1))
-  unfolding Begins bodyFrom
-  begins-body at i t e =
-      let q = text-tree s at t in
-      let l : i < length s = rw e (q .0) in
-      (l, rw e (q .1 ∙ ap (λ p. str (p .tree)) (body-enough s (suc (length s)) (spacesAt s at + 1) (omega arith) (omega (arith, q .0)) (omega arith))))
+  -- where a string begins: a value that is one, and one that is none
+  module _ (at : ℕ) where
+    body-tree : {i : ℕ} → bodyPlace s at ≡ At i → treeAt s at ≡ str (bodyFrom s i)
+    unfolding bodyFrom
+    body-tree h =
+        let t = place-text s at h in
+        let q = text-tree s at (t .0) in
+        rw (t .1) (q .1 ∙ ap (λ p. str (p .tree)) (body-enough s (suc (length s)) (spacesAt s at + 1) (omega arith) (omega (arith, q .0)) (omega arith)))
 
-  -- a value that is a string, and one that is none
-  pub word-begins : (j : Json) (i : ℕ) → Begins s j (At i) → wordIn j ≡ bodyFrom s i
-  unfolding Begins wordIn
-  word-begins j i e = rw e
+    pub word-begins : {i : ℕ} → bodyPlace s at ≡ At i → wordIn (treeAt s at) ≡ bodyFrom s i
+    unfolding wordIn
+    word-begins h = rw (body-tree h)
 
-  pub word-none : (j : Json) → Begins s j Nothing → wordIn j ≡ []
-  unfolding Begins
-  word-none j e = no-string j e
+    pub word-none : bodyPlace s at ≡ Nothing → wordIn (treeAt s at) ≡ []
+    word-none h = no-string (treeAt s at) (place-none s at h)
 
-  pub same-begins : (w : List ℕ) (j : Json) (i : ℕ) → Begins s j (At i) → isWord w j ≡ eqBytes (bodyFrom s i) w
-  unfolding Begins
-  same-begins w j i e = sym (word-text w (bodyFrom s i) e)
+    pub same-begins : (w : List ℕ) {i : ℕ} → bodyPlace s at ≡ At i → isWord w (treeAt s at) ≡ eqBytes (bodyFrom s i) w
+    same-begins w {i} h = sym (word-text w (bodyFrom s i) (body-tree h))
 
-  pub same-none : (w : List ℕ) (j : Json) → Begins s j Nothing → isWord w j ≡ false
-  unfolding Begins
-  same-none w j e = sym (word-not w j e)
+    pub same-none : (w : List ℕ) → bodyPlace s at ≡ Nothing → isWord w (treeAt s at) ≡ false
+    same-none w h = sym (word-not w (treeAt s at) (place-none s at h))

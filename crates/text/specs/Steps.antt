@@ -7,12 +7,16 @@ use lib.Dec.{ltb}
 use lib.ListN.{length, getD, drop}
 use Rattle.model.specs.declared.Found.{Found}
 use Rattle.model.specs.declared.Found.the-variants.{At, Nothing}
-use Rattle.model.specs.Scan.{byte, run}
+use Rattle.model.specs.Scan.{byte, spacesAt, run}
 use Rattle.model.specs.Strings.{charBy, charAdds, charTurn}
-use Rattle.model.specs.Json.{Json, str}
 use Rattle.model.specs.Nav.{kindOf, isText}
+use Rattle.inner.specs.Positions.{treeAt}
 use Rattle.text.specs.declared.Step.{Step}
 use Rattle.text.specs.declared.Step.the-variants.{Byte, End}
+
+-- where the characters of the string at a position begin, if there is one: past its first quote
+unfoldable pub bodyPlace : List ℕ → ℕ → Found
+bodyPlace s at = elim (isText (kindOf (treeAt s at))) [ true ↦ At (spacesAt s at + 1) | false ↦ Nothing ]
 
 -- the bytes of a string from the character at `at` on
 unfoldable pub bodyFrom : List ℕ → ℕ → List ℕ
@@ -40,8 +44,3 @@ Going s End = Unit
 pub record Steps (s bs : List ℕ) (r : Step) : Type 0 where
   pub bytes : bytesOf s r ≡ bs
   pub going : Going s r
-
--- where a string's characters begin, if a value is one
-unfoldable pub Begins : List ℕ → Json → Found → Type 0
-Begins s j (At i) = j ≡ str (bodyFrom s i)
-Begins s j Nothing = isText (kindOf j) ≡ false

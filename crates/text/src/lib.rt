@@ -1,6 +1,5 @@
 // Strings of a text: decoded, looked up, compared, counted.
 use model::Found;
-use model::Kind;
 use model::Next;
 use model::Read;
 use scan::BACKSLASH;
@@ -24,7 +23,7 @@ ghost use Rattle.inner.specs.Positions.{Means};
 ghost use Rattle.text.specs.Push.{Pushed, countOf};
 ghost use Rattle.text.specs.Units.{unitOr, unitEnd, characterOf, escapeBytes};
 ghost use Rattle.text.specs.Match.{matched, Held};
-ghost use Rattle.text.specs.Steps.{bodyFrom, Inside, picked, Steps, Begins};
+ghost use Rattle.text.specs.Steps.{bodyPlace, bodyFrom, Inside, picked, Steps};
 ghost use Rattle.text.specs.declared.Written.the-variants.{To};
 
 // Where the next byte goes, or that there is no room.
@@ -206,6 +205,18 @@ fn emit(text: &[u8], at: usize, e: usize, out: &mut [u8], w: Written) -> Written
     copy(text, at, e, out, w)
 }
 
+// Where the characters of the string at `at` begin, if it is one.
+pub fn body_at(text: &[u8], at: usize) -> Found
+    ensures { λ r. ⌜ r ≡ bodyPlace (now (text .entry)) at ⌝ }
+{
+    let i = scan::spaces(text, at);
+    let b = scan::peek(text, i);
+    if b == QUOTE {
+        return Found::At(i + 1);
+    }
+    Found::Nothing
+}
+
 // The characters of the string whose first quote stands before `at`, decoded into `out`.
 pub fn decode(text: &[u8], at: usize, out: &mut [u8]) -> Written
     ensures { λ r. ⌜ Pushed (now (out .entry)) (To 0) (bodyAt (now (text .entry)) at .tree) r (now (out .exit)) ⌝ }
@@ -295,36 +306,29 @@ pub fn string_at(text: &[u8], at: usize, scratch: &mut [u8]) -> Part
     requires { ⌜ length (now text) ≤ length (now scratch) ⌝ }
     ensures { λ r. ⌜ Held (now (text .entry)) (now (scratch .entry)) (now (scratch .exit)) (r .«in_scratch») (r .start) (r .len) (escaped (now (text .entry)) at) (wordIn (treeAt (now (text .entry)) at)) ⌝ }
 {
-    let k = nav::kind_at(text, at);
-    let t = leaf::is_kind(k, Kind::Text);
-    if t {
-        let i = scan::spaces(text, at);
-        let j = i + 1;
-        let q = quote(text, j);
-        match q {
-            Found::At(e) => {
-                let n = e - j;
-                return Part {
-                    in_scratch: false,
-                    start: j,
-                    len: n,
-                };
-            }
-            Found::Nothing => {
-                let w = decode(text, j, scratch);
-                let n = count(w);
-                return Part {
-                    in_scratch: true,
-                    start: 0,
-                    len: n,
-                };
+    let f = body_at(text, at);
+    let Found::At(j) = f else {
+        return Part {
+            in_scratch: false,
+            start: 0,
+            len: 0,
+        };
+    };
+    let q = quote(text, j);
+    match q {
+        Found::At(e) => Part {
+            in_scratch: false,
+            start: j,
+            len: e - j,
+        },
+        Found::Nothing => {
+            let w = decode(text, j, scratch);
+            Part {
+                in_scratch: true,
+                start: 0,
+                len: count(w),
             }
         }
-    }
-    Part {
-        in_scratch: false,
-        start: 0,
-        len: 0,
     }
 }
 
@@ -411,19 +415,6 @@ fn next_byte(text: &[u8], at: usize, off: usize) -> Step
         Next::More(e) => char_step(text, at, e, off),
         Next::Done(_) => Step::End,
     }
-}
-
-// Where the characters of the string at `at` begin, if it is one.
-fn body_at(text: &[u8], at: usize) -> Found
-    ensures { λ r. ⌜ Begins (now (text .entry)) (treeAt (now (text .entry)) at) r ⌝ }
-{
-    let k = nav::kind_at(text, at);
-    let t = leaf::is_kind(k, Kind::Text);
-    if t {
-        let i = scan::spaces(text, at);
-        return Found::At(i + 1);
-    }
-    Found::Nothing
 }
 
 // How many characters those of a string from `at` on are.
@@ -571,13 +562,11 @@ fn body_is(text: &[u8], at: usize, word: &[u8]) -> bool
 pub fn is_word(text: &[u8], at: usize, word: &[u8]) -> bool
     ensures { λ r. ⌜ r ≡ isWord (now (word .entry)) (treeAt (now (text .entry)) at) ⌝ }
 {
-    let k = nav::kind_at(text, at);
-    let t = leaf::is_kind(k, Kind::Text);
-    if t {
-        let i = scan::spaces(text, at);
-        return body_is(text, i + 1, word);
-    }
-    false
+    let f = body_at(text, at);
+    let Found::At(i) = f else {
+        return false;
+    };
+    body_is(text, i, word)
 }
 
 // Where the value of the last member of that name begins, in the object at `at`.

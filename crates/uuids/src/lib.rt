@@ -94,18 +94,16 @@ pub fn id_of(t: &[u8]) -> Id
 pub fn id_at(text: &[u8], at: usize) -> Id
     ensures { λ r. ⌜ Spells r (idIn (treeAt (now (text .entry)) at)) ⌝ }
 {
-    let k = nav::kind_at(text, at);
-    let t = leaf::is_kind(k, Kind::Text);
-    if t {
-        let i = scan::spaces(text, at);
-        let mut buf = [0u8; CHARACTERS];
-        let w = text::decode(text, i + 1, &mut buf);
-        match w {
-            Written::To(n) => return id_of(&buf[..n]),
-            Written::Full => return Id::Bad,
-        }
+    let f = text::body_at(text, at);
+    let Found::At(i) = f else {
+        return Id::Bad;
+    };
+    let mut buf = [0u8; CHARACTERS];
+    let w = text::decode(text, i, &mut buf);
+    match w {
+        Written::To(n) => id_of(&buf[..n]),
+        Written::Full => Id::Bad,
     }
-    Id::Bad
 }
 
 // The entry of the operation at `at`: one more than the place of its uuid-name, 0 where it is no insert that has one.

@@ -10,7 +10,7 @@ use lib.ListN.{set, replicate}
 use lib.Seq.{set-out}
 use Rattle.inner.specs.Positions.{treeAt, membersFrom, membersFine, left}
 use Rattle.model.specs.Members.{membersIn}
-use Rattle.nav.proofs.Walk.{members-in, pass-end, pass-less, pass-fine}
+use Rattle.nav.proofs.Walk.{members-in, pass-end, pass-less, pass-fine, pass-key}
 use Rattle.members.specs.Fields.{wordsOf}
 use Rattle.members.proofs.Kept.{Kept, kept-start, kept-end}
 use Rattle.members.proofs.fields.Statement.{statement}
@@ -47,14 +47,17 @@ mul-slots c = search needs
 array-write-slots : tie.Need-array-write-slots Inv-loop μ-loop
 array-write-slots c = search needs
 
-next-member-requires : tie.Need-next-member-requires Inv-loop μ-loop
-next-member-requires c κs = c .before .before .before .before .before .before .before .before .before .before .before .pre .0
+next-past-requires : tie.Need-next-past-requires Inv-loop μ-loop
+next-past-requires c κs =
+    let l = c .before .before .before .before .before .before in
+    let st = l .before .before .before .before .before in
+    (st .pre .0, rw (c .before .member-value .ensures) (pass-key (st .args .text .now) (c .before .before .before .before .g .given .1) (l .loop .inv .1)))
 
 loop-less : tie.Need-loop-less Inv-loop μ-loop
 loop-less c =
     let l = c .before .before .before .before .before .before .before in
     let s = l .before .before .before .before .before .args .text .now in
-    rw (c .next-member .ensures) (pass-less s (c .before .before .before .before .before .g .given .1))
+    rw (c .next-past .ensures) (pass-less s (c .before .before .before .before .before .g .given .1))
 
 loop-again : tie.Need-loop-again Inv-loop μ-loop
 loop-again c =
@@ -68,7 +71,7 @@ loop-again c =
     let me = c .before .before .member-value .ensures in
     let e : c .before .if1 .slots ≡ set (l .loop .slots) (c .before .before .before .choose .result) (c .before .before .member-value .result) =
     ⊎-elim (λ w. w .1) (λ w. w .1 ∙ sym (set-out (l .loop .slots) _ _ (let z = w .0 .left in let y = l .loop .inv .0 .size in omega arith))) (c .before .if1 .came) in
-    rw (c .next-member .ensures) (rw (e, ce, me) k, pass-fine s (g .1) (l .loop .inv .1))
+    rw (c .next-past .ensures) (rw (e, ce, me) k, pass-fine s (g .1) (l .loop .inv .1))
 
 enum-told : tie.Need-enum-told Inv-loop μ-loop
 enum-told c = search needs
@@ -93,7 +96,7 @@ fields-spec =
     member-value-requires
     mul-slots
     array-write-slots
-    next-member-requires
+    next-past-requires
     loop-less
     loop-again
     enum-told

@@ -1,60 +1,60 @@
 -- `names::name_at` meets its contract. Assumes nothing.
-use Rattle.model.specs.Nav.{isText}
-use Rattle.names.proofs.Cells.{name-none, name-long, name-short, spaces-fit}
+use mathlib.Core.Path.{_≡_, sym, _∙_}
+use mathlib.Core.Bool.{true}
+use Prim.Native.Nat.{_+_}
 use native.Mathlib.Omega.{arith}
-use mathlib.Core.Path.{sym, ap, _∙_}
+use Rattle.model.specs.Scan.{spacesAt}
+use Rattle.model.specs.Nav.{kindOf, isText}
+use Rattle.inner.specs.Positions.{treeAt}
+use Rattle.text.proofs.Words.{place-text, place-none}
+use Rattle.names.proofs.Cells.{name-none, name-long, name-short}
 use borrow.Author.Needs.{needs}
 use Rattle.names.proofs.name_at.Statement.{statement}
 use Rattle.names.proofs.name_at.Tie as tie
 
-add-decode : tie.Need-add-decode
-add-decode c =
-    let k = c .before .before .before in
-    let st = k .before .before in
-    let t = ap isText (sym (k .kind-at .ensures)) ∙ sym (c .before .before .is-kind .ensures) ∙ c .before .if1 .taken in
-    omega (arith, spaces-fit (st .args .text .now) (st .args .at) t (c .spaces .ensures))
+abbrev start : tie.After-body-at → tie.Start
+start c = c .before .before
+
+returns : tie.Need-returns
+returns c =
+    let b = c .before .before in
+    name-none _ (place-none (start b .args .text .now) (start b .args .at) (sym (b .body-at .ensures) ∙ c .enum-told .given .1))
+
+-- a string: what its place tells
+abbrev told : (c : tie.After-known-told) → (isText (kindOf (treeAt (start (c .before .before .before) .args .text .now) (start (c .before .before .before) .args .at))) ≡ true) × (c .before .f .given .0 .0 ≡ spacesAt (start (c .before .before .before) .args .text .now) (start (c .before .before .before) .args .at) + 1)
+told c =
+    let b = c .before .before .before in
+    place-text (start b .args .text .now) (start b .args .at) (sym (b .body-at .ensures) ∙ c .before .f .given .1)
 
 cast-cell : tie.Need-cast-cell
 cast-cell c =
     let d = c .before .before .before .before in
-    let sp = d .before .before in
-    let k = sp .before .before .before in
-    let st = k .before .before in
-    let t = ap isText (sym (k .kind-at .ensures)) ∙ sym (sp .before .before .is-kind .ensures) ∙ sp .before .if1 .taken in
-    omega (arith, name-short (st .args .text .now) (st .args .at) t (sp .spaces .ensures) (d .decode .ensures) (c .before .w .given .1) .0)
-
-returns : tie.Need-returns
-returns c =
-    let d = c .before .before .before .before in
-    let sp = d .before .before in
-    let k = sp .before .before .before in
-    let st = k .before .before in
-    let t = ap isText (sym (k .kind-at .ensures)) ∙ sym (sp .before .before .is-kind .ensures) ∙ sp .before .if1 .taken in
-    name-short (st .args .text .now) (st .args .at) t (sp .spaces .ensures) (d .decode .ensures) (c .before .w .given .1) .1
+    let k = d .before .before in
+    let a = start (k .before .before .before) .args in
+    omega (arith, name-short (a .text .now) (a .at) (told k .0) (told k .1) (d .decode .ensures) (c .before .w .given .1) .0)
 
 returns-2 : tie.Need-returns-2
 returns-2 c =
-    let d = c .before .before .before in
-    let sp = d .before .before in
-    let k = sp .before .before .before in
-    let st = k .before .before in
-    let t = ap isText (sym (k .kind-at .ensures)) ∙ sym (sp .before .before .is-kind .ensures) ∙ sp .before .if1 .taken in
-    name-long (st .args .text .now) (st .args .at) t (sp .spaces .ensures) (d .decode .ensures) (c .enum-told .given .1)
+    let d = c .before .before .before .before in
+    let k = d .before .before in
+    let a = start (k .before .before .before) .args in
+    name-short (a .text .now) (a .at) (told k .0) (told k .1) (d .decode .ensures) (c .before .w .given .1) .1
 
 returns-3 : tie.Need-returns-3
 returns-3 c =
-    let k = c .before .before in
-    let st = k .before .before in
-    name-none _ (ap isText (sym (k .kind-at .ensures)) ∙ sym (c .before .is-kind .ensures) ∙ c .if1 .left)
+    let d = c .before .before .before in
+    let k = d .before .before in
+    let a = start (k .before .before .before) .args in
+    name-long (a .text .now) (a .at) (told k .0) (told k .1) (d .decode .ensures) (c .enum-told2 .given .1)
 
 pub name-at-spec : {M : Type 1} → statement M
 name-at-spec =
     tie.close
     (tie.spec
     (λ c κs. search needs)
-    (λ c κs. search needs)
-    (λ c κs. search needs)
-    add-decode
+    (λ c. search needs)
+    (λ c. search needs)
+    returns
     (λ c. search needs)
     (λ c. search needs)
     (λ c. search needs)
@@ -62,7 +62,6 @@ name-at-spec =
     (λ c. search needs)
     cast-cell
     (λ c. search needs)
-    returns
     (λ c. search needs)
     returns-2
     returns-3)

@@ -1,31 +1,34 @@
 -- `text::body_at` meets its contract. Assumes nothing.
-use mathlib.Core.Path.{sym, ap, _∙_}
+use mathlib.Core.Path.{_≡_, sym, ap, _∙_}
 use native.Mathlib.Omega.{arith}
-use Rattle.model.specs.Nav.{isText}
-use Rattle.text.specs.Steps.{Begins}
-use Rattle.text.proofs.Stepping.{begins-body}
+use lib.Dec.{lit<}
+use Rattle.model.specs.Scan.{byte, spacesAt}
+use Rattle.scan.proofs.Bytes.{inside-byte}
+use Rattle.text.proofs.Words.{quote-place, other-place}
 use borrow.Author.Needs.{needs}
 use Rattle.text.proofs.body_at.Statement.{statement}
 use Rattle.text.proofs.body_at.Tie as tie
 
-add-t8 : tie.Need-add-t8
-add-t8 c =
-    let k = c .before .before .before in
-    let a = k .before .before .args in
-    let t = ap isText (sym (k .kind-at .ensures)) ∙ sym (c .before .before .is-kind .ensures) ∙ c .before .if1 .taken in
-    omega (arith, begins-body (a .text .now) (a .at) (c .spaces .result) t (c .spaces .ensures) .0)
+-- the byte that was looked at is the value's first
+first-byte : (c : tie.After-peek) → c .peek .result ≡ byte (c .before .before .before .args .text .now) (spacesAt (c .before .before .before .args .text .now) (c .before .before .before .args .at))
+first-byte c = c .peek .ensures ∙ ap (byte (c .before .before .before .args .text .now)) (c .before .spaces .ensures)
+
+add-t6 : tie.Need-add-t6
+add-t6 c =
+    let p = c .before in
+    omega (arith, inside-byte (p .before .before .before .args .text .now) (p .before .spaces .result) 34 (sym (p .peek .ensures) ∙ c .if1 .taken) (lit< tt))
 
 returns : tie.Need-returns
 returns c =
-    let k = c .before .before .before in
-    let a = k .before .before .args in
-    let t = ap isText (sym (k .kind-at .ensures)) ∙ sym (c .before .before .is-kind .ensures) ∙ c .before .if1 .taken in
-    begins-body (a .text .now) (a .at) (c .spaces .result) t (c .spaces .ensures) .1
+    let p = c .before in
+    let a = p .before .before .before .args in
+    rw (p .before .spaces .ensures) (quote-place (a .text .now) (a .at) (sym (first-byte p) ∙ c .if1 .taken))
 
 returns-2 : tie.Need-returns-2
-unfolding Begins
-returns-2 c = ap isText (sym (c .before .before .kind-at .ensures)) ∙ sym (c .before .is-kind .ensures) ∙ c .if1 .left
+returns-2 c =
+    let p = c .before in
+    let a = p .before .before .before .args in
+    other-place (a .text .now) (a .at) (λ h. c .if1 .left (first-byte p ∙ h))
 
 pub body-at-spec : {M : Type 1} → statement M
-body-at-spec =
-    tie.close (tie.spec (λ c κs. search needs) (λ c κs. search needs) (λ c κs. search needs) add-t8 returns returns-2)
+body-at-spec = tie.close (tie.spec (λ c κs. search needs) (λ c κs. search needs) add-t6 returns returns-2)

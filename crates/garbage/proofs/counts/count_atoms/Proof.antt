@@ -17,10 +17,10 @@ abbrev keysFrom : ℕ → ℕ → List (List ℕ) → ℕ → List ℕ
 keysFrom table count atoms k = keysOf (some table) (drop k (take count atoms))
 
 abbrev Inv-loop : tie.InvT-loop
-Inv-loop atoms count table rows n own up counts₀ k₀ counts k = (k ≤ count) × (length counts ≡ length counts₀) × Left up n rows own (keysOf (some table) (take count atoms)) counts₀ (keysFrom table count atoms k) counts
+Inv-loop atoms count table rows n own up counts₀ zeros₀ k₀ counts zeros k = (k ≤ count) × (length counts ≡ length counts₀) × Left up n rows own (keysOf (some table) (take count atoms)) counts₀ (keysFrom table count atoms k) counts
 
 abbrev μ-loop : tie.MeasureT-loop
-μ-loop atoms count table rows n own up counts₀ k₀ counts k = count - k
+μ-loop atoms count table rows n own up counts₀ zeros₀ k₀ counts zeros k = count - k
 
 loop-holds : tie.Need-loop-holds Inv-loop μ-loop
 loop-holds c =

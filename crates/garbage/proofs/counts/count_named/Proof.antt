@@ -1,13 +1,15 @@
 -- `garbage::counts::count_named` meets its contract. Assumes nothing.
 use mathlib.Core.Path.{_≡_, sym, _∙_}
-use mathlib.Core.List.{[]}
+use mathlib.Core.List.{[], _∷_}
 use Prim.Native.Nat.{ℕ, _<_}
 use native.Mathlib.Omega.{arith}
 use borrow.Author.Needs.{needs}
+use lib.ListN.{set}
 use Rattle.model.specs.Value.{uuidOf}
 use Rattle.model.specs.Rows.{keyOf}
 use Rattle.inner.specs.Working.{working, place}
 use Rattle.model.specs.declared.Found.the-variants.{At}
+use Rattle.garbage.specs.Counts.{Counted}
 use Rattle.garbage.proofs.Counting.{counted-none, counted-own, counted-one, place-within, one-room}
 use Rattle.garbage.proofs.counts.count_named.Statement.{statement}
 use Rattle.garbage.proofs.counts.count_named.Tie as tie
@@ -62,11 +64,19 @@ mul-counts c = omega (arith, within (c .before .before), start (c .before .befor
 slice-write-counts : tie.Need-slice-write-counts
 slice-write-counts c = omega (arith, within (c .before .before), start (c .before .before .before) .pre .0 .1)
 
+-- its count, moved
+module _ (c : tie.After-moved) where
+  counted : let a = start (c .before .before .before) .args in Counted (a .up) (a .n) (a .rows .now) (a .own) (key (c .before .before .before) ∷ []) (a .counts .now) (set (a .counts .now) (spot (c .before .before .before)) (c .moved .result))
+  counted =
+      let k = c .before .before .before in
+      let a = start k .args in
+      counted-one (a .n) (a .rows .now) (start k .pre .0 .0) (key k) (a .up) (a .own) (a .counts .now) (spot k) (found-at k) (c .before .before .if1 .left) (start k .pre .0 .1) (c .moved .result) (c .moved .ensures)
+
 returns-3 : tie.Need-returns-3
-returns-3 c =
-    let k = c .before .before .before in
-    let a = start k .args in
-    counted-one (a .n) (a .rows .now) (start k .pre .0 .0) (key k) (a .up) (a .own) (a .counts .now) (spot k) (found-at k) (c .before .before .if1 .left) (start k .pre .0 .1) (c .moved .result) (c .moved .ensures)
+returns-3 c = counted (c .before)
+
+returns-4 : tie.Need-returns-4
+returns-4 c = counted (c .before)
 
 pub count-named-spec : {M : Type 1} → statement M
 count-named-spec =
@@ -86,4 +96,7 @@ count-named-spec =
     mul-counts
     slice-write-counts
     (λ c. search needs)
-    returns-3)
+    (λ c. search needs)
+    returns-3
+    (λ c. search needs)
+    returns-4)

@@ -23,10 +23,10 @@ abbrev strongIn : List (List ℕ) → List (List ℕ) → List ℕ
 strongIn schema row = strongOf (packedTables schema) (rowFrom (packedTables schema) row)
 
 abbrev Inv-loop : tie.InvT-loop
-Inv-loop schema row rows n own up counts₀ table w c₀ counts c = (c ≤ w) × (length counts ≡ length counts₀) × Left up n rows own (strongIn schema row) counts₀ (restOf (pick 1) schema row c) counts
+Inv-loop schema row rows n own up counts₀ table w zeros₀ c₀ counts zeros c = (c ≤ w) × (length counts ≡ length counts₀) × Left up n rows own (strongIn schema row) counts₀ (restOf (pick 1) schema row c) counts
 
 abbrev μ-loop : tie.MeasureT-loop
-μ-loop schema row rows n own up counts₀ table w c₀ counts c = w - c
+μ-loop schema row rows n own up counts₀ table w zeros₀ c₀ counts zeros c = w - c
 
 table-of-requires : tie.Need-table-of-requires Inv-loop μ-loop
 table-of-requires c κs = tt

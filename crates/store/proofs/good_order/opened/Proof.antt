@@ -15,18 +15,18 @@ returns c =
 
 returns-2 : tie.Need-returns-2
 returns-2 c =
-    let a = c .before .before .before .before .before .before .args in
-    opened-refused (a .area .now) (a .schema .now) (a .rows .now) (a .rows .now) (c .before .before .before .before .if1 .left) _ (c .before .before .before .catalog-of .ensures) (store-refused (a .area .now) (ap isAccepted (sym (c .before .before .before .catalog-of .ensures)) ∙ sym (c .before .is-accepted .ensures) ∙ not-true _ (c .if2 .taken)))
+    let a = c .before .before .before .before .before .before .before .args in
+    opened-refused (a .area .now) (a .schema .now) (a .rows .now) (a .rows .now) (c .before .before .before .before .before .if1 .left) _ (c .before .before .before .read-catalog .ensures) (store-refused (a .area .now) (ap isAccepted (sym (c .before .before .before .read-catalog .ensures)) ∙ sym (c .before .is-accepted .ensures) ∙ not-true _ (c .if2 .taken)))
 
 rows-opened-requires : tie.Need-rows-opened-requires
 rows-opened-requires c κs =
-    let s = c .before .before .before .before .before .before .before .before in
-    ((c .before .before .before .before .before .before .if1 .left, s .pre), record { there = c .before .before .before .before .before .catalog-of .ensures; accepted = sym (c .before .before .before .is-accepted .ensures) ∙ not-false _ (c .before .before .if2 .left) })
+    let s = c .before .before .before .before .before .before .before .before .before in
+    ((c .before .before .before .before .before .before .before .if1 .left, s .pre), record { there = c .before .before .before .before .before .read-catalog .ensures; accepted = sym (c .before .before .before .is-accepted .ensures) ∙ not-false _ (c .before .before .if2 .left) })
 
 returns-3 : tie.Need-returns-3
 returns-3 c =
-    let a = c .before .before .before .before .before .before .before .before .before .before .args in
-    opened-rows (a .area .now) (a .schema .now) (a .rows .now) _ (c .before .before .before .before .before .before .before .before .if1 .left) _ (c .before .before .before .before .before .before .before .catalog-of .ensures) (c .before .rows-opened .ensures)
+    let a = c .before .before .before .before .before .before .before .before .before .before .before .args in
+    opened-rows (a .area .now) (a .schema .now) (a .rows .now) _ (c .before .before .before .before .before .before .before .before .before .if1 .left) _ (c .before .before .before .before .before .before .before .read-catalog .ensures) (c .before .rows-opened .ensures)
 
 pub opened-spec : {M : Type 1} → statement M
 opened-spec =
