@@ -2,10 +2,11 @@
  *
  *     bench LIBRARY PLAIN [REPEATS | check]
  *
- * On stores of 2, 8 and 31 rows in four tables (indexes, strong and weak references, maxRows; an insert that makes a row be collected needs the 32nd): 1,000
- * requests of which 640 change rows, marks between them, then their records at a mirror, some repeated, some late, and questions to it. Once with zeros in the
- * output buffers before each call, once with rubbish. REPEATS (5) times; a time is the middle of the repeats' medians, a ratio LIBRARY's to PLAIN's. `check` only compares.
- * After the first repeat, not timed: requests, areas and records with a byte changed, so that neither library may save itself a test.
+ * On stores of 1, 8, 31 and 32 rows in four tables (indexes, strong and weak references, maxRows): 1,000 requests of which 640 change rows, marks between them, then
+ * their records at a mirror, some repeated, some late, and questions to it. An insert that makes a row be collected needs a free row: on 32 rows a delete and insert
+ * stands for it. On 32 rows in two chains of strong references: a commit after which no row, one chain or both go, ids ascending, descending and to and fro along a chain.
+ * Once with zeros in the output buffers before each call, once with rubbish. REPEATS (5) times; a time is the middle of the repeats' medians, a ratio LIBRARY's to PLAIN's.
+ * `check` only compares. After the first repeat, not timed: requests, areas and records with a byte changed, so that neither library may save itself a test.
  * A call passes where both left the same bytes; it fails where they did not, and where it did not do what its kind says. */
 #include <dlfcn.h>
 #include <signal.h>
@@ -18,25 +19,25 @@
 #include <time.h>
 #include "maqdufesh.h"
 
-enum { ANSWER = 16384, REQUESTS = 1000, STARTS = 300, SPOILS = 1000, SIZES = 3, FILLS = 2, MOST_REPEATS = 99, MOST_CALLS = 20000, LOG_BYTES = 1 << 22, LOG_ENTRIES = 20000 };
-enum { ROWS_AT = 1400, MOST_TOLD = 20 };
+enum { ANSWER = 16384, REQUESTS = 1000, STARTS = 300, SPOILS = 1000, SIZES = 4, FILLS = 2, MOST_REPEATS = 99, MOST_CALLS = 20000, LOG_BYTES = 1 << 22, LOG_ENTRIES = 20000 };
+enum { ROWS_AT = 1400, MOST_ROWS = 32, MOST_TOLD = 20, CHAIN = 15, CHAIN_CALLS = 100 };
 
 /* What is told of: sums first, then kinds of calls. A mean is that of the kinds' medians by their shares, which is steadier than a median over
  * kinds of different lengths. Calls that only make a state are SETUP. */
 enum line {
-    ALL, COMMITS, ALL_MEAN, COMMITS_MEAN, UPDATE, MUTATE, REPLACE, COLLECT, FOUR, BY_NAME, WHOLE, FAILING, NONE, MARK, ARRIVALS, APPLIED, REPEATED, BEHIND, HEARD, PROGRESS, HAS_ROW,
+    ALL, COMMITS, ALL_MEAN, COMMITS_MEAN, UPDATE, MUTATE, REPLACE, COLLECT, FOUR, BY_NAME, NO_ROW, WHOLE, FAILING, NONE, CHAINS_STAY, CHAIN_GOES, CHAINS_GO, MARK, ARRIVALS, APPLIED, REPEATED, BEHIND, HEARD, PROGRESS, HAS_ROW,
     COLUMN, STORE_START, MIRROR_START, SETUP, SPOILED, LINES
 };
 static const char *const names[LINES] = {
     "all transacts", "commits that change rows", "all transacts, mean of kinds", "commits, mean of kinds", "update by name", "mutate", "delete and insert", "insert and collect", "four operations", "select by name",
-    "select of a table", "failing", "no operation", "mark", "all arrivals", "arrival, applied", "arrival, repeated", "arrival, before its turn", "arrival, a mark",
+    "select of no row", "select of a table", "failing", "no operation", "two chains, no row goes", "two chains, 15 rows go", "two chains, 30 rows go", "mark", "all arrivals", "arrival, applied", "arrival, repeated", "arrival, before its turn", "arrival, a mark",
     "progress", "has row", "column", "start of a store", "start of a mirror", "setting up", "a byte changed"};
 
 /* How many of 100 requests are of each kind from UPDATE to NONE. */
-static const int shares[] = {24, 14, 10, 8, 8, 12, 10, 10, 4};
+static const int shares[] = {24, 14, 10, 8, 8, 8, 4, 10, 10, 4};
 
-/* Rows of each table, by size. A tank has a probe, strongly; alarms weakly. */
-static const struct { int tanks, alarms, shifts, all; } sizes[SIZES] = {{1, 0, 0, 2}, {3, 1, 1, 8}, {12, 4, 3, 31}};
+/* Rows of each table, by size. A tank has a probe, strongly, but for the one tank of the smallest store; alarms weakly. */
+static const struct { int tanks, probes, alarms, shifts, all; } sizes[SIZES] = {{1, 0, 0, 0, 1}, {3, 3, 1, 1, 8}, {12, 12, 4, 3, 31}, {12, 12, 5, 3, 32}};
 
 static const char schema_text[] =
     "{'name':'plating','version':'1.0.0','tables':{"
@@ -52,25 +53,31 @@ static const char schema_text[] =
     "'text':{'type':{'key':{'type':'string','minLength':1,'maxLength':20}}},'grade':{'type':'integer'}}},"
     "'Shift':{'isRoot':true,'maxRows':3,'columns':{'who':{'type':'string'},'begun':{'type':'integer','mutable':false}}}}}";
 
-/* Requests that fail, with the error or the refusal that they must get. */
-static const struct { const char *text, *error; uint32_t refusal; } faults[] = {
-    {"['plating',{'op':'update','table':'Tank','where':[['name','==','tank 0']],'row':{'depth':1}}]", "syntax error", 0},
-    {"['plating',{'op':'select','table':'Vat','where':[]}]", "syntax error", 0},
-    {"['plating',{'op':'wait','table':'Tank','where':[],'until':'==','columns':['name'],'rows':[],'timeout':0}]", "syntax error", 0},
-    {"['plating',{'op':'update','table':'Tank','where':[['name','==','tank 0']],'row':{'level':-1}}]", "constraint violation", 0},
-    {"['plating',{'op':'update','table':'Shift','where':[],'row':{'begun':7}}]", "constraint violation", 0},
-    {"['plating',{'op':'update','table':'Tank','where':[],'row':{'limits':9}},{'op':'abort'}]", "aborted", 0},
-    {"['plating',{'op':'insert','table':'Tank','row':{'name':'tank 0','level':999999}}]", "constraint violation", 0},
-    {"['plating',{'op':'update','table':'Tank','where':[],'row':{'probe':['uuid','deadbeef-0000-4000-8000-0123456789ab']}}]", "referential integrity violation", 0},
+/* Two chains of links, each held by a head. */
+static const char chains_text[] =
+    "{'name':'plating','version':'1.0.0','tables':{"
+    "'Head':{'isRoot':true,'columns':{'name':{'type':'string'},'turn':{'type':'integer'},'next':{'type':{'key':{'type':'uuid','refTable':'Link'},'min':0,'max':1}}}},"
+    "'Link':{'columns':{'next':{'type':{'key':{'type':'uuid','refTable':'Link'},'min':0,'max':1}}}}}}";
+
+/* Requests that fail, with the error or the refusal that they must get. On a full store it is "resources exhausted" where `inserts`: the row that is one too many comes first. */
+static const struct { const char *text, *error; uint32_t refusal; bool inserts; } faults[] = {
+    {"['plating',{'op':'update','table':'Tank','where':[['name','==','tank 0']],'row':{'depth':1}}]", "syntax error", 0, false},
+    {"['plating',{'op':'select','table':'Vat','where':[]}]", "syntax error", 0, false},
+    {"['plating',{'op':'wait','table':'Tank','where':[],'until':'==','columns':['name'],'rows':[],'timeout':0}]", "syntax error", 0, false},
+    {"['plating',{'op':'update','table':'Tank','where':[['name','==','tank 0']],'row':{'level':-1}}]", "constraint violation", 0, false},
+    {"['plating',{'op':'update','table':'Shift','where':[],'row':{'begun':7}}]", "constraint violation", 0, false},
+    {"['plating',{'op':'update','table':'Tank','where':[],'row':{'limits':9}},{'op':'abort'}]", "aborted", 0, false},
+    {"['plating',{'op':'insert','table':'Tank','row':{'name':'tank 0','level':999999}}]", "constraint violation", 0, true},
+    {"['plating',{'op':'update','table':'Tank','where':[],'row':{'probe':['uuid','deadbeef-0000-4000-8000-0123456789ab']}}]", "referential integrity violation", 0, false},
     {"['plating',{'op':'delete','table':'Shift','where':[]},{'op':'insert','table':'Shift','row':{'who':'a'}},{'op':'insert','table':'Shift','row':{'who':'b'}},"
-     "{'op':'insert','table':'Shift','row':{'who':'c'}},{'op':'insert','table':'Shift','row':{'who':'d'}}]", "constraint violation", 0},
-    {"['plating',{'op':'mutate','table':'Tank','where':[['name','==','tank 0']],'mutations':[['level','/=',0]]}]", "domain error", 0},
-    {"['plating',{'op':'mutate','table':'Tank','where':[],'mutations':[['level','*=',9223372036854775807]]}]", "range error", 0},
+     "{'op':'insert','table':'Shift','row':{'who':'c'}},{'op':'insert','table':'Shift','row':{'who':'d'}}]", "constraint violation", 0, true},
+    {"['plating',{'op':'mutate','table':'Tank','where':[['name','==','tank 0']],'mutations':[['level','/=',0]]}]", "domain error", 0, false},
+    {"['plating',{'op':'mutate','table':'Tank','where':[],'mutations':[['level','*=',9223372036854775807]]}]", "range error", 0, false},
     {"['plating',{'op':'delete','table':'Tank','where':[['name','==','tank 0']]},{'op':'insert','table':'Probe','row':{'serial':'x'},'uuid-name':'p'},"
-     "{'op':'insert','table':'Probe','row':{'serial':'y'},'uuid-name':'p'}]", "duplicate uuid-name", 0},
-    {"['plating',{'op':'update','table':'Tank','where':[],'row':{'name':'a name of twenty-five byte'}}]", "resources exhausted", 0},
-    {"['plating',{'op':'select','table':'Tank','where':[]},]", NULL, MAQ_BAD_REQUEST},
-    {"['planting',{'op':'select','table':'Tank','where':[]}]", NULL, MAQ_OTHER_DATABASE},
+     "{'op':'insert','table':'Probe','row':{'serial':'y'},'uuid-name':'p'}]", "duplicate uuid-name", 0, true},
+    {"['plating',{'op':'update','table':'Tank','where':[],'row':{'name':'a name of twenty-five byte'}}]", "resources exhausted", 0, false},
+    {"['plating',{'op':'select','table':'Tank','where':[]},]", NULL, MAQ_BAD_REQUEST, false},
+    {"['planting',{'op':'select','table':'Tank','where':[]}]", NULL, MAQ_OTHER_DATABASE, false},
 };
 enum { FAULTS = sizeof faults / sizeof *faults };
 
@@ -223,11 +230,11 @@ static void must(bool holds, enum line line, const char *what) {
 /* ---- Requests. */
 
 static int size;                      /* of sizes */
-static struct { uint8_t probes[16][16], alarms[4][16]; } ids, kept_ids;
+static struct { uint8_t probes[16][16], alarms[5][16]; } ids, kept_ids;
 static unsigned long transacts;
 
-/* What the request at hand must do. */
-static struct { int inserts, deletes, shown; const char *error; uint32_t refusal; } plan;
+/* What the request at hand must do. A row that is inserted and collected at once is unseen: no record tells of it. */
+static struct { int inserts, deletes, unseen, shown; const char *error; uint32_t refusal; } plan;
 
 /* Adds to the request, with quotes for apostrophes. */
 static void say(const char *form, ...) {
@@ -285,8 +292,10 @@ static void ask_replace(int n, int k) {
     }
     say("['plating',{'op':'delete','table':'Tank','where':[['name','==','tank %d']]},", k);
     say_tank(n, k);
-    say(",'probe':");
-    say_uuid(ids.probes[k]);
+    if (sizes[size].probes > 0) {
+        say(",'probe':");
+        say_uuid(ids.probes[k]);
+    }
     if (alarms > 0) {
         say(",'alarms':");
         say_uuid(ids.alarms[a]);
@@ -294,11 +303,14 @@ static void ask_replace(int n, int k) {
     say("}}]");
 }
 
-/* A new probe for a tank; the old one has no tank then, and goes. */
+/* A new probe for a tank; the old one has no tank then, and goes. Where tanks have none the new one goes. */
 static void ask_collect(int n, int k) {
     plan.inserts = 1;
+    plan.unseen = sizes[size].probes == 0;
     say("['plating',{'op':'insert','table':'Probe','row':{'serial':'serial %d','live':true,'kind':'pH'},'uuid-name':'p'},", n);
-    say("{'op':'update','table':'Tank','where':[['name','==','tank %d']],'row':{'probe':['named-uuid','p']}}]", k);
+    say("{'op':'update','table':'Tank','where':[['name','==','tank %d']],'row':{", k);
+    if (plan.unseen) say("'level':%d}}]", level(n, k));
+    else say("'probe':['named-uuid','p']}}]");
     memcpy(ids.probes[k], fresh, 16);
 }
 
@@ -312,22 +324,25 @@ static void ask_four(int n, int k) {
         say_uuid(ids.alarms[n % alarms]);
         say("]");
     }
-    say("]},{'op':'update','table':'Probe','where':[['_uuid','==',");
-    say_uuid(ids.probes[k]);
-    say("]],'row':{'live':%s,'kind':'kind %d'}},", n % 2 == 0 ? "true" : "false", n);
+    say("]},");
+    if (sizes[size].probes > 0) {
+        say("{'op':'update','table':'Probe','where':[['_uuid','==',");
+        say_uuid(ids.probes[k]);
+        say("]],'row':{'live':%s,'kind':'kind %d'}},", n % 2 == 0 ? "true" : "false", n);
+    } else say("{'op':'update','table':'Tank','where':[],'row':{'place':'place %d'}},", n);
     say("{'op':'select','table':'Tank','where':[['name','==','tank %d'],['limits','includes',1]]}]", other);
 }
 
 static void ask_whole(int n) {
     static const char *const tables[] = {"Tank", "Probe", "Tank", "Alarm", "Tank", "Tank", "Shift", "Tank"};
     const char *table = tables[n / 10 % 8];
-    plan.shown = *table == 'A' ? sizes[size].alarms : *table == 'S' ? sizes[size].shifts : sizes[size].tanks;
+    plan.shown = *table == 'A' ? sizes[size].alarms : *table == 'S' ? sizes[size].shifts : *table == 'P' ? sizes[size].probes : sizes[size].tanks;
     say("['plating',{'op':'select','table':'%s','where':[]}]", table);
 }
 
 static void ask_failing(int n) {
     int i = n % FAULTS;
-    plan.error = faults[i].error;
+    plan.error = faults[i].inserts && sizes[size].all == MOST_ROWS ? "resources exhausted" : faults[i].error;
     plan.refusal = faults[i].refusal;
     say("%s", faults[i].text);
 }
@@ -344,6 +359,7 @@ static void ask(enum line line, int n) {
     case COLLECT: ask_collect(n, k); break;
     case FOUR: ask_four(n, k); break;
     case BY_NAME: plan.shown = 1; say("['plating',{'op':'select','table':'Tank','where':[['name','==','tank %d']]}]", k); break;
+    case NO_ROW: say("['plating',{'op':'select','table':'Tank','where':[['name','==','tank %d']]}]", 100 + k); break;
     case WHOLE: ask_whole(n); break;
     case FAILING: ask_failing(failing++); break;
     default: say("['plating']");
@@ -403,7 +419,7 @@ static int times_in(const char *text, const char *word) {
 /* A commit that changed rows: no other number of rows, and its records are those of its kind. */
 static void check_commit(enum line line, bool changed, int collected) {
     must(changed && columns > 0, line, "changed nothing");
-    must(born == plan.inserts && gone == plan.deletes + collected, line, "records of other rows");
+    must(born == plan.inserts - plan.unseen && gone == plan.deletes + collected - plan.unseen, line, "records of other rows");
     must(collected == (line == COLLECT), line, "collected another number of rows");
     if (line == FOUR) must(times_in(answer_text(), "\"count\":1") == 3, line, "not four operations on a row each");
 }
@@ -429,7 +445,7 @@ static void check(enum line line) {
     counts[size].inserted += commits ? plan.inserts : 0;
     counts[size].deleted += commits ? plan.deletes : 0;
     counts[size].collected += collected;
-    counts[size].selected += line == BY_NAME || line == WHOLE;
+    counts[size].selected += line == BY_NAME || line == NO_ROW || line == WHOLE;
 }
 
 /* ---- A store of a size, its requests, and a mirror. */
@@ -438,6 +454,11 @@ static void set_up_row(void) {
     both(SETUP, SETUP);
     must(sides[0].said == MAQ_ACCEPTED && strstr(answer_text(), "error") == NULL, SETUP, "no row made");
     log_records();
+}
+
+static void make_schema(const char *text, size_t len) {
+    schema_len = len;
+    for (size_t i = 0; i < len; i++) schema[i] = text[i] == '\'' ? '"' : (uint8_t)text[i];
 }
 
 static void set_up(void) {
@@ -452,9 +473,11 @@ static void set_up(void) {
     }
     for (int k = 0; k < sizes[size].tanks; k++) {
         begin();
-        say("['plating',{'op':'insert','table':'Probe','row':{'serial':'first %d'},'uuid-name':'p'},", k);
+        say("['plating',");
+        if (sizes[size].probes > 0) say("{'op':'insert','table':'Probe','row':{'serial':'first %d'},'uuid-name':'p'},", k);
         say_tank(0, k);
-        say(",'probe':['named-uuid','p']}}]");
+        if (sizes[size].probes > 0) say(",'probe':['named-uuid','p']");
+        say("}}]");
         memcpy(ids.probes[k], fresh, 16);
         set_up_row();
     }
@@ -467,11 +490,11 @@ static void set_up(void) {
     set_up_count = entry_count;
 }
 
-/* The kind of request n: kinds by their shares, 37 apart. */
+/* The kind of request n: kinds by their shares, 37 apart. A full store has no row for an insert before another goes. */
 static enum line kind_of(int n) {
     int place = n * 37 % 100, line = 0;
     while (place >= shares[line]) place -= shares[line++];
-    return (enum line)(UPDATE + line);
+    return UPDATE + line == COLLECT && sizes[size].all == MOST_ROWS ? REPLACE : (enum line)(UPDATE + line);
 }
 
 static void run_requests(void) {
@@ -529,10 +552,60 @@ static void run_mirror(void) {
     must(memcmp(sides[0].mirror, sides[0].area, MAQ_STORE_AREA) == 0, PROGRESS, "the mirror's rows are not the store's");
 }
 
+/* ---- Collection along chains. */
+
+static struct buffers kept;
+
+/* What link i of a chain is in order of ids: they ascend, descend, or go to and fro along it. */
+static int place_of(int order, int i) { return order == 0 ? i : order == 1 ? CHAIN - 1 - i : i % 2 == 0 ? i / 2 : CHAIN - 1 - i / 2; }
+
+/* A chain: its links by their ids, then the head. */
+static void set_up_chain(int head, int order) {
+    int link[CHAIN];
+    for (int i = 0; i < CHAIN; i++) link[place_of(order, i)] = i;
+    begin();
+    say("['plating',");
+    for (int at = 0; at < CHAIN; at++) {
+        say("{'op':'insert','table':'Link','uuid-name':'l%d','row':{", link[at]);
+        if (link[at] + 1 < CHAIN) say("'next':['named-uuid','l%d']", link[at] + 1);
+        say("}},");
+    }
+    say("{'op':'insert','table':'Head','row':{'name':'head %d','next':['named-uuid','l0']}}]", head);
+    set_up_row();
+}
+
+static void ask_chains(enum line line, int turn) {
+    begin();
+    say("['plating',{'op':'update','table':'Head','where':[");
+    if (line == CHAIN_GOES) say("['name','==','head %d']", turn % 2);
+    say("],'row':{'turn':%d", turn + 1);
+    if (line != CHAINS_STAY) say(",'next':['set',[]]");
+    say("}}]");
+}
+
+/* Each call is undone before the next. */
+static void run_chains(void) {
+    static const int left[] = {2 * CHAIN + 2, CHAIN + 2, 2};
+    make_schema(chains_text, sizeof chains_text - 1);
+    for (int order = 0; order < 3; order++) {
+        entry_count = 0;
+        both(STORE_START, SETUP);
+        for (int head = 0; head < 2; head++) set_up_chain(head, order);
+        kept = sides[0];
+        for (int i = 0; i < 3 * CHAIN_CALLS; i++) {
+            enum line line = (enum line)(CHAINS_STAY + i % 3);
+            for (int s = 0; s < 2; s++) sides[s] = kept;
+            ask_chains(line, i / 3);
+            both(line, line);
+            must(sides[0].said == MAQ_ACCEPTED && sides[0].area[ROWS_AT] == left[i % 3], line, "another number of rows left");
+        }
+    }
+    make_schema(schema_text, sizeof schema_text - 1);
+}
+
 /* ---- A byte changed. */
 
 static uint32_t seed = 1;
-static struct buffers kept;
 static unsigned statuses[104], spoiled_errors;
 
 static uint32_t any(uint32_t below) {
@@ -627,10 +700,11 @@ static double median(uint32_t *of, size_t count) {
     return count % 2 == 1 ? of[count / 2] : (of[count / 2 - 1] + (double)of[count / 2]) / 2;
 }
 
-/* The mean of the kinds' medians up to a last kind, by their shares. */
+/* The mean of the kinds' medians up to a last kind, by their shares. A kind that the size does not have is left out. */
 static double mean_to(enum line last, int fills, int repeat, int s) {
     double sum = 0, share = 0;
     for (int line = UPDATE; line <= (int)last; line++) {
+        if (taken[line] == 0) continue;
         sum += shares[line - UPDATE] * medians[size][fills][line][repeat][s];
         share += shares[line - UPDATE];
     }
@@ -646,6 +720,7 @@ static void run(int repeat, int fills) {
     run_requests();
     run_mirror();
     if (repeat == 0) run_spoiled();
+    if (sizes[size].all == MOST_ROWS) run_chains();
     for (int line = 0; line < LINES; line++)
         for (int s = 0; s < 2; s++) medians[size][fills][line][repeat][s] = median(samples[line][s], taken[line]);
     for (int s = 0; s < 2; s++) {
@@ -674,8 +749,9 @@ static void tell_line(int line, int repeats) {
     over(0, line, 1, repeats, plain);
     over(0, line, 2, repeats, zeroed);
     over(1, line, 2, repeats, filled);
+    if (own[0] <= 0) return;
     if (line < STORE_START) snprintf(rows, sizeof rows, "%d", sizes[size].all);
-    printf("| %s | %s | %.2f | %.2f | %.2f | %.2f to %.2f | %.2f | %.2f to %.2f |\n", size == 0 ? names[line] : "", rows, own[0], plain[0], zeroed[0], zeroed[1],
+    printf("| %s | %s | %.2f | %.2f | %.2f | %.2f to %.2f | %.2f | %.2f to %.2f |\n", size == 0 || (line >= CHAINS_STAY && line <= CHAINS_GO) ? names[line] : "", rows, own[0], plain[0], zeroed[0], zeroed[1],
            zeroed[2], filled[0], filled[1], filled[2]);
 }
 
@@ -716,7 +792,7 @@ static void tell_mix(void) {
                REQUESTS, c->changed, c->selected, c->errors, c->refused, c->inserted, c->deleted, c->collected);
         must(c->changed == commits && 2 * c->changed >= REQUESTS, ALL, "another number of requests changed rows");
         must(c->errors + c->refused == faulty && c->errors > 0 && c->refused > 0, FAILING, "another number of requests failed");
-        must(c->collected == collects && c->inserted == c->deleted + c->collected, COLLECT, "another number of rows collected");
+        must(c->collected == (sizes[size].all == MOST_ROWS ? 0 : collects) && c->inserted == c->deleted + c->collected, COLLECT, "another number of rows collected");
     }
 }
 
@@ -760,8 +836,7 @@ static void load(struct library *l, const char *path) {
 }
 
 static void make_inputs(void) {
-    schema_len = sizeof schema_text - 1;
-    for (size_t i = 0; i < schema_len; i++) schema[i] = schema_text[i] == '\'' ? '"' : (uint8_t)schema_text[i];
+    make_schema(schema_text, sizeof schema_text - 1);
     for (size_t i = 0; i < sizeof rubbish; i++) rubbish[i] = (uint8_t)(1 + any(255));
 }
 

@@ -72,6 +72,10 @@ partGood schema a = leb (rowCount a) mostRows && (restZero a && rowsGood schema 
 unfoldable pub rowsRead : List ℕ → List (List (List ℕ)) → List (List (List ℕ))
 rowsRead a before = cond (leb (rowCount a) mostRows && restZero a) (rowsAt (rowCount a) a ++ drop (rowCount a) before) before
 
+-- working rows are enough for its rows, where those are not too many
+abbrev pub RowsFit : List ℕ → List (List (List ℕ)) → Type 0
+RowsFit a rows = rowCount a ≤ mostRows → rowCount a ≤ length rows
+
 -- whether its rows are in good order, and the working rows after it
 pub record PartRead (a : List ℕ) (schema : List (List ℕ)) (before after : List (List (List ℕ))) (r : Bool) : Type 0 where
   pub good : r ≡ partGood schema a

@@ -39,7 +39,7 @@ ghost use Rattle.model.specs.Areas.{ascends, distinctIds, encodeStore, entriesI
 ghost use Rattle.inner.specs.Working.{working, idIn, valueIn, Tidy};
 ghost use Rattle.catalog.specs.Accepted.{Accepted};
 ghost use Rattle.rows.specs.Post.{KeyBytes};
-ghost use Rattle.area.specs.Layout.{rowsIn, rowAt, Rows, tidyFrom, canonicalFrom, rowGood, rowsGood, PartRead};
+ghost use Rattle.area.specs.Layout.{rowsIn, rowAt, Rows, tidyFrom, canonicalFrom, rowGood, rowsGood, RowsFit, PartRead};
 ghost use Rattle.area.specs.Writing.{tailGood, tailBytes, placed, rowsPart, storeIn};
 
 // A cell in an area.
@@ -366,7 +366,7 @@ pub fn read_catalog(area: &[u8], catalog: &mut [Entry])
 // Whether the rows of the part of an area that stores and mirrors share are in good order, by its catalog. They are read on the way, unless there are too many of them or the rest is not zero.
 pub fn part_good(area: &[u8], schema: &Catalog, rows: &mut [Row]) -> bool
     requires { ⌜ Accepted (now schema) ⌝ }
-    requires { ⌜ (storeBytes ≤ length (now area)) × (mostRows ≤ length (now rows)) ⌝ }
+    requires { ⌜ (storeBytes ≤ length (now area)) × RowsFit (now area) (now rows) ⌝ }
     ensures { λ r. ⌜ PartRead (now (area .entry)) (now (schema .entry)) (now (rows .entry)) (now (rows .exit)) r ⌝ }
 {
     let n = row_count(area);

@@ -80,6 +80,12 @@ module _ (j : Json) (t : List ℕ) (is : j ≡ str t) where
       (λ e. rw (choiceFrom, word-is w, e, ne-eqb k 9 (λ z. omega arith)))
       (λ e. rw (choiceFrom, word-is w, e) (choice-other ws (suc k) (omega arith)))
 
+-- a value that is no word has no number
+pub choice-none : (j : Json) → ((w : List ℕ) → isWord w j ≡ false) → (ws : List (List ℕ)) (k : ℕ) → choiceFrom k j ws ≡ 9
+unfolding choiceFrom
+choice-none j h [] k = refl
+choice-none j h (w ∷ ws) k = rw (choiceFrom, h w) (choice-none j h ws (suc k))
+
 none-left : (j : Json) (k n : ℕ) → choiceFrom k j (wordsFrom n []) ≡ 9
 unfolding choiceFrom wordsFrom
 none-left j k zero = refl

@@ -27,6 +27,10 @@ pub type Places = [usize; SLOTS];
 pub fn choose(text: &[u8], at: usize, words: &[u8]) -> usize
     ensures { λ r. ⌜ r ≡ choice (wordsOf (now (words .entry))) (treeAt (now (text .entry)) at) ⌝ }
 {
+    let f = text::body_at(text, at);
+    let Found::At(i) = f else {
+        return WORDS;
+    };
     let mut a = 0;
     for k in 0..words.len() {
         if words.len() <= a {
@@ -38,7 +42,7 @@ pub fn choose(text: &[u8], at: usize, words: &[u8]) -> usize
             return WORDS;
         }
         let e = b + n;
-        if text::is_word(text, at, &words[b..e]) {
+        if text::body_is(text, i, &words[b..e]) {
             return k;
         }
         a = e;

@@ -75,7 +75,7 @@ module _ (text : List ℕ) (call : Call) {slots : List ℕ} (k : Slots text (asc
 
   pub comment-done : getD slots 9 0 ≡ 0 → t ≡ true → Silent Comment text names schema call rows rows (record { fault = Fine; count = call .count; reply = Empty })
   unfolding performed Answers
-  comment-done l y at out = effect-done Fine refl few (λ x. x) (λ given _. (comment-fault (λ i. eq-eqb (getD slots 9 0) 0 l i && y i) given, refl, (refl, refl))) (λ given h. refl)
+  comment-done l y at out = effect-done Fine refl (few, omega arith) (λ x. x) (λ given _. (comment-fault (λ i. eq-eqb (getD slots 9 0) 0 l i && y i) given, refl, (refl, refl))) (λ given h. refl)
 
   comment-failed : (eqb (getD slots 9 0) 0 && t) ≡ false → Silent Comment text names schema call rows rows (record { fault = Syntax; count = call .count; reply = Empty })
   comment-failed e at out = effect-failed Syntax few refl (λ given _. comment-fault e given)

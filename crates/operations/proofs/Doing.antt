@@ -82,6 +82,7 @@ ran-failed {f = f} few e bad =
     record {
       fault = e;
       few = few;
+      grown = omega arith;
       rows = λ y. absurd (clash (isFine f) y bad);
       reply = λ y. absurd (clash (isFine f) y bad);
       same = λ y. absurd (clash (isFine f) y bad);
@@ -90,12 +91,13 @@ ran-failed {f = f} few e bad =
     }
 
 pub ran-done : {s : Schema} {d : Model.Done} {replies : Reply → List ℕ → Type 0} {n m : ℕ} {entry exit : List (List (List ℕ))} {f : Fault} {q : Reply}
-    → m ≤ mostRows → f ≡ d .fault → isFine f ≡ true → working s m exit ≡ d .rows → (Tidy s (take n entry) → Tidy s (take m exit)) → replies q (d .answer)
+    → (m ≤ mostRows) × (m ≤ n + 1) → f ≡ d .fault → isFine f ≡ true → working s m exit ≡ d .rows → (Tidy s (take n entry) → Tidy s (take m exit)) → replies q (d .answer)
     → (mayChange q ≡ false → d .rows ≡ working s n entry) → Ran s d replies n entry exit (record { fault = Fine; count = m; reply = q })
 ran-done {f = f} few e y rows tidy reply same =
     record {
       fault = sym (fine-is f y) ∙ e;
-      few = few;
+      few = few .0;
+      grown = few .1;
       rows = λ _. rows;
       reply = λ _. reply;
       same = λ _. same;
@@ -113,7 +115,7 @@ module _ {k : Operation} {text names : List ℕ} {schema : List (List ℕ)} {cal
       → {at : ℕ} {out : List ℕ} → Effect k text names schema call rows rows at out out (record { fault = f; count = call .count; reply = Empty })
   effect-failed few bad e = record { does = λ given g. ran-failed few (e given g) bad; rows = λ _ _. refl; answer = λ _. refl }
 
-  pub effect-done : {entry exit : List (List (List ℕ))} {at m : ℕ} {before after : List ℕ} {q : Reply} → isFine f ≡ true → m ≤ mostRows
+  pub effect-done : {entry exit : List (List (List ℕ))} {at m : ℕ} {before after : List ℕ} {q : Reply} → isFine f ≡ true → (m ≤ mostRows) × (m ≤ call .count + 1)
       → (Tidy (packedTables schema) (take (call .count) entry) → Tidy (packedTables schema) (take m exit))
       → ((given : List (List ℕ)) → Earlier text names (call .number) given → (f ≡ outcome k given text names schema call entry .fault) × (working (packedTables schema) m exit ≡ outcome k given text names schema call entry .rows) × Answers (freshAt names (call .number)) at before after q (outcome k given text names schema call entry .answer))
       → ((given : List (List ℕ)) → mayChange q ≡ false → outcome k given text names schema call entry .rows ≡ working (packedTables schema) (call .count) entry)
@@ -126,10 +128,14 @@ module _ {k : Operation} {text names : List ℕ} {schema : List (List ℕ)} {cal
       }
 
 -- ── the rows that match ──
+-- the rows of a call are there
+pub enough : {text ends names : List ℕ} {schema : List (List ℕ)} {call : Call} {rows : List (List (List ℕ))} → Ready text ends names schema call rows → call .count ≤ length rows
+enough {call = call} r = r .room (call .count) (omega arith) (r .count)
+
 -- the first rows of a call
 pub front : {text ends names : List ℕ} {schema : List (List ℕ)} {call : Call} {rows : List (List (List ℕ))} → Ready text ends names schema call rows
     → (call .count ≡ length (take (call .count) rows)) × (length (take (call .count) rows) ≤ mostRows)
-front {call = call} {rows} r = let few = r .count in let e = length-take-le (call .count) rows (omega (arith, r .room)) in (sym e, omega arith)
+front {call = call} {rows} r = let few = r .count in let e = length-take-le (call .count) rows (enough r) in (sym e, omega arith)
 
 module _ (text names : List ℕ) (schema : List (List ℕ)) (call : Call) {columns ws : List (List ℕ)} {slots : List ℕ} (k : Slots text ws (membersOf text call) slots) (words : Words ws) (here : TableColumns schema (call .table) columns) where
   tests-by : testsOf text names schema call ≡ whereAt text names columns (getD slots 2 0)
@@ -185,7 +191,7 @@ module _ {text names : List ℕ} {schema : List (List ℕ)} {call : Call} {rows 
   delete-done few long y ec gone =
       let d = gone (columnsOf (packedTables schema) (call .table)) (call .table) (testsOf text names schema call .got) (marks-all k long y) in
       let x = d .few in
-      effect-done (m .fault) y (omega arith) (d .tidy (packedTables schema)) (λ given _. (delete-fault given, d .rows (packedTables schema) refl, (count-all k long y ec, refl)))
+      effect-done (m .fault) y (omega arith, omega arith) (d .tidy (packedTables schema)) (λ given _. (delete-fault given, d .rows (packedTables schema) refl, (count-all k long y ec, refl)))
       (λ given h. delete-none (matches (call .table) (testsOf text names schema call .got)) (working (packedTables schema) (call .count) rows) (count-none k long y ec h))
 
 -- ── a row that is read ──
@@ -224,7 +230,7 @@ module _ {text names : List ℕ} {schema columns : List (List ℕ)} {call : Call
       let w = row-there text names columns (getD (m .slots) 3 0) (slot-fine (k .slots) 3 (omega arith)) false read (p .1) in
       let marks = subst (λ (cs : List Column). MarkedRows cs ts (call .table) (call .count) rows (m .marks)) (here .same) (marks-all k long (p .0)) in
       let d = updated-rows text names columns (getD (m .slots) 3 0) (call .count) (m .marks) ts (call .table) (w .1) (w .2) up marks in
-      effect-done f y few (d .tidy s (here .same))
+      effect-done f y (few, omega arith) (d .tidy s (here .same))
       (λ given _. (update-fault given, d .rows s (here .same) ∙ ap (λ (j : Judged (List (Option Value))). map (Model.updateRow (matches (call .table) ts) (j .got)) (working s (call .count) rows)) (sym (update-row ∙ w .0)), (count-all k long (p .0) ec, refl)))
       (λ given h. update-none (matches (call .table) ts) (Model.readRow (namesAt text names) Model.noFault Model.immutableFault (columnsOf s (call .table)) (membersOf text call) .got) (working s (call .count) rows) (count-none k long (p .0) ec h))
 
@@ -254,7 +260,7 @@ module _ {text names : List ℕ} {schema columns : List (List ℕ)} {call : Call
       let ts = testsOf text names schema call .got in
       let p = earlier-fine (m .fault) (c .fault) (ap isFine (sym ef) ∙ y) in
       let w = put (Model.shows (slotted text (getD (m .slots) 3 0))) ts (subst (λ (l : List (List ℕ)). Flagged (Model.shows (slotted text (getD (m .slots) 3 0))) l (c .flags)) (here .cells) (read .flags (p .1))) (k .marks (p .0)) in
-      effect-done f y few (λ t. t)
+      effect-done f y (few, omega arith) (λ t. t)
       (λ given _. (select-fault given, refl, put-is w (sym (λ i. selected (Model.shows (shown i)) (columnsOf (packedTables schema) (call .table)) (call .table) ts (working (packedTables schema) (call .count) rows))) (omega arith)))
       (λ given h. refl)
 
@@ -313,6 +319,7 @@ module _ {text names : List ℕ} {schema columns : List (List ℕ)} {call : Call
           does = λ given _. record {
             fault = is ∙ d .fault s (here .same) ∙ ap (λ (j : Judged (List Row)). elim (isFine (mutations-read .fault)) [ true ↦ j .fault | false ↦ mutations-read .fault ]) same ∙ sym (by-members (alone (mutations-read .fault)) given);
             few = few;
+            grown = omega arith;
             rows = λ x. d .rows s (here .same) (ap isFine (sym is) ∙ x) ∙ ap (λ (j : Judged (List Row)). j .got) same;
             reply = λ _. (count-all k long y ec, refl);
             same = λ _ h. mutate-none (matches (call .table) ts) (mutations .got) (working s (call .count) rows) (count-none k long y ec h);
@@ -386,7 +393,7 @@ module _ (text names : List ℕ) (schema : List (List ℕ)) (call : Call) (rows 
       let z = insert-room y in
       let w = row-there text names columns (getD slots 2 0) (slot-fine k 2 (omega arith)) true read (insert-parts y .0) in
       let d = inserted-row text names columns (getD slots 2 0) (call .table) (value id) (call .count) (here .few) new (w .1) (w .2) added in
-      effect-done f y (omega arith) (d .tidy s (here .same))
+      effect-done f y (omega arith, omega arith) (d .tidy s (here .same))
       (λ given g. (
         insert-fault given g,
         d .rows s (here .same)

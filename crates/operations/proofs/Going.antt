@@ -54,9 +54,10 @@ module _ (schema : List (List ℕ)) (text : List ℕ) (ops : Found) (names : Lis
     pub size : i + length (itemsFrom text g) ≤ 16
     pub short : at ≤ at₀ + 200001 * i
     pub few : m ≤ 32
+    pub room : single.Room m (length (itemsFrom text g)) rows
     pub tidy : Tidy (packedTables schema) (take n rows₀) → Tidy (packedTables schema) (take m rows)
 
-  pub going-start : itemsFine text ops ≡ true → length (itemsFrom text ops) ≤ 16 → n ≤ 32 → Going rows₀ answer₀ at₀ ops 0 n false
+  pub going-start : itemsFine text ops ≡ true → length (itemsFrom text ops) ≤ 16 → (n ≤ 32) × single.Room n (length (itemsFrom text ops)) rows₀ → Going rows₀ answer₀ at₀ ops 0 n false
   going-start f l h =
       let e = run-first (packedTables schema) text ops names (working (packedTables schema) n rows₀) in
       record {
@@ -69,7 +70,8 @@ module _ (schema : List (List ℕ)) (text : List ℕ) (ops : Found) (names : Lis
         fine = f;
         size = omega arith;
         short = omega arith;
-        few = h;
+        few = h .0;
+        room = h .1;
         tidy = λ t. t;
       }
 
@@ -89,6 +91,7 @@ module _ {schema : List (List ℕ)} {text : List ℕ} {ops : Found} {names : Lis
         fine = λ _. refl;
         same = λ h f. c .left ∙ ap (λ r. r .rows) e ∙ c .same h;
         few = c .few;
+        long = c .room m (omega arith) (c .few);
         rows = λ f. sym (c .left ∙ ap (λ r. r .rows) e);
         tidy = λ f t. c .tidy t;
         free = λ f t. c .tidy t;
@@ -100,7 +103,7 @@ module _ {schema : List (List ℕ)} {text : List ℕ} {ops : Found} {names : Lis
     going-more = omega (arith, c .size, ap length (walk-rest text h))
 
     module _ (places : (w : List ℕ) → placeIn text names w ≡ placeNamed 0 w (operationsAt text ops)) {answer1 answer2 : List ℕ} {at1 : ℕ} {rows2 : List (List (List ℕ))} {call : Call} {r : Done}
-        (comma : Put 1 answer at (commaText (eqb i 0)) at1 answer1) (called : Called text schema i p m call) (effect : single.Effect (call .operation) text names schema call rows rows2 at1 answer1 answer2 r) where
+        (comma : Put 1 answer at (commaText (eqb i 0)) at1 answer1) (called : Called text schema i p m call) (effect : single.Effect (call .operation) text names schema call rows rows2 at1 answer1 answer2 r) (kept : length rows2 ≡ length rows) where
       -- what the operation of a call does is what operation i does
       did : single.Ran s (done s text ops names (c .given) i (working s m rows) p) (single.Answers (freshAt names i) at1 answer1 answer2) m rows rows2 r
       unfolding freshAt
@@ -130,6 +133,7 @@ module _ {schema : List (List ℕ)} {text : List ℕ} {ops : Found} {names : Lis
             size = omega (arith, c .size, ap length (walk-rest text h));
             short = omega (arith, c .short, comma .short, w .short);
             few = did .few;
+            room = λ (j : ℕ) (low : j ≤ r .count + length (itemsFrom text (nextItem text p))) (h2 : j ≤ 32). omega (arith, kept, c .room j (omega (arith, low, did .grown, ap length (walk-rest text h))) h2);
             tidy = λ t. did .tidy (c .tidy t);
           })
 
@@ -148,6 +152,7 @@ module _ {schema : List (List ℕ)} {text : List ℕ} {ops : Found} {names : Lis
             fine = λ q. absurd (clash (x .pending) q (y .idle));
             same = λ _ q. absurd (clash (isFine (x .fault)) q bad);
             few = let z = y .count in omega (arith, c .few);
+            long = let z = y .count in omega (arith, kept, c .room m (omega arith) (c .few));
             rows = λ q. absurd (clash (isFine (x .fault)) q bad);
             tidy = λ q. absurd (clash (isFine (x .fault)) q bad);
             free = λ _ q. subst (λ (k : ℕ). Tidy s (take k rows2)) (did .still f ∙ sym (y .count)) (did .tidy (c .tidy q));

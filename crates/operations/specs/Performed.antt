@@ -5,7 +5,6 @@ use mathlib.Core.Bool.{Bool, true, false}
 use mathlib.Core.List.{List}
 use mathlib.Core.Option.{none, some}
 use lib.Dec.{eqb}
-use lib.ListN.{length}
 use Rattle.model.specs.Octets.{eqBytes}
 use Rattle.model.specs.Base.{ascii}
 use Rattle.model.specs.Limits.{mostOperations, mostRows}
@@ -22,7 +21,7 @@ use Rattle.operations.specs.declared.on_table.Call.{Call}
 use Rattle.operations.specs.declared.on_table.Done.{Done}
 use Rattle.operations.specs.declared.on_table.Operation.{Operation}
 use Rattle.operations.specs.declared.on_table.Operation.the-variants.{Insert, Select, Update, Mutate, Delete, Comment, Abort, Unknown}
-use Rattle.operations.specs.Ran.{performed, Silent}
+use Rattle.operations.specs.Ran.{Room, performed, Silent}
 
 -- ── what an operation is ──
 -- by the number of its word
@@ -84,7 +83,7 @@ pub record Begun (text ends : List ℕ) (names : List ℕ) (schema : List (List 
   pub early : call .number < mostOperations
   pub here : isOnTable (call .operation) ≡ true → call .table < tableCount schema
   pub count : call .count ≤ mostRows
-  pub room : mostRows ≤ length rows
+  pub room : Room (call .count) 1 rows
 
 -- what one does that is on no table: all rows stay
 abbrev pub Still : Operation → List ℕ → Call → Done → Type 0

@@ -1,5 +1,5 @@
 -- What an operation on a table does to the working rows and the answer. Assumes nothing: these are definitions.
-use Prim.Native.Nat.{ℕ, _≤_, _<_}
+use Prim.Native.Nat.{ℕ, _+_, _≤_, _<_}
 use mathlib.Core.Path.{_≡_}
 use mathlib.Core.Bool.{Bool, true, false}
 use mathlib.Core.List.{List, [], map}
@@ -39,6 +39,10 @@ use Rattle.operations.specs.declared.on_table.Operation.the-variants.{In
 use Rattle.operations.specs.declared.on_table.Reply.{Reply}
 use Rattle.operations.specs.declared.on_table.Reply.the-variants.{Empty, Count, Id, Rows}
 
+-- working rows are enough for what k operations may make of n rows, each of which adds one at most
+abbrev pub Room : ℕ → ℕ → List (List (List ℕ)) → Type 0
+Room n k rows = (m : ℕ) → m ≤ n + k → m ≤ mostRows → m ≤ length rows
+
 -- what an operation on a table begins with: a request that is run, the operation's place and its number, a table of an accepted schema, and rows
 pub record Ready (text ends : List ℕ) (names : List ℕ) (schema : List (List ℕ)) (call : Call) (rows : List (List (List ℕ))) : Type 0 where
   pub running : Running text ends names
@@ -47,7 +51,7 @@ pub record Ready (text ends : List ℕ) (names : List ℕ) (schema : List (List 
   pub accepted : Accepted schema
   pub here : call .table < tableCount schema
   pub count : call .count ≤ mostRows
-  pub room : mostRows ≤ length rows
+  pub room : Room (call .count) 1 rows
 
 -- ── what an operation answers ──
 -- by cases the model's text, where `id` is the operation's own fresh id, beside the answer before and after: rows are in it, from `at` on, and nothing else is written
@@ -66,6 +70,7 @@ mayChange r = elim r [ Empty ↦ false | Count k ↦ ltb 0 k | Id ↦ true | Row
 pub record Ran (s : Schema) (d : Model.Done) (replies : Reply → List ℕ → Type 0) (n : ℕ) (entry exit : List (List (List ℕ))) (r : Done) : Type 0 where
   pub fault : r .fault ≡ d .fault
   pub few : r .count ≤ mostRows
+  pub grown : r .count ≤ n + 1
   pub rows : isFine (r .fault) ≡ true → working s (r .count) exit ≡ d .rows
   pub reply : isFine (r .fault) ≡ true → replies (r .reply) (d .answer)
   pub same : isFine (r .fault) ≡ true → mayChange (r .reply) ≡ false → d .rows ≡ working s n entry

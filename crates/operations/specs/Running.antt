@@ -63,6 +63,7 @@ pub record RunAll (s : Schema) (d : model.Ran) (n : ℕ) (entry exit : List (Lis
   pub fine : r .pending ≡ true → isFine (r .fault) ≡ true
   pub same : r .pending ≡ false → isFine (r .fault) ≡ true → d .rows ≡ working s n entry
   pub few : r .count ≤ mostRows
+  pub long : r .count ≤ length exit
   pub rows : isFine (r .fault) ≡ true → working s (r .count) exit ≡ d .rows
   pub tidy : isFine (r .fault) ≡ true → Tidy s (take n entry) → Tidy s (take (r .count) exit)
   pub free : isFine (r .fault) ≡ false → Tidy s (take n entry) → Tidy s (take (r .count) exit)

@@ -21,7 +21,7 @@ ghost use Rattle.json_writer.specs.Put.{Put};
 ghost use Rattle.json_writer.specs.Texts.{joined};
 ghost use Rattle.fresh.specs.Fresh.{freshAt};
 ghost use Rattle.uuids.specs.Named.{Running};
-ghost use Rattle.operations.specs.Ran.{mayChange, Answers};
+ghost use Rattle.operations.specs.Ran.{Room, mayChange, Answers};
 ghost use Rattle.operations.specs.Running.{Listed, nullsMost, stopMost, nullsFrom, Stopped, AllDone};
 
 // What the operations leave: the first fault, whether there is something to commit (no fault, and an operation that may have changed a row), how many rows there are, and where the answer ends.
@@ -121,7 +121,7 @@ pub fn run(
     requires { ⌜ Running (now text) (now ends) (now names) ⌝ }
     requires { ⌜ Accepted (now schema) ⌝ }
     requires { ⌜ Listed (now text) ops (now names) ⌝ }
-    requires { ⌜ (n ≤ mostRows) × (mostRows ≤ length (now rows)) ⌝ }
+    requires { ⌜ (n ≤ mostRows) × Room n (length (itemsFrom (now text) ops)) (now rows) ⌝ }
     ensures { λ r. ⌜ AllDone (now (text .entry)) ops (now (names .entry)) (now (schema .entry)) n (now (rows .entry)) (now (rows .exit)) (now (answer .entry)) (now (answer .exit)) r ⌝ }
 {
     let mut at = json_writer::put_byte(answer, 0, b'[');

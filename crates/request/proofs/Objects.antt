@@ -3,8 +3,7 @@ use mathlib.Core.Path.{_≡_, refl, sym, ap, _∙_}
 use mathlib.Core.List.{List, [], _∷_, map}
 use mathlib.Core.Bool.{Bool, true, false, _&&_}
 use mathlib.Core.Option.{Option, none, some}
-use Prim.Native.Nat.{ℕ, suc, _+_, _≤_, _<_}
-use native.Mathlib.Omega.{arith}
+use Prim.Native.Nat.{ℕ, suc, _≤_, _<_}
 use borrow.Author.Tests.{lt-leb, le-leb, leb-true}
 use lib.Dec.{leb}
 use lib.ListN.{length, length-map}
@@ -12,13 +11,13 @@ use Rattle.model.specs.declared.Read.{Read}
 use Rattle.model.specs.declared.Read.the-variants.{End, Stop, Deep}
 use Rattle.model.specs.declared.Found.{Found}
 use Rattle.model.specs.declared.Found.the-variants.{At, Nothing}
-use Rattle.model.specs.Base.{if_then_else_, all, isSome}
+use Rattle.model.specs.Base.{all, isSome}
 use Rattle.model.specs.Limits.{mostRequestBytes}
 use Rattle.model.specs.Scan.{Parsed}
 use Rattle.model.specs.Json.{Json, null, bool, num, str, arr, obj, Named, textAt}
-use Rattle.inner.specs.Positions.{Says, treeAt, wellAt, firstOf, nextItem, itemsFrom, itemsFine}
-use Rattle.model.specs.Nav.{isRead, kindOf, isText, isObject, textIn, listOf, itemsIn}
-use Rattle.model.specs.Members.{membersIn, namedOf}
+use Rattle.inner.specs.Positions.{Says, treeAt, wellAt, firstOf, nextItem, itemsFrom}
+use Rattle.model.specs.Nav.{isRead, kindOf, isText, isObject, textIn, itemsIn}
+use Rattle.model.specs.Members.{membersIn}
 use Rattle.model.specs.Written.{stringIn, arrayIn, objectIn}
 use Rattle.model.specs.Transact.{Request, objectsIn, requestBy, requestItems, requestTree, readRequest}
 use Rattle.model.proofs.Tests.{split, clash}
@@ -27,7 +26,8 @@ use Rattle.nav.proofs.FirstByte.{items-in}
 use Rattle.nav.proofs.Walk.{walk-end, walk-rest, walk-fine}
 use Rattle.uuids.specs.Named.{operationsAt}
 use Rattle.request.specs.declared.Request as code
-use Rattle.request.specs.Reading.{fewObjects, Parted, RequestRead}
+use Rattle.request.specs.declared.Items.{Items}
+use Rattle.request.specs.Reading.{fewObjects, Counted, Parted, RequestRead}
 
 -- ── at most 16 objects ──
 abbrev pub object : Json → Bool
@@ -46,17 +46,21 @@ and-r true b h = h
 and-r false b h = absurd (clash true refl (sym h))
 
 module _ (l : List Json) where
-  pub few-many : suc 16 ≤ length l → false ≡ fewObjects l
-  unfolding fewObjects
-  few-many h = let e : leb (length l) 16 ≡ false = lt-leb (length l) 16 h in sym (rw e)
+  -- none of them, by a fault
+  not-counted : {r : Items} → r .few ≡ false → false ≡ fewObjects l → Counted l r
+  not-counted {r} f e = record { few = f ∙ e; count = λ h. absurd (clash (r .few) h f) }
 
-  pub few-bad : all object l ≡ false → false ≡ fewObjects l
+  pub few-many : {r : Items} → r .few ≡ false → suc 16 ≤ length l → Counted l r
   unfolding fewObjects
-  few-bad h = sym (rw (h, and-false))
+  few-many f h = not-counted f (let e : leb (length l) 16 ≡ false = lt-leb (length l) 16 h in sym (rw e))
 
-  pub few-end : {n : ℕ} → n ≤ 16 → (length l ≡ n) × (all object l ≡ true) → true ≡ fewObjects l
+  pub few-bad : {r : Items} → r .few ≡ false → all object l ≡ false → Counted l r
   unfolding fewObjects
-  few-end {n} h q = let e : leb n 16 ≡ true = le-leb n 16 h in sym (rw (q .1, q .0, e))
+  few-bad f h = not-counted f (sym (rw (h, and-false)))
+
+  pub few-end : {n : ℕ} → n ≤ 16 → (length l ≡ n) × (all object l ≡ true) → Counted l (record { few = true; count = n })
+  unfolding fewObjects
+  few-end {n} h q = record { few = let e : leb n 16 ≡ true = le-leb n 16 h in sym (rw (q .1, q .0, e)); count = λ _. sym (q .0) }
 
   pub few-length : fewObjects l ≡ true → length l ≤ 16
   unfolding fewObjects
@@ -163,15 +167,17 @@ module _ (s : List ℕ) where
         named = λ h. absurd (clash (r .fits) h f);
         fine = λ h. absurd (clash (r .fits) h f);
         few = λ h. absurd (clash (r .fits) h f);
+        count = λ h. absurd (clash (r .fits) h f);
       }
 
   pub parted-some : {a : ℕ} → firstOf s 91 93 0 ≡ At a → wellAt s 0 ≡ true → (r : code.Request) → r .name ≡ a → r .ops ≡ nextItem s a
-      → r .fits ≡ (isText (kindOf (treeAt s a)) && fewObjects (itemsFrom s (nextItem s a))) → Parted s r
+      → {k : Items} → Counted (itemsFrom s (nextItem s a)) k → r .fits ≡ (isText (kindOf (treeAt s a)) && k .few) → r .count ≡ k .count → Parted s r
   unfolding operationsAt
-  parted-some {a} e w r n o f =
+  parted-some {a} e w r n o {k} is said sized =
       let t = isText (kindOf (treeAt s a)) in
       let js = itemsFrom s (nextItem s a) in
       let q : itemsIn (treeAt s 0) ≡ treeAt s a ∷ js = items-in s 0 w .0 ∙ walk-rest s e in
+      let f : r .fits ≡ (t && fewObjects js) = said ∙ ap (λ (b : Bool). t && b) (is .few) in
       let p : r .fits ≡ true → (t && fewObjects js) ≡ true = λ h. sym f ∙ h in
       record {
         accepted =
@@ -182,6 +188,7 @@ module _ (s : List ℕ) where
         named = λ h. rw n (and-l t (fewObjects js) (p h));
         fine = λ h. rw o (walk-fine s e (items-in s 0 w .1) .1);
         few = λ h. rw o (few-length js (and-r t (fewObjects js) (p h)));
+        count = λ h. rw o (sized ∙ is .count (and-r t (k .few) (sym said ∙ h)));
       }
 
   -- ── the whole text ──
@@ -199,6 +206,7 @@ module _ (s : List ℕ) where
           named = p .named;
           fine = p .fine;
           few = p .few;
+          count = p .count;
         }
 
     refused-read : r .fits ≡ false → readRequest s ≡ none → RequestRead s ends r
@@ -211,6 +219,7 @@ module _ (s : List ℕ) where
           named = λ h. absurd (clash (r .fits) h f);
           fine = λ h. absurd (clash (r .fits) h f);
           few = λ h. absurd (clash (r .fits) h f);
+          count = λ h. absurd (clash (r .fits) h f);
         }
 
     pub read-too-long : r .fits ≡ false → mostRequestBytes < length s → RequestRead s ends r

@@ -6,23 +6,38 @@ use model::REQUEST_TEXT;
 use model::Read;
 ghost use mathlib.Core.Path.{_≡_};
 ghost use mathlib.Core.Bool.{true, false};
-ghost use Prim.Native.Nat.{_≤_};
-ghost use lib.ListN.{length};
 ghost use Rattle.inner.specs.Positions.{Says, wellAt, itemsFrom, itemsFine};
-ghost use Rattle.request.specs.Reading.{fewObjects, Parted, RequestRead};
+ghost use Rattle.request.specs.Reading.{Counted, Parted, RequestRead};
 
-// Whether a text is a request, where the database's name stands in it, and where its operations begin.
+// Whether a text is a request, where the database's name stands in it, where its operations begin, and how many they are.
 pub struct Request {
     pub fits: bool,
     pub name: usize,
     pub ops: Found,
+    pub count: usize,
 }
 
-// Whether the items from f on are objects, as many as a request may have.
-fn few_objects(text: &[u8], ends: &[u16], f: Found) -> bool
+// Whether items are objects, as many as a request may have, and how many they are then.
+pub struct Items {
+    pub few: bool,
+    pub count: usize,
+}
+
+// Too many items, or one that is no object.
+fn no_items() -> Items
+    ensures { λ r. ⌜ r .few ≡ false ⌝ }
+{
+    Items {
+        few: false,
+        count: 0,
+    }
+}
+
+// What the items from f on are as objects.
+fn few_objects(text: &[u8], ends: &[u16], f: Found) -> Items
     requires { ⌜ Says (now text) (now ends) ⌝ }
     requires { ⌜ itemsFine (now text) f ≡ true ⌝ }
-    ensures { λ r. ⌜ r ≡ fewObjects (itemsFrom (now (text .entry)) f) ⌝ }
+    ensures { λ r. ⌜ Counted (itemsFrom (now (text .entry)) f) r ⌝ }
 {
     let mut n: usize = 0;
     let mut g = f;
@@ -30,7 +45,7 @@ fn few_objects(text: &[u8], ends: &[u16], f: Found) -> bool
         match g {
             Found::At(p) => {
                 if OPERATIONS <= n {
-                    return false;
+                    return no_items();
                 }
                 let k = nav::kind_at(text, p);
                 let o = leaf::is_kind(k, Kind::Object);
@@ -38,10 +53,15 @@ fn few_objects(text: &[u8], ends: &[u16], f: Found) -> bool
                     n += 1;
                     g = nav::next_item(text, ends, p);
                 } else {
-                    return false;
+                    return no_items();
                 }
             }
-            Found::Nothing => return true,
+            Found::Nothing => {
+                return Items {
+                    few: true,
+                    count: n,
+                };
+            }
         }
     }
 }
@@ -54,6 +74,7 @@ fn refused() -> Request
         fits: false,
         name: 0,
         ops: Found::Nothing,
+        count: 0,
     }
 }
 
@@ -72,9 +93,10 @@ fn parts(text: &[u8], ends: &[u16]) -> Request
     let g = nav::next_item(text, ends, a);
     let o = few_objects(text, ends, g);
     Request {
-        fits: t & o,
+        fits: t & o.few,
         name: a,
         ops: g,
+        count: o.count,
     }
 }
 

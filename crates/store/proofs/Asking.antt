@@ -49,13 +49,14 @@ module _ (cells : List (List ℕ)) (n : ℕ) (before : List (List (List ℕ))) (
   unfolding replyOn
   bad h number room = ap (replyTo (databaseFrom cells) number rows (freshIds fresh) room) (is-none (readRequest request) (sym (read .accepted) ∙ h))
 
-  pub asked-bad : q .fits ≡ false → Asked cells n before request fresh ends (record { runs = false; status = BadRequest; ops = Nothing })
+  pub asked-bad : q .fits ≡ false → Asked cells n before request fresh ends (q .count) (record { runs = false; status = BadRequest; ops = Nothing })
   asked-bad h = record {
     refuses = λ t. refl;
     refused = λ t. bad h;
     concluded = λ t. absurd (clash false t refl);
     running = λ t. absurd (clash false t refl);
     few = λ t. absurd (clash false t refl);
+    counted = λ t. absurd (clash false t refl);
     ids = λ t. absurd (clash false t refl);
     operations = λ t. absurd (clash false t refl);
   }
@@ -71,13 +72,14 @@ module _ (cells : List (List ℕ)) (n : ℕ) (before : List (List (List ℕ))) (
     same-name : {b : Bool} → isWord (entryName (getD cells 0 [])) (treeAt request (q .name)) ≡ b → eqBytes (textIn (treeAt request (q .name))) (entryName (getD cells 0 [])) ≡ b
     same-name e = sym (word-is (entryName (getD cells 0 [])) (treeAt request (q .name)) (read .named h)) ∙ e
 
-    pub asked-other : isWord (entryName (getD cells 0 [])) (treeAt request (q .name)) ≡ false → Asked cells n before request fresh ends (record { runs = false; status = OtherDatabase; ops = Nothing })
+    pub asked-other : isWord (entryName (getD cells 0 [])) (treeAt request (q .name)) ≡ false → Asked cells n before request fresh ends (q .count) (record { runs = false; status = OtherDatabase; ops = Nothing })
     asked-other w = record {
       refuses = λ t. refl;
       refused = λ t number room. reads number room ∙ other number room;
       concluded = λ t. absurd (clash false t refl);
       running = λ t. absurd (clash false t refl);
       few = λ t. absurd (clash false t refl);
+      counted = λ t. absurd (clash false t refl);
       ids = λ t. absurd (clash false t refl);
       operations = λ t. absurd (clash false t refl);
     }
@@ -98,13 +100,14 @@ module _ (cells : List (List ℕ)) (n : ℕ) (before : List (List (List ℕ))) (
       unfolding freshGood
       stale g number room = by-test (λ (r : Reply). r ≡ refused BadFreshIds rows) (idsGood (freshIds fresh) rows) (λ t. absurd (clash _ t g)) (λ t. refl)
 
-      pub asked-fresh : freshGood fresh rows ≡ false → Asked cells n before request fresh ends (record { runs = false; status = BadFreshIds; ops = Nothing })
+      pub asked-fresh : freshGood fresh rows ≡ false → Asked cells n before request fresh ends (q .count) (record { runs = false; status = BadFreshIds; ops = Nothing })
       asked-fresh g = record {
         refuses = λ t. refl;
         refused = λ t number room. goes number room ∙ stale g number room;
         concluded = λ t. absurd (clash false t refl);
         running = λ t. absurd (clash false t refl);
         few = λ t. absurd (clash false t refl);
+        counted = λ t. absurd (clash false t refl);
         ids = λ t. absurd (clash false t refl);
         operations = λ t. absurd (clash false t refl);
       }
@@ -119,13 +122,14 @@ module _ (cells : List (List ℕ)) (n : ℕ) (before : List (List (List ℕ))) (
       unfolding freshGood
       ids-are g = g
 
-      pub asked-runs : freshGood fresh rows ≡ true → length fresh ≡ 256 → Asked cells n before request fresh ends (record { runs = true; status = Accepted; ops = q .ops })
+      pub asked-runs : freshGood fresh rows ≡ true → length fresh ≡ 256 → Asked cells n before request fresh ends (q .count) (record { runs = true; status = Accepted; ops = q .ops })
       asked-runs g l = record {
         refuses = λ t. absurd (clash true refl t);
         refused = λ t. absurd (clash true refl t);
         concluded = λ t number room. goes number room ∙ runs g number room;
         running = λ t. record { says = read .says h; fine = read .fine h; short = read .short h; ids = l };
         few = λ t. read .few h;
+        counted = λ t. read .count h;
         ids = λ t. ids-are g;
         operations = λ t. request-good request asks (read .request h) .operations;
       }

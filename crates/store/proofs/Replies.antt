@@ -28,9 +28,9 @@ use Rattle.store.specs.declared.reply.Question.{Question}
 use Rattle.store.specs.declared.reply.Outcome.{Outcome}
 use Rattle.store.specs.declared.reply.Effect.{Effect}
 use Rattle.store.specs.GoodOrder.{runIn, Held}
-use Rattle.store.specs.Replying.{transactOn, concludedOf, replyOn, Asked, Ended, Refused, noEffect, changesFrom, GivenOut, Replied}
-use Rattle.store.proofs.After.{fits, few-as}
-use Rattle.store.proofs.Telling.{area-rows, replied-refused, replied-long, replied-stays, replied-spent, replied-given}
+use Rattle.store.specs.Replying.{transactOn, concludedOf, replyOn, Asked, Ended, Refused, noEffect, changesFrom, GivenOut, Concluded}
+use Rattle.store.proofs.After.{fits}
+use Rattle.store.proofs.Telling.{Replied, area-rows, replied-refused, replied-long, replied-stays, replied-spent, replied-given}
 
 module _ (cells : List (List ℕ)) (run number n : ℕ) (before : List (List (List ℕ))) (request fresh recordsIn textIn : List ℕ) (low : number ≤ lastNumber) where
   abbrev s : Schema
@@ -44,11 +44,11 @@ module _ (cells : List (List ℕ)) (run number n : ℕ) (before : List (List (Li
     reply-refuses : {x : Status} → Refused why recordsMid recordsOut textMid textOut x → {r : Effect} → r ≡ noEffect x → Replied s d run number n before exit recordsIn recordsOut textIn textOut r
     reply-refuses y h = replied-refused s d run number n before exit recordsIn textIn low recordsMid sized says true-refusal textMid (h ∙ ap noEffect (y .is)) (y .records) (y .text) long room
 
-  reply-asked : {ends : List ℕ} {q : Question} → Asked cells n before request fresh ends q → q .runs ≡ false → {recordsOut textOut : List ℕ} {x : Status} → Refused (q .status) recordsIn recordsOut textIn textOut x
+  reply-asked : {ends : List ℕ} {count : ℕ} {q : Question} → Asked cells n before request fresh ends count q → q .runs ≡ false → {recordsOut textOut : List ℕ} {x : Status} → Refused (q .status) recordsIn recordsOut textIn textOut x
       → {r : Effect} → r ≡ noEffect x → Replied s d run number n before before recordsIn recordsOut textIn textOut r
   reply-asked a h = reply-refuses (a .refused h number (length textIn)) (a .refuses h) refl refl refl
 
-  module _ {ends : List ℕ} {q : Question} (a : Asked cells n before request fresh ends q) (runs : q .runs ≡ true)
+  module _ {ends : List ℕ} {count : ℕ} {q : Question} (a : Asked cells n before request fresh ends count q) (runs : q .runs ≡ true)
       {text : List ℕ} (blank : text ≡ replicate (length textIn) 0) {exit : List (List (List ℕ))} {textMid : List ℕ} {o : Outcome}
       (e : Ended s (transactOn s request (q .ops) fresh (working s n before)) n before exit text textMid o) (long : length textMid ≡ length textIn) where
     abbrev t : Transaction
@@ -65,9 +65,9 @@ module _ (cells : List (List ℕ)) (run number n : ℕ) (before : List (List (Li
       short : o .at ≤ length textIn
       short = omega (arith, h, long)
 
-      reply-stays : o .commits ≡ false → n ≤ 32 → {recordsOut : List ℕ} → recordsOut ≡ replicate (length recordsIn) 0
-          → Replied s d run number n before exit recordsIn recordsOut textIn textMid (record { status = Accepted; commits = false; count = n; changes = 0 })
-      reply-stays c k b = replied-stays s d run number n before exit recordsIn textIn low recordsIn refl concluded blank e short c k b
+      reply-stays : o .commits ≡ false → {recordsOut : List ℕ} → recordsOut ≡ replicate (length recordsIn) 0
+          → Replied s d run number n before exit recordsIn recordsOut textIn textMid (record { status = Accepted; commits = false; count = o .count; changes = 0 })
+      reply-stays c b = replied-stays s d run number n before exit recordsIn textIn low recordsIn refl concluded blank e short c b
 
       -- a commit, by the changes from the rows that the area has
       module _ (c : o .commits ≡ true) (es : List Change) (same : es ≡ diff s (working s n before) (working s (o .count) exit)) where
@@ -94,19 +94,19 @@ module _ (a : List ℕ) (cells : List (List ℕ)) (before : List (List (List ℕ
     counted : {exit : List (List (List ℕ))} {recordsOut textOut : List ℕ} {r : Effect} → At m exit recordsOut textOut r → At (rowCount a) exit recordsOut textOut r
     counted {exit} {recordsOut} {textOut} {r} x = subst (λ (n : ℕ). At n exit recordsOut textOut r) e x
 
-    pub refused-asked : {ends : List ℕ} {q : Question} → Asked cells m before request fresh ends q → q .runs ≡ false → {recordsOut textOut : List ℕ} {x : Status} → Refused (q .status) recordsIn recordsOut textIn textOut x
+    pub refused-asked : {ends : List ℕ} {count : ℕ} {q : Question} → Asked cells m before request fresh ends count q → q .runs ≡ false → {recordsOut textOut : List ℕ} {x : Status} → Refused (q .status) recordsIn recordsOut textIn textOut x
         → {r : Effect} → r ≡ noEffect x → At (rowCount a) before recordsOut textOut r
     refused-asked asked h x y = counted (reply-asked cells (runIn a) (numberIn a) m before request fresh recordsIn textIn low asked h x y)
 
-    module _ {ends : List ℕ} {q : Question} (asked : Asked cells m before request fresh ends q) (runs : q .runs ≡ true)
+    module _ {ends : List ℕ} {count : ℕ} {q : Question} (asked : Asked cells m before request fresh ends count q) (runs : q .runs ≡ true)
         {text : List ℕ} (blank : text ≡ replicate (length textIn) 0) {exit : List (List (List ℕ))} {textMid : List ℕ} {o : Outcome}
         (ended : Ended (packedTables cells) (transactOn (packedTables cells) request (q .ops) fresh (working (packedTables cells) m before)) m before exit text textMid o) (long : length textMid ≡ length textIn) where
-      pub refused-long : length textMid < o .at → {recordsOut textOut : List ℕ} {x : Status} → Refused AnswerTooLong recordsIn recordsOut textMid textOut x → {r : Effect} → r ≡ noEffect x → At (rowCount a) exit recordsOut textOut r
+      refused-long : length textMid < o .at → {recordsOut textOut : List ℕ} {x : Status} → Refused AnswerTooLong recordsIn recordsOut textMid textOut x → {r : Effect} → r ≡ noEffect x → At (rowCount a) exit recordsOut textOut r
       refused-long h x y = counted (reply-long cells (runIn a) (numberIn a) m before request fresh recordsIn textIn low asked runs blank ended long h x y)
 
       module _ (h : o .at ≤ length textMid) where
-        pub stays-as : o .commits ≡ false → {recordsOut : List ℕ} → recordsOut ≡ replicate (length recordsIn) 0 → At (rowCount a) exit recordsOut textMid (record { status = Accepted; commits = false; count = m; changes = 0 })
-        stays-as c b = counted (reply-stays cells (runIn a) (numberIn a) m before request fresh recordsIn textIn low asked runs blank ended long h c (few-as k m e) b)
+        stays-as : o .commits ≡ false → {recordsOut : List ℕ} → recordsOut ≡ replicate (length recordsIn) 0 → At (rowCount a) exit recordsOut textMid (record { status = Accepted; commits = false; count = o .count; changes = 0 })
+        stays-as c b = counted (reply-stays cells (runIn a) (numberIn a) m before request fresh recordsIn textIn low asked runs blank ended long h c b)
 
         module _ (c : o .commits ≡ true) where
           abbrev es : List Change
@@ -116,7 +116,7 @@ module _ (a : List ℕ) (cells : List (List ℕ)) (before : List (List (List ℕ
           unfolding changesFrom
           same = ap (λ (l : List Row). diff (packedTables cells) l (working (packedTables cells) (o .count) exit)) (area-rows (packedTables cells) (rowCount a) before a (k .read) ∙ ap (λ (n : ℕ). working (packedTables cells) n before) (sym e))
 
-          pub commits-as : {recordsOut textOut : List ℕ} {r : Effect} → GivenOut (packedTables cells) a exit (o .count) recordsIn recordsOut textMid textOut r → At (rowCount a) exit recordsOut textOut r
+          commits-as : {recordsOut textOut : List ℕ} {r : Effect} → GivenOut (packedTables cells) a exit (o .count) recordsIn recordsOut textMid textOut r → At (rowCount a) exit recordsOut textOut r
           commits-as {recordsOut} {textOut} {r} g =
               counted (split (leb (numberIn a + length es) lastNumber)
               (λ l.
@@ -127,3 +127,12 @@ module _ (a : List ℕ) (cells : List (List ℕ)) (before : List (List (List ℕ
               let z = leb-false _ _ l in
               let x = g .spent z in
               reply-spent cells (runIn a) (numberIn a) m before request fresh recordsIn textIn low asked runs blank ended long h c es same z (x .0) (x .1) (x .2)))
+
+      -- by what was concluded
+      pub concluded-as : {recordsOut textOut : List ℕ} {r : Effect} → Concluded (packedTables cells) a exit o recordsIn recordsOut textMid textOut r → At (rowCount a) exit recordsOut textOut r
+      concluded-as x =
+          split (leb (o .at) (length textMid))
+          (λ l.
+          let h = leb-true _ _ l in
+          split (o .commits) (λ c. commits-as h c (x .given h c)) (λ c. let y = x .stays h c in rw (y .0, y .2) (stays-as h c (y .1))))
+          (λ l. let h = leb-false _ _ l in let y = x .long h in refused-long h (record { is = refl; records = y .1; text = y .2 }) (y .0))

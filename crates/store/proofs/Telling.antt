@@ -11,12 +11,12 @@ use lib.Seq.{take-all}
 use Rattle.model.specs.declared.Status.{Status}
 use Rattle.model.specs.declared.Status.the-variants.{Accepted, AnswerTooLong, NumbersSpent}
 use Rattle.model.specs.Octets.{filled}
-use Rattle.model.specs.Limits.{lastNumber, rowsOffset}
+use Rattle.model.specs.Limits.{lastNumber, mostRows, rowsOffset}
 use Rattle.model.specs.Base.{flat}
 use Rattle.model.specs.Schema.{Schema}
 use Rattle.model.specs.Rows.{Row}
 use Rattle.model.specs.Areas.{rowFrom}
-use Rattle.inner.specs.Working.{working, keyIn, Ordered}
+use Rattle.inner.specs.Working.{working, keyIn, Tidy, Ordered}
 use Rattle.inner.proofs.Ordering.{keys-ordered}
 use Rattle.area.specs.Layout.{rowsAt}
 use Rattle.area.proofs.Copies.{rows-length}
@@ -31,7 +31,7 @@ use Rattle.json_writer.specs.Put.{putAt}
 use Rattle.json_writer.proofs.Putting.{put-zeros}
 use Rattle.store.specs.declared.reply.Outcome.{Outcome}
 use Rattle.store.specs.declared.reply.Effect.{Effect}
-use Rattle.store.specs.Replying.{concludedOf, Ended, noEffect, Replied}
+use Rattle.store.specs.Replying.{concludedOf, Ended, noEffect}
 
 -- a buffer to which nothing was written
 filled-none : (n : ℕ) → replicate n 0 ≡ filled n []
@@ -85,6 +85,24 @@ area-ordered n rows a e o =
     keys-ordered n n rows (rowsAt n a) (omega (arith, l)) (ap (map keyIn) (take-all n (rowsAt n a) (omega (arith, l)) ∙ sym e)) o
 
 -- ── the whole ──
+-- a whole transact: the status; the rows, where it commits, and that they stay, where it does not; the record numbers that it gives out; and both buffers.
+-- Where it does not commit the working rows are free, as many as before: the area has the store's rows
+pub record Replied (s : Schema) (d : Reply) (run number n : ℕ) (before exit : List (List (List ℕ))) (recordsIn recordsOut textIn textOut : List ℕ) (r : Effect) : Type 0 where
+  pub status : r .status ≡ d .status
+  pub refuses : isRefusal (r .status) ≡ true → r .commits ≡ false
+  pub rows : r .commits ≡ true → working s (r .count) exit ≡ d .rows
+  pub stays : r .commits ≡ false → d .rows ≡ working s n before
+  pub few : r .count ≤ mostRows
+  pub long : r .commits ≡ true → r .count ≤ length exit
+  pub tidy : r .commits ≡ true → Tidy s (take n before) → Tidy s (take (r .count) exit)
+  pub room : length exit ≡ length before
+  pub changes : r .changes ≡ length (d .changes)
+  pub none : r .commits ≡ false → r .changes ≡ 0
+  pub last : number + r .changes ≤ lastNumber
+  pub records : recordsOut ≡ filled (length recordsIn) (flat (map encode (numberFrom run number (d .changes))))
+  pub text : textOut ≡ filled (length textIn) (d .text)
+  pub blank : isRefusal (r .status) ≡ true → (recordsOut ≡ zeroed recordsIn) × (textOut ≡ zeroed textIn)
+
 module _ (s : Schema) (d : Reply) (run number n : ℕ) (before exit : List (List (List ℕ))) (recordsIn textIn : List ℕ) (low : number ≤ lastNumber) (records : List ℕ) (same : length records ≡ length recordsIn) where
   pub replied-refused : {why : Status} → d ≡ refused why (working s n before) → isRefusal why ≡ true → (text : List ℕ) {recordsOut textOut : List ℕ} {r : Effect} → r ≡ noEffect why → recordsOut ≡ zeroed records → textOut ≡ zeroed text
       → length text ≡ length textIn → length exit ≡ length before → Replied s d run number n before exit recordsIn recordsOut textIn textOut r
@@ -98,6 +116,7 @@ module _ (s : Schema) (d : Reply) (run number n : ℕ) (before exit : List (List
         rows = λ t. absurd (clash (r .commits) t no);
         stays = λ t. ap (λ (d : Reply). d .rows) e;
         few = omega (arith, ap (λ (r : Effect). r .count) x);
+        long = λ t. absurd (clash (r .commits) t no);
         tidy = λ t. absurd (clash (r .commits) t no);
         room = g;
         changes = ap (λ (r : Effect). r .changes) x ∙ sym (ap (λ (d : Reply). length (d .changes)) e);
@@ -119,16 +138,17 @@ module _ (s : Schema) (d : Reply) (run number n : ℕ) (before exit : List (List
       text-is : textOut ≡ filled (length textIn) (t .text)
       text-is = e .text .out ∙ ap (λ (l : List ℕ). putAt l 0 (t .text)) blank ∙ put-zeros (length textIn) (t .text)
 
-      pub replied-stays : o .commits ≡ false → n ≤ 32 → {recordsOut : List ℕ} → recordsOut ≡ replicate (length records) 0
-          → Replied s d run number n before exit recordsIn recordsOut textIn textOut (record { status = Accepted; commits = false; count = n; changes = 0 })
-      replied-stays c k b =
+      pub replied-stays : o .commits ≡ false → {recordsOut : List ℕ} → recordsOut ≡ replicate (length records) 0
+          → Replied s d run number n before exit recordsIn recordsOut textIn textOut (record { status = Accepted; commits = false; count = o .count; changes = 0 })
+      replied-stays c b =
           let w = concluded ∙ concluded-stays s number (working s n before) (length textIn) t fits (e .none c) low in
           record {
             status = sym (ap (λ (d : Reply). d .status) w);
             refuses = λ x. refl;
             rows = λ x. absurd (clash false x refl);
             stays = λ x. ap (λ (d : Reply). d .rows) w ∙ e .stays c;
-            few = k;
+            few = e .few;
+            long = λ x. absurd (clash false x refl);
             tidy = λ x. absurd (clash false x refl);
             room = e .room;
             changes = sym (ap (λ (d : Reply). length (d .changes)) w);
@@ -160,6 +180,7 @@ module _ (s : Schema) (d : Reply) (run number n : ℕ) (before exit : List (List
               rows = λ x. rows-are ∙ sym (ap (λ (d : Reply). d .rows) w);
               stays = λ x. absurd (clash true refl x);
               few = e .few;
+              long = λ x. e .ordered c .there;
               tidy = λ x. e .tidy c;
               room = e .room;
               changes = count-is ∙ sym (ap (λ (d : Reply). length (d .changes)) w);

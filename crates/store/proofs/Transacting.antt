@@ -34,7 +34,8 @@ use Rattle.area.specs.Writing.{numberIn, storeIn, placed, rowsPart}
 use Rattle.store.specs.GoodOrder.{runIn, Held}
 use Rattle.store.proofs.After.{sound, reply-is, area-after}
 use Rattle.store.specs.declared.reply.Effect.{Effect}
-use Rattle.store.specs.Replying.{replyOn, Refused, Replied}
+use Rattle.store.specs.Replying.{replyOn, Refused}
+use Rattle.store.proofs.Telling.{Replied}
 
 pub and-true : (b : Bool) → b ≡ (b && true)
 and-true true = refl
@@ -59,7 +60,7 @@ module _ (area request fresh records text : List ℕ) where
   abbrev Leaves : Status → List ℕ → List ℕ → List ℕ → Type 0
   Leaves r a x t = (numberOf r ≡ transactNumber area request fresh records text) × (call ≡ record { status = r; area = a; records = x; text = t })
 
-  leaves : {r : Status} {a x t : List ℕ} → call ≡ record { status = r; area = a; records = x; text = t } → Leaves r a x t
+  pub leaves : {r : Status} {a x t : List ℕ} → call ≡ record { status = r; area = a; records = x; text = t } → Leaves r a x t
   leaves e = (ap (λ (z : Transacted). numberOf (z .status)) (sym e) ∙ transact-first area request fresh records text, e)
 
   refused-is : {why r : Status} {x t : List ℕ} → Refused why records x text t r → transactRefused why area records text ≡ record { status = r; area = area; records = x; text = t }
@@ -145,10 +146,10 @@ module _ (area request fresh records text : List ℕ) where
             leaves (by-answer true f ∙ (λ i. record { status = sym (w .status) i; area = area; records = sym (b .0) i; text = sym (b .1) i })))
             (λ f. accepted f (stays (w .stays c)))
 
-        pub transact-commits : r .commits ≡ true → r .count ≤ length exit → (number : ℕ) → number ≡ numberIn area → (middle after : List ℕ) → middle ≡ placed 4 4 (big 4 (number + r .changes)) area → after ≡ placed countOffset 20001 (rowsPart (r .count) exit) middle → Leaves (r .status) after recordsOut textOut
+        pub transact-commits : r .commits ≡ true → (number : ℕ) → number ≡ numberIn area → (middle after : List ℕ) → middle ≡ placed 4 4 (big 4 (number + r .changes)) area → after ≡ placed countOffset 20001 (rowsPart (r .count) exit) middle → Leaves (r .status) after recordsOut textOut
         unfolding storeIn
-        transact-commits c h number q middle after u v =
+        transact-commits c number q middle after u v =
             let f : isRefusal (d .status) ≡ false = split (isRefusal (d .status)) (λ f. absurd (clash (r .commits) c (w .refuses (ap isRefusal (w .status) ∙ f)))) (λ f. f) in
             accepted f (
-            v ∙ ap (placed countOffset 20001 (rowsPart (r .count) exit)) u ∙ area-after area cells rows k (number + r .changes) (r .count) exit h (w .tidy c (k .tidy))
+            v ∙ ap (placed countOffset 20001 (rowsPart (r .count) exit)) u ∙ area-after area cells rows k (number + r .changes) (r .count) exit (w .long c) (w .tidy c (k .tidy))
             ∙ (λ i. encodeStore (record { run = runIn area; number = q i + w .changes i; database = databaseFrom cells; rows = w .rows c i })))

@@ -6,7 +6,7 @@ use mathlib.Core.List.{List, [], _∷_, _++_, map}
 use lib.ListN.{length, take}
 use Rattle.model.specs.declared.Found.{Found}
 use Rattle.model.specs.declared.Status.{Status}
-use Rattle.model.specs.declared.Status.the-variants.{Accepted, NumbersSpent}
+use Rattle.model.specs.declared.Status.the-variants.{Accepted, AnswerTooLong, NumbersSpent}
 use Rattle.model.specs.declared.Fault.{Fault}
 use Rattle.model.specs.Octets.{filled}
 use Rattle.model.specs.Limits.{lastNumber, mostRows, mostOperations, mostRequestBytes, freshBytes}
@@ -105,14 +105,15 @@ ClosedOn schema n entry exit first at before after r = Closed (packedTables sche
 abbrev pub EndedOn : List (List ℕ) → List ℕ → Found → List ℕ → ℕ → List (List (List ℕ)) → List (List (List ℕ)) → List ℕ → List ℕ → Outcome → Type 0
 EndedOn schema text ops fresh n entry exit before after r = Ended (packedTables schema) (transactOn (packedTables schema) text ops fresh (working (packedTables schema) n entry)) n entry exit before after r
 
--- a request: whether it is run, and else the refusal (4, 5 or 6)
-pub record Asked (cells : List (List ℕ)) (n : ℕ) (before : List (List (List ℕ))) (request fresh ends : List ℕ) (r : Question) : Type 0 where
+-- a request, of which `count` operations were read: whether it is run, and else the refusal (4, 5 or 6)
+pub record Asked (cells : List (List ℕ)) (n : ℕ) (before : List (List (List ℕ))) (request fresh ends : List ℕ) (count : ℕ) (r : Question) : Type 0 where
   pub refuses : r .runs ≡ false → isRefusal (r .status) ≡ true
   pub refused : r .runs ≡ false → (number room : ℕ) → replyOn cells number n before request fresh room ≡ refused (r .status) (working (packedTables cells) n before)
   pub concluded : r .runs ≡ true → (number room : ℕ)
       → replyOn cells number n before request fresh room ≡ concludedOf (packedTables cells) number (working (packedTables cells) n before) room (transactOn (packedTables cells) request (r .ops) fresh (working (packedTables cells) n before))
   pub running : r .runs ≡ true → Readable request ends (r .ops) fresh
   pub few : r .runs ≡ true → length (itemsFrom request (r .ops)) ≤ mostOperations
+  pub counted : r .runs ≡ true → count ≡ length (itemsFrom request (r .ops))
   pub ids : r .runs ≡ true → idsGood (freshIds fresh) (working (packedTables cells) n before) ≡ true
   pub operations : r .runs ≡ true → all operationGood (operationsAt request (r .ops)) ≡ true
 
@@ -138,24 +139,12 @@ pub record GivenOut (s : Schema) (a : List ℕ) (rows : List (List (List ℕ))) 
       × (recordsOut ≡ filled (length recordsIn) (flat (map encode (numberFrom (runIn a) (numberIn a) (changesFrom s a rows count)))))
       × (textOut ≡ textIn)
 
--- a whole transact: the status; the rows, where it commits, and that they stay, where it does not; the record numbers that it gives out; and both buffers.
--- Where it does not commit the working rows are free, as many as before: the area has the store's rows
-pub record Replied (s : Schema) (d : replies.Reply) (run number n : ℕ) (before exit : List (List (List ℕ))) (recordsIn recordsOut textIn textOut : List ℕ) (r : Effect) : Type 0 where
-  pub status : r .status ≡ d .status
-  pub refuses : isRefusal (r .status) ≡ true → r .commits ≡ false
-  pub rows : r .commits ≡ true → working s (r .count) exit ≡ d .rows
-  pub stays : r .commits ≡ false → d .rows ≡ working s n before
-  pub few : r .count ≤ mostRows
-  pub tidy : r .commits ≡ true → Tidy s (take n before) → Tidy s (take (r .count) exit)
-  pub room : length exit ≡ length before
-  pub changes : r .changes ≡ length (d .changes)
-  pub none : r .commits ≡ false → r .changes ≡ 0
-  pub last : number + r .changes ≤ lastNumber
-  pub records : recordsOut ≡ filled (length recordsIn) (flat (map encode (numberFrom run number (d .changes))))
-  pub text : textOut ≡ filled (length textIn) (d .text)
-  pub blank : isRefusal (r .status) ≡ true → (recordsOut ≡ zeroed recordsIn) × (textOut ≡ zeroed textIn)
+-- what is left of a transaction: refusal 7 where its answer is longer than the buffer, and else its records, where it commits a change
+pub record Concluded (s : Schema) (a : List ℕ) (rows : List (List (List ℕ))) (o : Outcome) (recordsIn recordsOut textIn textOut : List ℕ) (r : Effect) : Type 0 where
+  pub long : length textIn < o .at → (r ≡ noEffect AnswerTooLong) × (recordsOut ≡ zeroed recordsIn) × (textOut ≡ zeroed textIn)
+  pub stays : o .at ≤ length textIn → o .commits ≡ false → (r ≡ record { status = Accepted; commits = false; count = o .count; changes = 0 }) × (recordsOut ≡ zeroed recordsIn) × (textOut ≡ textIn)
+  pub given : o .at ≤ length textIn → o .commits ≡ true → GivenOut s a rows (o .count) recordsIn recordsOut textIn textOut r
 
--- the same of a store's area, whose rows were read
-abbrev pub RepliedOn : List (List ℕ) → List ℕ → List ℕ → List ℕ → List (List (List ℕ)) → List (List (List ℕ)) → List ℕ → List ℕ → List ℕ → List ℕ → Effect → Type 0
-RepliedOn schema area request fresh before exit recordsIn recordsOut textIn textOut r =
-    Replied (packedTables schema) (replyOn schema (numberIn area) (rowCount area) before request fresh (length textIn)) (runIn area) (numberIn area) (rowCount area) before exit recordsIn recordsOut textIn textOut r
+-- so many rows and operations together have few working rows
+abbrev pub fewRows : ℕ
+fewRows = 8

@@ -3,14 +3,14 @@ use model::Catalog;
 use model::Row;
 use model::STORE_BYTES;
 ghost use mathlib.Core.Path.{_≡_};
-ghost use Prim.Native.Nat.{_≤_};
 ghost use lib.ListN.{length};
-ghost use Rattle.model.specs.Limits.{mostRows, storeBytes};
+ghost use Rattle.model.specs.Limits.{storeBytes};
+ghost use Rattle.area.specs.Layout.{RowsFit};
 ghost use Rattle.store.specs.GoodOrder.{Kept, RowsOpened, Opened};
 
 // Whether an area with an accepted catalog is in good order, its rows read into working rows.
 fn rows_opened(area: &[u8], schema: &Catalog, rows: &mut [Row]) -> bool
-    requires { ⌜ (length (now area) ≡ storeBytes) × (mostRows ≤ length (now rows)) ⌝ }
+    requires { ⌜ (length (now area) ≡ storeBytes) × RowsFit (now area) (now rows) ⌝ }
     requires { ⌜ Kept (now area) (now schema) ⌝ }
     ensures { λ r. ⌜ RowsOpened (now (area .entry)) (now (schema .entry)) (now (rows .entry)) (now (rows .exit)) r ⌝ }
 {
@@ -26,7 +26,7 @@ fn rows_opened(area: &[u8], schema: &Catalog, rows: &mut [Row]) -> bool
 
 // Whether a store's area is in good order; its catalog is read on the way, and its rows into working rows.
 pub fn opened(area: &[u8], schema: &mut Catalog, rows: &mut [Row]) -> bool
-    requires { ⌜ mostRows ≤ length (now rows) ⌝ }
+    requires { ⌜ RowsFit (now area) (now rows) ⌝ }
     ensures { λ r. ⌜ Opened (now (area .entry)) (now (schema .entry)) (now (schema .exit)) (now (rows .entry)) (now (rows .exit)) r ⌝ }
 {
     if area.len() != STORE_BYTES {

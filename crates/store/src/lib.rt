@@ -10,6 +10,7 @@ use model::FRESH_BYTES;
 use model::LEAST_ANSWER;
 use model::LEAST_MARK;
 use model::LEAST_RECORDS;
+use model::REQUEST_TEXT;
 use model::ROWS;
 use model::STORE_BYTES;
 use model::Status;
@@ -19,6 +20,9 @@ ghost use Rattle.model.specs.Refusals.{numberOf};
 ghost use Rattle.model.specs.Calls.{lengthsGood, storeStart, storeTransact, storeMark};
 ghost use Rattle.model.specs.FirstRefusal.{storeStartNumber, transactNumber, markNumber};
 ghost use Rattle.store.specs.Replying.{Refused};
+
+// A request of so many bytes has a small table of ends, which is cleared sooner.
+const SHORT_REQUEST: usize = 1024;
 
 // Makes a store of a schema's text and a run, with no rows and number 0.
 pub fn start(area: &mut [u8], schema: &[u8], run: u32) -> Status
@@ -77,20 +81,12 @@ pub fn transact(
     if !lengths_good(area, fresh, records, answer) {
         return refuse(Status::WrongLength, records, answer);
     }
-    let mut catalog = [[0u8; ENTRY]; ENTRIES];
-    let mut rows = [[[0u8; ATOM]; CELLS]; ROWS];
-    if !good_order::opened(area, &mut catalog, &mut rows) {
-        return refuse(Status::Disordered, records, answer);
+    if request.len() <= SHORT_REQUEST {
+        let mut ends = [0u16; SHORT_REQUEST];
+        return reply::read_and_reply(area, request, &mut ends[..], fresh, records, answer);
     }
-    let e = reply::reply(&catalog, area, &mut rows, request, fresh, records, answer);
-    let given = e.status;
-    let commits = e.commits;
-    if commits {
-        let next = area::number_of(area) + e.changes as u32;
-        area::write_number(area, next);
-        area::write_rows(area, &rows, e.count);
-    }
-    given
+    let mut ends = [0u16; REQUEST_TEXT];
+    reply::read_and_reply(area, request, &mut ends[..], fresh, records, answer)
 }
 
 // Writes the mark of a store: its run and the last number that it gave out.

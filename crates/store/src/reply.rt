@@ -1,26 +1,36 @@
 // A request on a store's rows: from its text to the answer, the rows after it and the records.
+use super::good_order;
 use super::refuse;
+use model::ATOM;
+use model::CELLS;
 use model::Catalog;
-use model::Fault;
+use model::ENTRIES;
+use model::ENTRY;
 use model::Found;
 use model::LAST_NUMBER;
-use model::REQUEST_TEXT;
+use model::ROWS;
 use model::Row;
 use model::Status;
+use request::Request;
 ghost use mathlib.Core.Path.{_≡_};
-ghost use Prim.Native.Nat.{_≤_, _<_, _+_, _^_};
+ghost use mathlib.Core.Bool.{true};
+ghost use mathlib.Core.List.{List};
+ghost use Prim.Native.Nat.{ℕ, _≤_, _<_, _+_, _^_};
+ghost use lib.Dec.{leb};
 ghost use lib.ListN.{length};
 ghost use Rattle.model.specs.Limits.{mostOperations, mostRows, freshBytes, leastRecords, storeBytes};
 ghost use Rattle.inner.specs.Positions.{itemsFrom, isNothing};
 ghost use Rattle.inner.specs.Working.{working, Ordered};
-ghost use Rattle.area.specs.Layout.{rowCount, rowsAt};
+ghost use Rattle.area.specs.Layout.{rowCount, rowsAt, RowsFit};
 ghost use Rattle.model.specs.Catalog.{packedTables};
 ghost use Rattle.catalog.specs.Accepted.{Accepted};
-ghost use Rattle.store.specs.GoodOrder.{Held};
-ghost use Rattle.store.specs.Replying.{Readable, Sure, ClosedOn, EndedOn, Asked, noEffect, GivenOut, RepliedOn};
+ghost use Rattle.model.specs.Calls.{lengthsGood, storeTransact};
+ghost use Rattle.request.specs.Reading.{RequestRead};
+ghost use Rattle.operations.specs.Ran.{Room};
+ghost use Rattle.store.specs.Replying.{Readable, Sure, ClosedOn, EndedOn, Asked, noEffect, GivenOut, Concluded, fewRows};
 
-// A request of so many bytes has a small table of ends, which is cleared sooner.
-const SHORT_REQUEST: usize = 1024;
+// So many rows and operations together have few working rows, which are cleared sooner.
+const FEW_ROWS: usize = 8;
 
 // What a transaction comes to: whether it commits a change, how many rows there are then, and where the answer ends.
 pub struct Outcome {
@@ -102,7 +112,7 @@ fn transact(
     requires { ⌜ Readable (now text) (now ends) ops (now fresh) ⌝ }
     requires { ⌜ Accepted (now schema) ⌝ }
     requires { ⌜ length (itemsFrom (now text) ops) ≤ mostOperations ⌝ }
-    requires { ⌜ (n ≤ mostRows) × (mostRows ≤ length (now rows)) ⌝ }
+    requires { ⌜ (n ≤ mostRows) × Room n (length (itemsFrom (now text) ops)) (now rows) ⌝ }
     requires { ⌜ Sure (packedTables (now schema)) (now text) ops (now fresh) (working (packedTables (now schema)) n (now rows)) ⌝ }
     ensures { λ r. ⌜ EndedOn (now (schema .entry)) (now (text .entry)) ops (now (fresh .entry)) n (now (rows .entry)) (now (rows .exit)) (now (answer .entry)) (now (answer .exit)) r ⌝ }
 {
@@ -121,19 +131,18 @@ fn transact(
     }
 }
 
-// Reads a request, and judges its database's name and the fresh ids.
+// Judges a request that was read: whether it is one, its database's name, and the fresh ids.
 fn judge(
     schema: &Catalog,
     rows: &[Row],
     n: usize,
     request: &[u8],
-    ends: &mut [u16],
+    q: Request,
     fresh: &[u8],
 ) -> Question
     requires { ⌜ (length (now fresh) ≡ freshBytes) × Ordered n (now rows) ⌝ }
-    ensures { λ r. ⌜ Asked (now (schema .entry)) n (now (rows .entry)) (now (request .entry)) (now (fresh .entry)) (now (ends .exit)) r ⌝ }
+    ensures { λ r. ⌜ ((ends : List ℕ) → RequestRead (now (request .entry)) ends q → Asked (now (schema .entry)) n (now (rows .entry)) (now (request .entry)) (now (fresh .entry)) ends (q .count) r) ⌝ }
 {
-    let q = request::read(request, ends);
     if !q.fits {
         return Question {
             runs: false,
@@ -205,79 +214,120 @@ fn give_out(
     }
 }
 
-// A request on a store whose area is in good order, with a table for where its values end.
-fn reply_by(
+// What is left of a transaction: it is refused where its answer is longer than the buffer, and else it has records where it commits a change.
+fn conclude(
     schema: &Catalog,
     area: &[u8],
+    rows: &[Row],
+    o: Outcome,
+    records: &mut [u8],
+    answer: &mut [u8],
+) -> Effect
+    requires { ⌜ Accepted (now schema) ⌝ }
+    requires { ⌜ (storeBytes ≤ length (now area)) × (rowCount (now area) ≤ mostRows) × (o .count ≤ mostRows) × (leastRecords ≤ length (now records)) ⌝ }
+    requires { ⌜ Ordered (rowCount (now area)) (rowsAt (rowCount (now area)) (now area)) × (o .commits ≡ true → Ordered (o .count) (now rows)) ⌝ }
+    ensures { λ r. ⌜ Concluded (packedTables (now (schema .entry))) (now (area .entry)) (now (rows .entry)) o (now (records .entry)) (now (records .exit)) (now (answer .entry)) (now (answer .exit)) r ⌝ }
+{
+    let commits = o.commits;
+    if answer.len() < o.at {
+        return no_effect(refuse(Status::AnswerTooLong, records, answer));
+    }
+    if commits {
+        return give_out(schema, area, rows, o.count, records, answer);
+    }
+    octets::clear(records);
+    Effect {
+        status: Status::Accepted,
+        commits: false,
+        count: o.count,
+        changes: 0,
+    }
+}
+
+// A request that was read, on a store's area, with working rows that are enough for it.
+fn reply(
+    area: &mut [u8],
     rows: &mut [Row],
+    request: &[u8],
+    ends: &[u16],
+    asked: Request,
+    fresh: &[u8],
+    records: &mut [u8],
+    answer: &mut [u8],
+) -> Status
+    requires { ⌜ lengthsGood (now area) (now fresh) (now records) (now answer) ≡ true ⌝ }
+    requires { ⌜ RequestRead (now request) (now ends) asked ⌝ }
+    requires { ⌜ RowsFit (now area) (now rows) × Room (rowCount (now area)) (asked .count) (now rows) ⌝ }
+    ensures { λ r. ⌜ storeTransact (now (area .entry)) (now (request .entry)) (now (fresh .entry)) (now (records .entry)) (now (answer .entry)) ≡ record { status = r; area = now (area .exit); records = now (records .exit); text = now (answer .exit) } ⌝ }
+{
+    let mut catalog = [[0u8; ENTRY]; ENTRIES];
+    if !good_order::opened(area, &mut catalog, rows) {
+        return refuse(Status::Disordered, records, answer);
+    }
+    let n = area::row_count(area);
+    let q = judge(&catalog, rows, n, request, asked, fresh);
+    let why = q.status;
+    if !q.runs {
+        return refuse(why, records, answer);
+    }
+    let ops = q.ops;
+    octets::clear(answer);
+    let o = transact(request, ends, ops, fresh, &catalog, rows, n, answer);
+    let e = conclude(&catalog, area, rows, o, records, answer);
+    let given = e.status;
+    let commits = e.commits;
+    if commits {
+        let next = area::number_of(area) + e.changes as u32;
+        area::write_number(area, next);
+        area::write_rows(area, rows, e.count);
+    }
+    given
+}
+
+// Whether few working rows are enough for n rows and so many operations.
+fn is_few(n: usize, count: usize) -> bool
+    ensures { λ r. ⌜ r ≡ leb (n + count) fewRows ⌝ }
+{
+    if FEW_ROWS < n {
+        return false;
+    }
+    count <= FEW_ROWS - n
+}
+
+// A request on a store's area, with a table for where its values end. It is read first: the working rows are no more than it may need.
+pub fn read_and_reply(
+    area: &mut [u8],
     request: &[u8],
     ends: &mut [u16],
     fresh: &[u8],
     records: &mut [u8],
     answer: &mut [u8],
-) -> Effect
-    requires { ⌜ Held (now area) (now schema) (now rows) ⌝ }
-    requires { ⌜ (mostRows ≤ length (now rows)) × (length (now fresh) ≡ freshBytes) × (leastRecords ≤ length (now records)) ⌝ }
-    ensures { λ r. ⌜ RepliedOn (now (schema .entry)) (now (area .entry)) (now (request .entry)) (now (fresh .entry)) (now (rows .entry)) (now (rows .exit)) (now (records .entry)) (now (records .exit)) (now (answer .entry)) (now (answer .exit)) r ⌝ }
+) -> Status
+    requires { ⌜ lengthsGood (now area) (now fresh) (now records) (now answer) ≡ true ⌝ }
+    ensures { λ r. ⌜ storeTransact (now (area .entry)) (now (request .entry)) (now (fresh .entry)) (now (records .entry)) (now (answer .entry)) ≡ record { status = r; area = now (area .exit); records = now (records .exit); text = now (answer .exit) } ⌝ }
 {
+    let q = request::read(request, ends);
     let n = area::row_count(area);
-    let q = judge(schema, rows, n, request, ends, fresh);
-    let why = q.status;
-    if !q.runs {
-        return no_effect(refuse(why, records, answer));
-    }
-    let ops = q.ops;
-    octets::clear(answer);
-    let o = transact(request, ends, ops, fresh, schema, rows, n, answer);
-    if answer.len() < o.at {
-        return no_effect(refuse(Status::AnswerTooLong, records, answer));
-    }
-    if !o.commits {
-        octets::clear(records);
-        return Effect {
-            status: Status::Accepted,
-            commits: false,
-            count: n,
-            changes: 0,
-        };
-    }
-    give_out(schema, area, rows, o.count, records, answer)
-}
-
-// A request on a store whose area is in good order; its rows are read, and the area has them until it is written. The table of ends is no longer than a short request needs.
-pub fn reply(
-    schema: &Catalog,
-    area: &[u8],
-    rows: &mut [Row],
-    request: &[u8],
-    fresh: &[u8],
-    records: &mut [u8],
-    answer: &mut [u8],
-) -> Effect
-    requires { ⌜ Held (now area) (now schema) (now rows) ⌝ }
-    requires { ⌜ (mostRows ≤ length (now rows)) × (length (now fresh) ≡ freshBytes) × (leastRecords ≤ length (now records)) ⌝ }
-    ensures { λ r. ⌜ RepliedOn (now (schema .entry)) (now (area .entry)) (now (request .entry)) (now (fresh .entry)) (now (rows .entry)) (now (rows .exit)) (now (records .entry)) (now (records .exit)) (now (answer .entry)) (now (answer .exit)) r ⌝ }
-{
-    if request.len() <= SHORT_REQUEST {
-        let mut ends = [0u16; SHORT_REQUEST];
-        return reply_by(
-            schema,
+    if is_few(n, q.count) {
+        let mut rows = [[[0u8; ATOM]; CELLS]; FEW_ROWS];
+        return reply(
             area,
-            rows,
+            &mut rows[..],
             request,
-            &mut ends[..],
+            ends,
+            q,
             fresh,
             records,
             answer,
         );
     }
-    let mut ends = [0u16; REQUEST_TEXT];
-    reply_by(
-        schema,
+    let mut rows = [[[0u8; ATOM]; CELLS]; ROWS];
+    reply(
         area,
-        rows,
+        &mut rows[..],
         request,
-        &mut ends[..],
+        ends,
+        q,
         fresh,
         records,
         answer,

@@ -520,7 +520,7 @@ fn char_is(text: &[u8], at: usize, e: usize, word: &[u8], o: usize) -> Found
 }
 
 // Whether the characters of the string whose first quote stands before `at` are those of `word`.
-fn body_is(text: &[u8], at: usize, word: &[u8]) -> bool
+pub fn body_is(text: &[u8], at: usize, word: &[u8]) -> bool
     ensures { λ r. ⌜ r ≡ eqBytes (bodyAt (now (text .entry)) at .tree) (now (word .entry)) ⌝ }
 {
     let mut i = at;

@@ -4,7 +4,7 @@ use mathlib.Core.List.{List, _++_}
 use Prim.Native.Nat.{ℕ, _+_, _-_, _*_, _≤_}
 use native.Mathlib.Omega.{arith}
 use borrow.Author.Tests.{not-true, not-false}
-use lib.ListN.{take, drop}
+use lib.ListN.{length, take, drop}
 use lib.Seq.{take-at}
 use Rattle.model.specs.Octets.{part}
 use Rattle.model.specs.Limits.{rowsOffset}
@@ -33,6 +33,20 @@ returns-2 c =
     let n = c .before .before .before .row-count .ensures in
     read-rest (a .schema .now) (a .area .now) (a .rows .now) (omega (arith, n, c .before .before .if1 .left)) (sym (c .before .rest-blank .ensures ∙ rest (a .area .now) n) ∙ not-true _ (c .if2 .taken))
 
+-- the rows are not too many, so there is room for them
+enough : (c : tie.After-read-rows-arg) → let n = c .before .before .before .before .row-count in n .result ≤ length (c .before .before .before .before .before .before .args .rows .now)
+enough c =
+    let rc = c .before .before .before .before in
+    omega (arith, rc .row-count .ensures, rc .before .before .pre .1 .1 (omega (arith, rc .row-count .ensures, c .before .before .before .if1 .left)))
+
+read-rows-requires : tie.Need-read-rows-requires
+read-rows-requires c κs = (omega (arith, c .before .before .before .before .before .before .pre .1 .0, c .before .before .before .if1 .left), enough c)
+
+rows-good-requires : tie.Need-rows-good-requires
+rows-good-requires c κs =
+    let rr = c .before .before in
+    (rr .before .before .before .before .before .before .before .pre .0, omega (arith, enough (rr .before), rr .read-rows .kept .1 .1 .0))
+
 returns-3 : tie.Need-returns-3
 returns-3 c =
     let s = c .before .before .before .before .before .before .before .before .before .before in
@@ -50,7 +64,7 @@ returns-3 c =
     record {
       good = c .rows-good .ensures ∙ rows-same x m r (rowsIn m b) q (rows-length m b) ∙ ap (λ (i : ℕ). rowsGood x i (rowsIn i b)) n ∙ sym (part-rows x a few z);
       rows = there ∙ ap (λ (i : ℕ). rowsIn i b ++ drop i before) n ∙ sym (read-all x a before few z);
-      ordered = λ e. subst (λ (i : ℕ). Ordered i r) n (rows-ordered x m r (omega (arith, n, c .before .before .before .before .before .before .before .if1 .left, c .before .before .before .read-rows .kept .1 .1 .0, s .pre .1 .1)) (sym (c .rows-good .ensures) ∙ e));
+      ordered = λ e. subst (λ (i : ℕ). Ordered i r) n (rows-ordered x m r (omega (arith, n, c .before .before .before .read-rows .kept .1 .1 .0, s .pre .1 .1 few)) (sym (c .rows-good .ensures) ∙ e));
     }
 
 pub part-good-spec : {M : Type 1} → statement M
@@ -61,7 +75,7 @@ part-good-spec =
     returns
     (λ c κs. search needs)
     returns-2
-    (λ c κs. search needs)
-    (λ c κs. search needs)
+    read-rows-requires
+    rows-good-requires
     (λ c. search needs)
     returns-3)

@@ -1,6 +1,7 @@
 -- `mirror::opened` meets its contract. Assumes nothing.
 use mathlib.Core.Path.{sym, _∙_}
 use mathlib.Core.List.{[]}
+use native.Mathlib.Omega.{arith}
 use borrow.Author.Needs.{needs}
 use borrow.Author.Tests.{not-true, not-false}
 use Rattle.model.proofs.Octets.{octets}
@@ -16,7 +17,7 @@ returns c =
 part-good-requires : tie.Need-part-good-requires
 part-good-requires c κs =
     let s = c .before .before .before .before .before .before .before .before in
-    (catalog-accepted (s .args .area .now) (s .pre .0) _ [] (c .before .before .before .before .before .read-catalog .ensures) (sym (c .before .before .before .is-accepted .ensures) ∙ not-false _ (c .before .before .if1 .left)), search needs)
+    (catalog-accepted (s .args .area .now) (s .pre .0) _ [] (c .before .before .before .before .before .read-catalog .ensures) (sym (c .before .before .before .is-accepted .ensures) ∙ not-false _ (c .before .before .if1 .left)), (search needs, λ few. omega (arith, few, s .pre .1)))
 
 returns-2 : tie.Need-returns-2
 returns-2 c =

@@ -47,7 +47,7 @@ short c = let v = loop c .loop .inv .2 in omega (arith, v .short, v .size, c .pu
 loop-holds : tie.Need-loop-holds Inv-loop μ-loop
 loop-holds c =
     let a = c .before .before .before .before .before .before .before .before in
-    (refl, refl, going-start _ _ _ _ _ _ _ _ (a .pre .1 .1 .0 .fine) (a .pre .1 .1 .0 .few) (a .pre .1 .1 .1 .0))
+    (refl, refl, going-start _ _ _ _ _ _ _ _ (a .pre .1 .1 .0 .fine) (a .pre .1 .1 .0 .few) (a .pre .1 .1 .1))
 
 returns : tie.Need-returns Inv-loop μ-loop
 returns c = let l = c .before .before in going-end (l .loop .inv .2) (begun l .put-byte .ensures) (c .enum-told .given .1)
@@ -78,7 +78,7 @@ operate-requires c κs =
         early = omega (arith, e .number, going-more (v .2) h);
         here = e .here;
         count = omega (arith, e .count, v .2 .few);
-        room = omega (arith, v .0, st .pre .1 .1 .1 .1);
+        room = λ j low few. v .2 .room j (omega (arith, low, e .count, ap length (walk-rest (st .args .text .now) h))) few;
       },
       omega (arith, short pc),
     )
@@ -103,7 +103,7 @@ loop-again c =
     let rd = reads op in
     let pc = comma rd in
     let v = loop pc .loop .inv in
-    (op .operate .kept .1 .1 .1 .1 .1 .0 ∙ v .0, pr .put-result .kept .0 ∙ op .operate .kept .1 .1 .1 .1 .1 .1 .0 ∙ pc .put-comma .kept .0 ∙ v .1, going-on (v .2) (next pc .g .given .1) (start (loop pc) .pre .1 .1 .0 .places) (pc .put-comma .ensures) (rd .read .ensures) (op .operate .ensures) (sym (fi .is-fine .ensures) ∙ th .if1 .taken) (pr .put-result .ensures) refl (fi .before .next-item .ensures) (c .may-change .ensures))
+    (op .operate .kept .1 .1 .1 .1 .1 .0 ∙ v .0, pr .put-result .kept .0 ∙ op .operate .kept .1 .1 .1 .1 .1 .1 .0 ∙ pc .put-comma .kept .0 ∙ v .1, going-on (v .2) (next pc .g .given .1) (start (loop pc) .pre .1 .1 .0 .places) (pc .put-comma .ensures) (rd .read .ensures) (op .operate .ensures) (op .operate .kept .1 .1 .1 .1 .1 .0) (sym (fi .is-fine .ensures) ∙ th .if1 .taken) (pr .put-result .ensures) refl (fi .before .next-item .ensures) (c .may-change .ensures))
 
 stop-requires : tie.Need-stop-requires Inv-loop μ-loop
 stop-requires c κs =
@@ -129,7 +129,7 @@ returns-2 c =
     let op = done fi in
     let rd = reads op in
     let pc = comma rd in
-    going-stop (loop pc .loop .inv .2) (next pc .g .given .1) (start (loop pc) .pre .1 .1 .0 .places) (pc .put-comma .ensures) (rd .read .ensures) (op .operate .ensures) (begun (loop pc) .put-byte .ensures) (sym (fi .is-fine .ensures) ∙ el .if1 .left) (fi .before .next-item .ensures) (sp .stop .ensures)
+    going-stop (loop pc .loop .inv .2) (next pc .g .given .1) (start (loop pc) .pre .1 .1 .0 .places) (pc .put-comma .ensures) (rd .read .ensures) (op .operate .ensures) (op .operate .kept .1 .1 .1 .1 .1 .0) (begun (loop pc) .put-byte .ensures) (sym (fi .is-fine .ensures) ∙ el .if1 .left) (fi .before .next-item .ensures) (sp .stop .ensures)
 
 pub run-spec : {M : Type 1} → statement M
 run-spec =

@@ -22,10 +22,10 @@ loop-holds c = (omega arith, record { size = omega arith; rest = refl; fine = c 
 
 returns : tie.Need-returns Inv-loop μ-loop
 returns c =
-    let g = c .before .before in
+    let g = c .before .before .before in
     let l = g .before .before in
     let a = l .before .before .before .args in
-    few-many (itemsFrom (a .text .now) (a .f)) (omega (arith, passed-more (l .loop .inv .1) (g .g .given .1), c .if1 .taken))
+    few-many (itemsFrom (a .text .now) (a .f)) (c .no-items .ensures) (omega (arith, passed-more (l .loop .inv .1) (g .g .given .1), c .before .if1 .taken))
 
 add-n : tie.Need-add-n Inv-loop μ-loop
 add-n c = omega (arith, c .before .before .before .if1 .left)
@@ -47,12 +47,12 @@ loop-again c =
 
 returns-2 : tie.Need-returns-2 Inv-loop μ-loop
 returns-2 c =
-    let o = c .before in
+    let o = c .before .before in
     let g = o .before .before .before .before in
     let l = g .before .before in
     let a = l .before .before .before .args in
-    let e = sym (o .is-kind .ensures ∙ ap isObject (o .before .kind-at .ensures)) ∙ c .if2 .left in
-    few-bad (itemsFrom (a .text .now) (a .f)) (passed-bad (l .loop .inv .1) (g .g .given .1) e)
+    let e = sym (o .is-kind .ensures ∙ ap isObject (o .before .kind-at .ensures)) ∙ c .before .if2 .left in
+    few-bad (itemsFrom (a .text .now) (a .f)) (c .no-items2 .ensures) (passed-bad (l .loop .inv .1) (g .g .given .1) e)
 
 returns-3 : tie.Need-returns-3 Inv-loop μ-loop
 returns-3 c =
@@ -68,6 +68,7 @@ few-objects-spec =
     μ-loop
     loop-holds
     (λ c. search needs)
+    (λ c κs. tt)
     returns
     (λ c κs. tt)
     (λ c κs. tt)
@@ -75,6 +76,7 @@ few-objects-spec =
     next-item-requires
     loop-less
     loop-again
+    (λ c κs. tt)
     returns-2
     (λ c. search needs)
     returns-3)

@@ -2,7 +2,7 @@
 use mathlib.Core.Path.{refl, sym, _∙_}
 use native.Mathlib.Omega.{arith}
 use Rattle.members.specs.Fields.{wordsFrom, wordsOf}
-use Rattle.operations.proofs.Doing.{effect-failed, delete-fault, delete-done}
+use Rattle.operations.proofs.Doing.{enough, effect-failed, delete-fault, delete-done}
 use borrow.Author.Needs.{needs}
 use Rattle.operations.proofs.on_table.run_delete.Statement.{statement}
 use Rattle.operations.proofs.on_table.run_delete.Tie as tie
@@ -14,6 +14,11 @@ match-rows-requires : tie.Need-match-rows-requires
 unfolding wordsOf wordsFrom
 match-rows-requires c κs = (c .before .before .before .before .before .pre, record { apart = refl; few = omega arith; long = omega arith; third = refl })
 
+delete-rows-requires : tie.Need-delete-rows-requires
+delete-rows-requires c κs =
+    let st = start (c .before .before .before .before .before .before .before) in
+    (st .pre .count, enough (st .pre))
+
 returns : tie.Need-returns
 unfolding wordsOf wordsFrom
 returns c at out =
@@ -22,8 +27,8 @@ returns c at out =
     let th = cr .before .before .before in
     let mr = th .before .before in
     let few = start mr .pre .count in
-    let room = start mr .pre .room in
-    delete-done (mr .match-rows .ensures) few (omega arith) (sym (th .before .is-fine .ensures) ∙ th .if1 .taken) (cr .count .ensures) (dr .delete-rows .ensures)
+    let long = enough (start mr .pre) in
+    delete-done (mr .match-rows .ensures) few long (sym (th .before .is-fine .ensures) ∙ th .if1 .taken) (cr .count .ensures) (dr .delete-rows .ensures)
 
 returns-2 : tie.Need-returns-2
 unfolding wordsOf wordsFrom
@@ -39,7 +44,7 @@ run-delete-spec =
     match-rows-requires
     (λ c κs. search needs)
     (λ c κs. search needs)
-    (λ c κs. search needs)
+    delete-rows-requires
     (λ c. search needs)
     returns
     (λ c. search needs)

@@ -1,11 +1,10 @@
 -- `operations::on_table::run_insert` meets its contract. Assumes nothing.
-use Prim.Native.Nat.{_≤_}
+use Prim.Native.Nat.{_+_}
 use mathlib.Core.Path.{refl, sym, _∙_}
 use native.Mathlib.Omega.{arith}
-use lib.ListN.{length}
 use Rattle.members.specs.Fields.{wordsFrom, wordsOf}
 use Rattle.operations.proofs.Slots.{slot-fine}
-use Rattle.operations.proofs.Doing.{Insertion, insertion}
+use Rattle.operations.proofs.Doing.{enough, Insertion, insertion}
 use borrow.Author.Needs.{needs}
 use Rattle.operations.proofs.on_table.run_insert.Statement.{statement}
 use Rattle.operations.proofs.on_table.run_insert.Tie as tie
@@ -31,8 +30,8 @@ known c =
     let st = start fs in
     let a = st .args in
     let few = st .pre .count in
-    let room = st .pre .room in
-    insertion (a .text .now) (a .names .now) (a .schema .now) (a .call) (a .rows .now) few (omega arith) (fs .fields .ensures) (fs .before .before .table-columns .ensures) (nr .before .before .new-id .ensures) (nr .new-row .ensures) (rr .read-row .ensures) (nr .before .before .before .listed .ensures) (nf .before .room .ensures) (nf .name-fault .ensures) (e3 .before .before .earlier .ensures) (e3 .before .earlier2 .ensures) (e3 .earlier3 .ensures)
+    let long = enough (st .pre) in
+    insertion (a .text .now) (a .names .now) (a .schema .now) (a .call) (a .rows .now) few long (fs .fields .ensures) (fs .before .before .table-columns .ensures) (nr .before .before .new-id .ensures) (nr .new-row .ensures) (rr .read-row .ensures) (nr .before .before .before .listed .ensures) (nf .before .room .ensures) (nf .name-fault .ensures) (e3 .before .before .earlier .ensures) (e3 .before .earlier2 .ensures) (e3 .earlier3 .ensures)
 
 fields-requires : tie.Need-fields-requires
 unfolding wordsOf wordsFrom
@@ -53,8 +52,7 @@ add-requires : tie.Need-add-requires
 add-requires c κs =
     let th = c .before .before in
     let x = known (th .before) .room (sym (th .before .is-fine .ensures) ∙ th .if1 .taken) in
-    let z = start (slots (read (th .before))) .pre .room in
-    omega arith
+    omega (arith, start (slots (read (th .before))) .pre .room (start (slots (read (th .before))) .args .call .count + 1) (omega arith) (omega arith))
 
 add-t43 : tie.Need-add-t43
 add-t43 c =

@@ -3,7 +3,7 @@ use mathlib.Core.Path.{refl}
 use native.Mathlib.Omega.{arith}
 use Rattle.members.specs.Fields.{wordsFrom, wordsOf}
 use Rattle.operations.proofs.Slots.{slot-fine}
-use Rattle.operations.proofs.Doing.{unless-within, mutate-ran}
+use Rattle.operations.proofs.Doing.{enough, unless-within, mutate-ran}
 use borrow.Author.Needs.{needs}
 use Rattle.operations.proofs.on_table.run_mutate.Statement.{statement}
 use Rattle.operations.proofs.on_table.run_mutate.Tie as tie
@@ -27,8 +27,8 @@ mutate-rows-requires c κs =
     let cu = c .before .before in
     let mr = match cu in
     let few = start mr .pre .count in
-    let room = start mr .pre .room in
-    (start mr .pre .running, (slot-fine (mr .match-rows .ensures .slots) 3 (omega arith), (columns mr .table-columns .ensures .few, unless-within (mr .match-rows .result .fault) (start mr .args .call .count) (cu .count-unless .ensures) few (omega arith))))
+    let long = enough (start mr .pre) in
+    (start mr .pre .running, (slot-fine (mr .match-rows .ensures .slots) 3 (omega arith), (columns mr .table-columns .ensures .few, unless-within (mr .match-rows .result .fault) (start mr .args .call .count) (cu .count-unless .ensures) few long)))
 
 returns : tie.Need-returns
 unfolding wordsOf wordsFrom
@@ -38,8 +38,8 @@ returns c =
     let cu = ro .before .before .before in
     let mr = match cu in
     let few = start mr .pre .count in
-    let room = start mr .pre .room in
-    mutate-ran (mr .match-rows .ensures) (columns mr .table-columns .ensures) few (omega arith) (er .earlier .ensures) (cu .count-unless .ensures) (ro .mutate-rows .ensures) (c .count .ensures)
+    let long = enough (start mr .pre) in
+    mutate-ran (mr .match-rows .ensures) (columns mr .table-columns .ensures) few long (er .earlier .ensures) (cu .count-unless .ensures) (ro .mutate-rows .ensures) (c .count .ensures)
 
 pub run-mutate-spec : {M : Type 1} → statement M
 run-mutate-spec =

@@ -3,7 +3,7 @@ use mathlib.Core.Path.{refl, sym, _∙_}
 use native.Mathlib.Omega.{arith}
 use Rattle.members.specs.Fields.{wordsFrom, wordsOf}
 use Rattle.operations.proofs.Slots.{slot-fine}
-use Rattle.operations.proofs.Doing.{effect-failed, update-fault, update-done}
+use Rattle.operations.proofs.Doing.{enough, effect-failed, update-fault, update-done}
 use borrow.Author.Needs.{needs}
 use Rattle.operations.proofs.on_table.run_update.Statement.{statement}
 use Rattle.operations.proofs.on_table.run_update.Tie as tie
@@ -34,8 +34,8 @@ update-rows-requires : tie.Need-update-rows-requires
 update-rows-requires c κs =
     let mr = match (c .before .before .before .before .before .before .before .before) in
     let few = start mr .pre .count in
-    let room = start mr .pre .room in
-    (columns mr .table-columns .ensures .few, (few, omega arith))
+    let long = enough (start mr .pre) in
+    (columns mr .table-columns .ensures .few, (few, long))
 
 returns : tie.Need-returns
 unfolding wordsOf wordsFrom
@@ -46,8 +46,8 @@ returns c at out =
     let er = th .before .before in
     let mr = match (th .before) in
     let few = start mr .pre .count in
-    let room = start mr .pre .room in
-    update-done (mr .match-rows .ensures) (columns mr .table-columns .ensures) (er .before .read-row .ensures) (er .earlier .ensures) few (omega arith) (sym (th .before .is-fine .ensures) ∙ th .if1 .taken) (cr .count .ensures) (dr .update-rows .ensures)
+    let long = enough (start mr .pre) in
+    update-done (mr .match-rows .ensures) (columns mr .table-columns .ensures) (er .before .read-row .ensures) (er .earlier .ensures) few long (sym (th .before .is-fine .ensures) ∙ th .if1 .taken) (cr .count .ensures) (dr .update-rows .ensures)
 
 returns-2 : tie.Need-returns-2
 unfolding wordsOf wordsFrom

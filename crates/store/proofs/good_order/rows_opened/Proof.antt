@@ -13,7 +13,7 @@ use Rattle.store.proofs.good_order.rows_opened.Tie as tie
 part-good-requires : tie.Need-part-good-requires
 part-good-requires c κs =
     let s = c .before .before in
-    (cells-accepted (s .args .area .now) (s .args .schema .now) (s .pre .1), search needs)
+    (cells-accepted (s .args .area .now) (s .args .schema .now) (s .pre .1), (omega (arith, s .pre .0 .0), s .pre .0 .1))
 
 returns : tie.Need-returns
 returns c =
@@ -28,7 +28,7 @@ rows-meet-requires c κs =
     let a = s .args .area .now in
     let p = c .before .before .before .before .part-good in
     let few = rows-few a (s .args .schema .now) (s .pre .1) (s .pre .0 .0) (octets a (λ i. c .before .before .before .before .before .before .shared-slice-known .given i .fits)) (s .args .rows .now) (p .last .1 .1 .0) (p .result) (p .ensures) (not-false _ (c .before .before .if1 .left)) in
-    (cells-accepted a (s .args .schema .now) (s .pre .1), omega (arith, few, c .before .row-count .ensures, p .kept .1 .1 .0, s .pre .0 .1))
+    (cells-accepted a (s .args .schema .now) (s .pre .1), omega (arith, c .before .row-count .ensures, p .kept .1 .1 .0, s .pre .0 .1 few))
 
 returns-2 : tie.Need-returns-2
 returns-2 c =

@@ -12,48 +12,44 @@ use Rattle.store.proofs.reply.judge.Statement.{statement}
 use Rattle.store.proofs.reply.judge.Tie as tie
 
 returns : tie.Need-returns
-returns c =
-    let a = c .before .before .before .before .before .before .before .before .before in
-    let r = c .before .before .before .before .read in
-    asked-bad (a .args .schema .now) (a .args .n) (a .args .rows .now) (a .args .request .now) (a .args .fresh .now) (r .last .1 .0) (r .ensures) (not-true _ (c .if1 .taken))
+returns c ends read =
+    let a = c .before .before .before .before in
+    asked-bad (a .args .schema .now) (a .args .n) (a .args .rows .now) (a .args .request .now) (a .args .fresh .now) ends read (not-true _ (c .if1 .taken))
 
 returns-2 : tie.Need-returns-2
-returns-2 c =
-    let a = c .before .before .before .before .before .before .before .before .before .before .before .before .before in
-    let r = c .before .before .before .before .before .before .before .before .read in
-    asked-other (a .args .schema .now) (a .args .n) (a .args .rows .now) (a .args .request .now) (a .args .fresh .now) (r .last .1 .0) (r .ensures) (not-false _ (c .before .before .before .before .if1 .left))
-    (ap (λ (w : List ℕ). isWord w (treeAt (a .args .request .now) (r .result .name))) (sym (c .before .before .name-of .ensures)) ∙ sym (c .before .is-word .ensures) ∙ not-true _ (c .if2 .taken))
+returns-2 c ends read =
+    let g = c .before .before .before .before in
+    let a = g .before .before .before .before in
+    asked-other (a .args .schema .now) (a .args .n) (a .args .rows .now) (a .args .request .now) (a .args .fresh .now) ends read (not-false _ (g .if1 .left))
+    (ap (λ (w : List ℕ). isWord w (treeAt (a .args .request .now) (a .args .q .name))) (sym (c .before .before .name-of .ensures)) ∙ sym (c .before .is-word .ensures) ∙ not-true _ (c .if2 .taken))
 
 returns-3 : tie.Need-returns-3
-returns-3 c =
-    let a = c .before .before .before .before .before .before .before .before .before .before .before .before .before .before .before in
-    let r = c .before .before .before .before .before .before .before .before .before .before .read in
-    asked-fresh (a .args .schema .now) (a .args .n) (a .args .rows .now) (a .args .request .now) (a .args .fresh .now) (r .last .1 .0) (r .ensures) (not-false _ (c .before .before .before .before .before .before .if1 .left))
-    (ap (λ (w : List ℕ). isWord w (treeAt (a .args .request .now) (r .result .name))) (sym (c .before .before .before .before .name-of .ensures)) ∙ sym (c .before .before .before .is-word .ensures) ∙ not-false _ (c .before .before .if2 .left))
+returns-3 c ends read =
+    let o = c .before .before in
+    let g = o .before .before .before .before in
+    let a = g .before .before .before .before in
+    asked-fresh (a .args .schema .now) (a .args .n) (a .args .rows .now) (a .args .request .now) (a .args .fresh .now) ends read (not-false _ (g .if1 .left))
+    (ap (λ (w : List ℕ). isWord w (treeAt (a .args .request .now) (a .args .q .name))) (sym (o .before .before .name-of .ensures)) ∙ sym (o .before .is-word .ensures) ∙ not-false _ (o .if2 .left))
     (sym (c .before .ids-good .ensures (packedTables (a .args .schema .now))) ∙ not-true _ (c .if3 .taken))
 
 returns-4 : tie.Need-returns-4
-returns-4 c =
-    let a = c .before .before .before .before .before .before .before .before .before .before .before .before .before .before .before in
-    let r = c .before .before .before .before .before .before .before .before .before .before .read in
-    asked-runs (a .args .schema .now) (a .args .n) (a .args .rows .now) (a .args .request .now) (a .args .fresh .now) (r .last .1 .0) (r .ensures) (not-false _ (c .before .before .before .before .before .before .if1 .left))
-    (ap (λ (w : List ℕ). isWord w (treeAt (a .args .request .now) (r .result .name))) (sym (c .before .before .before .before .name-of .ensures)) ∙ sym (c .before .before .before .is-word .ensures) ∙ not-false _ (c .before .before .if2 .left))
+returns-4 c ends read =
+    let o = c .before .before in
+    let g = o .before .before .before .before in
+    let a = g .before .before .before .before in
+    asked-runs (a .args .schema .now) (a .args .n) (a .args .rows .now) (a .args .request .now) (a .args .fresh .now) ends read (not-false _ (g .if1 .left))
+    (ap (λ (w : List ℕ). isWord w (treeAt (a .args .request .now) (a .args .q .name))) (sym (o .before .before .name-of .ensures)) ∙ sym (o .before .is-word .ensures) ∙ not-false _ (o .if2 .left))
     (sym (c .before .ids-good .ensures (packedTables (a .args .schema .now))) ∙ not-false _ (c .if3 .left)) (a .pre .0)
 
 pub judge-spec : {M : Type 1} → statement M
 judge-spec =
     tie.close
     (tie.spec
-    (λ c κs. search needs)
-    (λ c. search needs)
     returns
     (λ c. search needs)
     (λ c κs. search needs)
     (λ c κs. search needs)
-    (λ c. search needs)
     returns-2
     (λ c κs. search needs)
-    (λ c. search needs)
     returns-3
-    (λ c. search needs)
     returns-4)

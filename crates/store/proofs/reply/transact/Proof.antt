@@ -1,7 +1,5 @@
 -- `store::reply::transact` meets its contract. Assumes nothing.
 use mathlib.Core.Path.{refl}
-use mathlib.Core.List.{List}
-use Prim.Native.Nat.{ℕ}
 use native.Mathlib.Omega.{arith}
 use Rattle.model.specs.Catalog.{packedTables}
 use Rattle.inner.specs.Working.{working}
@@ -55,7 +53,7 @@ at-commit-requires c κs =
       a .pre .1 .0,
       (
         run-ordered (a .args .schema .now) (a .pre .1 .0) (a .args .text .now) (a .args .ops) (a .args .fresh .now) (a .pre .1 .1 .0) (a .pre .0 .ids) (octets (a .args .fresh .now) (λ i. known (named r) .shared-slice-known3 .given i .fits))
-            (a .args .n) (a .args .rows .now) _ (a .pre .1 .1 .1 .1) all (omega (arith, r .run .ensures .few, r .run .kept .1 .1 .1 .1 .1 .0, a .pre .1 .1 .1 .0 .1)) (all .fine (t .if1 .taken)),
+            (a .args .n) (a .args .rows .now) _ (a .pre .1 .1 .1 .1) all (r .run .ensures .long) (all .fine (t .if1 .taken)),
         omega (arith, r .run .ensures .answer .short),
       ),
     )
