@@ -34,9 +34,9 @@ cells_cut : (n : ℕ) (b : List ℕ) → 25 * n ≤ length b → Cells (cut n b)
 cells_cut zero b h = tt
 cells_cut (suc n) b h = (length-take-le 25 b (omega arith), cells_cut n (drop 25 b) (omega (arith, length-drop 25 b)))
 
-module _ (schema : List (List ℕ)) (slim : narrow (packed.packedTables schema) ≡ true) where
+module _ (schema : List (List ℕ)) (slim : narrow (packed.packed_tables schema) ≡ true) where
   abbrev s : Schema
-  s = packed.packedTables schema
+  s = packed.packed_tables schema
 
   good_row : (r : List (List ℕ)) → row_good schema r ≡ true → (row_passes canonical_for s (row_from s r) ≡ true) × (tidy_from (length (columns_of s (table_in r))) r ≡ true)
   unfolding row_good
@@ -63,7 +63,7 @@ pub record Holds (a : List ℕ) : Type 0 where
   pub tidy : Tidy (database_in a).tables (rows_in (row_count a) (drop rows_offset a))
   pub rows : (decode_store a).rows ≡ map (row_from (database_in a).tables) (rows_in (row_count a) (drop rows_offset a))
 
-module _ (schema : List (List ℕ)) (a : List ℕ) (size : store_bytes ≤ length a) (bytes : all octet a ≡ true) (same : packed.packedTables schema ≡ (database_in a).tables) (written : packed.catalogOf (database_in a) ≡ entries_in a) (slim : narrow (packed.packedTables schema) ≡ true) where
+module _ (schema : List (List ℕ)) (a : List ℕ) (size : store_bytes ≤ length a) (bytes : all octet a ≡ true) (same : packed.packed_tables schema ≡ (database_in a).tables) (written : packed.catalog_of (database_in a) ≡ entries_in a) (slim : narrow (packed.packed_tables schema) ≡ true) where
   abbrev n : ℕ
   n = row_count a
 
@@ -80,13 +80,13 @@ module _ (schema : List (List ℕ)) (a : List ℕ) (size : store_bytes ≤ lengt
       let t = take_all n (rows_in n b) (omega (arith, count_is n b)) in
       let each : all (row_good schema) (rows_in n b) ≡ true = ap (all (row_good schema)) (sym t) ∙ and_l (all (row_good schema) (take n (rows_in n b))) _ g in
       let order = and_r (all (row_good schema) (take n (rows_in n b))) _ g in
-      let w = ap (map (row_from (packed.packedTables schema))) t ∙ sym (rows_are (packed.packedTables schema) n b) in
-      let up : ascends (rows_from (packed.packedTables schema) n b) ≡ true = ap ascends (sym w) ∙ and_l (ascends (working (packed.packedTables schema) n (rows_in n b))) _ order in
-      let apart : distinct_ids (rows_from (packed.packedTables schema) n b) ≡ true = ap distinct_ids (sym w) ∙ and_r (ascends (working (packed.packedTables schema) n (rows_in n b))) _ order in
+      let w = ap (map (row_from (packed.packed_tables schema))) t ∙ sym (rows_are (packed.packed_tables schema) n b) in
+      let up : ascends (rows_from (packed.packed_tables schema) n b) ≡ true = ap ascends (sym w) ∙ and_l (ascends (working (packed.packed_tables schema) n (rows_in n b))) _ order in
+      let apart : distinct_ids (rows_from (packed.packed_tables schema) n b) ≡ true = ap distinct_ids (sym w) ∙ and_r (ascends (working (packed.packed_tables schema) n (rows_in n b))) _ order in
       let tidy : Tidy (database_in a).tables (rows_in n b) = rw same at (rows_tidy schema slim n b (omega (arith, length-drop rows_offset a)) (all_drop octet rows_offset a bytes) each) in
       record {
         encoded = store_back a size bytes few written z tidy;
-        pass = rw (← same) (whole (leb (length (rows_from (packed.packedTables schema) n b)) 32 ∷ ascends (rows_from (packed.packedTables schema) n b) ∷ distinct_ids (rows_from (packed.packedTables schema) n b) ∷ all (row_passes canonical_for (packed.packedTables schema)) (rows_from (packed.packedTables schema) n b) ∷ []) (ap (λ (k : ℕ). leb k 32) (rows_count (packed.packedTables schema) n b) ∙ le-leb n 32 few, (up, (apart, (rows_pass_lem schema slim n b each, tt)))));
+        pass = rw (← same) (whole (leb (length (rows_from (packed.packed_tables schema) n b)) 32 ∷ ascends (rows_from (packed.packed_tables schema) n b) ∷ distinct_ids (rows_from (packed.packed_tables schema) n b) ∷ all (row_passes canonical_for (packed.packed_tables schema)) (rows_from (packed.packed_tables schema) n b) ∷ []) (ap (λ (k : ℕ). leb k 32) (rows_count (packed.packed_tables schema) n b) ∙ le-leb n 32 few, (up, (apart, (rows_pass_lem schema slim n b each, tt)))));
         few = few;
         tidy = tidy;
         rows = rows_are (database_in a).tables n b;
@@ -97,9 +97,9 @@ tidied : (s : Schema) (r : Row) → Sized s r → TidyRow s (row_cells r)
 unfolding TidyRow
 tidied s r z = ap row_cells (row_read s r z)
 
-module _ (schema : List (List ℕ)) (slim : narrow (packed.packedTables schema) ≡ true) where
+module _ (schema : List (List ℕ)) (slim : narrow (packed.packed_tables schema) ≡ true) where
   abbrev q : Schema
-  q = packed.packedTables schema
+  q = packed.packed_tables schema
 
   -- the bytes of one row, cut into cells again
   row_passes_lem : (r : Row) (rest : List ℕ) → Sized q r → all octet (flat (row_cells r) ++ rest) ≡ true → row_passes canonical_for q r ≡ true → row_good schema (cut 25 (flat (row_cells r) ++ rest)) ≡ true
@@ -153,12 +153,12 @@ module _ (st : Store) (tail : List ℕ) (f : Fits st) where
   unfolding rest_zero
   rest_is = (λ j. zeros (part (rows_offset + 625 * read_count st f tail j) (625 * (32 - read_count st f tail j)) area)) ∙ rows_rest
 
-  module _ (schema : List (List ℕ)) (slim : narrow (packed.packedTables schema) ≡ true) (same : packed.packedTables schema ≡ st.database.tables) (bytes : all octet area ≡ true)
-      (pass : rows_pass canonical_for (packed.packedTables schema) st.rows ≡ true) where
+  module _ (schema : List (List ℕ)) (slim : narrow (packed.packed_tables schema) ≡ true) (same : packed.packed_tables schema ≡ st.database.tables) (bytes : all octet area ≡ true)
+      (pass : rows_pass canonical_for (packed.packed_tables schema) st.rows ≡ true) where
     rows_are_good : rows_good schema count (rows_in count (drop rows_offset area)) ≡ true
     unfolding rows_good working rows_pass
     rows_are_good =
-        let d = packed.packedTables schema in
+        let d = packed.packed_tables schema in
         let rest = replicate (625 * (32 - count)) 0 ++ tail in
         let p = parts (leb count 32 ∷ ascends st.rows ∷ distinct_ids st.rows ∷ all (row_passes canonical_for d) st.rows ∷ []) pass in
         let e = read_rest st f tail in

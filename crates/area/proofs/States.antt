@@ -82,18 +82,18 @@ own_back b l o h w =
 
 -- an area whose catalog is accepted
 module _ (schema : List (List ℕ)) (a : List ℕ) (size : store_bytes ≤ length a) (bytes : all octet a ≡ true) (there : schema ≡ entries_in a) (accepted : is_accepted schema ≡ true) where
-  same : packed.packedTables schema ≡ (database_in a).tables
-  same = ap packed.packedTables there
+  same : packed.packed_tables schema ≡ (database_in a).tables
+  same = ap packed.packed_tables there
 
   sound : sane (database_in a) ≡ true
   unfolding is_accepted
-  sound = ap (λ (l : List (List ℕ)). sane (packed.databaseFrom l)) (sym there) ∙ and_r (eq_lists (packed.catalogOf (packed.databaseFrom schema)) schema) (sane (packed.databaseFrom schema)) accepted
+  sound = ap (λ (l : List (List ℕ)). sane (packed.database_from l)) (sym there) ∙ and_r (eq_lists (packed.catalog_of (packed.database_from schema)) schema) (sane (packed.database_from schema)) accepted
 
-  written : packed.catalogOf (database_in a) ≡ entries_in a
+  written : packed.catalog_of (database_in a) ≡ entries_in a
   unfolding is_accepted
-  written = lists_same (packed.catalogOf (database_in a)) (entries_in a) (ap (λ (l : List (List ℕ)). eq_lists (packed.catalogOf (packed.databaseFrom l)) l) (sym there) ∙ and_l (eq_lists (packed.catalogOf (packed.databaseFrom schema)) schema) (sane (packed.databaseFrom schema)) accepted)
+  written = lists_same (packed.catalog_of (database_in a)) (entries_in a) (ap (λ (l : List (List ℕ)). eq_lists (packed.catalog_of (packed.database_from l)) l) (sym there) ∙ and_l (eq_lists (packed.catalog_of (packed.database_from schema)) schema) (sane (packed.database_from schema)) accepted)
 
-  slim : narrow (packed.packedTables schema) ≡ true
+  slim : narrow (packed.packed_tables schema) ≡ true
   slim = rw same (sane_kept (database_in a) sound).narrow
 
   number_fits : (at : ℕ) → ltb (value (part at 4 a)) (256 ^ 4) ≡ true
@@ -110,7 +110,7 @@ module _ (schema : List (List ℕ)) (a : List ℕ) (size : store_bytes ≤ lengt
   module _ (st : Store) (tail : List ℕ) (e : encode_store st ++ tail ≡ a) (t : st.database ≡ database_in a) (f : Fits st) (p : rows_pass canonical_for st.database.tables st.rows ≡ true) where
     passes : part_good schema a ≡ true
     passes =
-        let q : packed.packedTables schema ≡ st.database.tables = same ∙ ap (λ (d : Database). d.tables) (sym t) in
+        let q : packed.packed_tables schema ≡ st.database.tables = same ∙ ap (λ (d : Database). d.tables) (sym t) in
         rw (← e) (part_passes st tail f schema slim q (rw e bytes) (rw q p))
 
   -- ── a store ──
@@ -253,7 +253,7 @@ module _ (a : List ℕ) where
   encoded_accepted : (tail : List ℕ) → Fits (decode_store a) → encode_store (decode_store a) ++ tail ≡ a → is_accepted (entries_in a) ≡ true
   unfolding is_accepted decode_store
   encoded_accepted tail f e =
-      let c : packed.catalogOf (database_in a) ≡ entries_in a = sym (read_catalog (decode_store a) f tail) ∙ ap entries_in e in
+      let c : packed.catalog_of (database_in a) ≡ entries_in a = sym (read_catalog (decode_store a) f tail) ∙ ap entries_in e in
       rw (ap (λ (l : List (List ℕ)). eq_lists l (entries_in a)) c ∙ lists_self (entries_in a), f.accepted)
 
   mirror_accepted : encode_mirror (decode_mirror a) ≡ a → mirror_good (decode_mirror a) ≡ true → is_accepted (entries_in a) ≡ true

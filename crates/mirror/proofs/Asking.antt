@@ -30,7 +30,7 @@ use Rattle.mirror.specs.declared.Standing.{Standing}
 use Rattle.mirror.specs.declared.Presence as code
 
 -- a mirror is its numbers and its rows
-pub numbers_are : (a : List ℕ) → steps.mirrorOf (numbers_in a) (decode_mirror a).mirror.rows ≡ (decode_mirror a).mirror
+pub numbers_are : (a : List ℕ) → steps.mirror_of (numbers_in a) (decode_mirror a).mirror.rows ≡ (decode_mirror a).mirror
 unfolding numbers_in decode_mirror decode_store
 numbers_are a =
     let x = sym (get_or-drop store_bytes a 4 0) in
@@ -53,13 +53,13 @@ presence_in r = record { status = r.status; there = r.there }
 
 -- what the code found of the rows is what the area's mirror has
 module _ {a : List ℕ} {schema : List (List ℕ)} {cells : List (List (List ℕ))} (h : Held a schema cells) (count : ℕ) (e : count ≡ row_count a) where
-  rows_found : working (packed.packedTables schema) count cells ≡ (decode_mirror a).mirror.rows
-  rows_found = ap (λ (n : ℕ). working (packed.packedTables schema) n cells) e ∙ h.rows
+  rows_found : working (packed.packed_tables schema) count cells ≡ (decode_mirror a).mirror.rows
+  rows_found = ap (λ (n : ℕ). working (packed.packed_tables schema) n cells) e ∙ h.rows
 
-  pub there_is : (t : ℕ) (id : List ℕ) (r : Bool) → r ≡ has (key_of t (value id)) (working (packed.packedTables schema) count cells) → presence_of t id (decode_mirror a).mirror ≡ record { status = Accepted; there = r }
+  pub there_is : (t : ℕ) (id : List ℕ) (r : Bool) → r ≡ has (key_of t (value id)) (working (packed.packed_tables schema) count cells) → presence_of t id (decode_mirror a).mirror ≡ record { status = Accepted; there = r }
   there_is t id r p = ap (λ (b : Bool). record { status = Accepted; there = b }) (sym (p ∙ ap (has (key_of t (value id))) rows_found))
 
-  pub contents_are : (t : ℕ) (id : List ℕ) (c : ℕ) (out : List ℕ) → out ≡ column_of (working (packed.packedTables schema) count cells) t (value id) c → contents_of t id c (decode_mirror a).mirror ≡ record { status = Accepted; out = out }
+  pub contents_are : (t : ℕ) (id : List ℕ) (c : ℕ) (out : List ℕ) → out ≡ column_of (working (packed.packed_tables schema) count cells) t (value id) c → contents_of t id c (decode_mirror a).mirror ≡ record { status = Accepted; out = out }
   unfolding column_of
   contents_are t id c out p = ap (λ (l : List ℕ). record { status = Accepted; out = l }) (sym (p ∙ ap (λ (l : List Row). column_of l t (value id) c) rows_found))
 

@@ -79,12 +79,12 @@ module _ (a x : List ℕ) (schema : List (List ℕ)) (cells exit : List (List (L
 
   -- the mirror that the code has afterwards
   abbrev got : Mirror
-  got = steps.mirrorOf r.numbers (working (packed.packedTables schema) r.count exit)
+  got = steps.mirror_of r.numbers (working (packed.packed_tables schema) r.count exit)
 
-  was_is : steps.mirrorOf (numbers_in a) (working (packed.packedTables schema) (row_count a) cells) ≡ m.mirror
-  was_is = ap (steps.mirrorOf (numbers_in a)) h.rows ∙ numbers_are a
+  was_is : steps.mirror_of (numbers_in a) (working (packed.packed_tables schema) (row_count a) cells) ≡ m.mirror
+  was_is = ap (steps.mirror_of (numbers_in a)) h.rows ∙ numbers_are a
 
-  step_is : step_of (packed.packedTables schema) (value (part 0 4 a)) (steps.mirrorOf (numbers_in a) (working (packed.packedTables schema) (row_count a) cells)) x ≡ after
+  step_is : step_of (packed.packed_tables schema) (value (part 0 4 a)) (steps.mirror_of (numbers_in a) (working (packed.packed_tables schema) (row_count a) cells)) x ≡ after
   unfolding step_of decode_mirror decode_store
   step_is = λ j. step (h.tables j) (value (part 0 4 a)) (was_is j) x
 
@@ -103,10 +103,10 @@ module _ (a x : List ℕ) (schema : List (List ℕ)) (cells exit : List (List (L
   view : Said m.database.tables m.run m.mirror (decode x) after
   view = said m.database.tables m.run m.mirror (decode x)
 
-  tidy : Tidy (packed.packedTables schema) (take r.count exit)
+  tidy : Tidy (packed.packed_tables schema) (take r.count exit)
   unfolding decode_mirror decode_store
   tidy =
-      let g : Good (packed.packedTables schema) (working (packed.packedTables schema) (row_count a) cells) = rw (h.rows, h.tables) fine.rows in
+      let g : Good (packed.packed_tables schema) (working (packed.packed_tables schema) (row_count a) cells) = rw (h.rows, h.tables) fine.rows in
       st.tidy g h.tidy
 
   was_n : (numbers_in a).n ≡ m.mirror.n
@@ -141,7 +141,7 @@ module _ (a x : List ℕ) (schema : List (List ℕ)) (cells exit : List (List (L
 
   written_all : placed store_bytes 6 (tail_bytes r.numbers.top r.numbers.heard r.numbers.whole) (placed count_offset 20001 (rows_part r.count exit) (placed 4 4 (big 4 r.numbers.n) a)) ≡ encode_mirror (with_mirror got m)
   written_all =
-      let p = rows_are (packed.packedTables schema) exit r.count (omega (arith, st.few)) tidy in
+      let p = rows_are (packed.packed_tables schema) exit r.count (omega (arith, st.few)) tidy in
       (λ j. placed store_bytes 6 (tail_bytes r.numbers.top r.numbers.heard r.numbers.whole) (placed count_offset 20001 (p j) (placed 4 4 (big 4 r.numbers.n) (sym encoded j)))) ∙ mirror_put m fits got fits_after
 
   written : rewritten (numbers_in a) r.numbers r.count exit a ≡ encode_mirror (with_mirror got m)

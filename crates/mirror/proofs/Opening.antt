@@ -44,8 +44,8 @@ module _ (a : List ℕ) (size : length a ≡ mirror_bytes) (schema : List (List 
   catalog_accepted h = accepted_of schema (ap length there ∙ chunks_length entry_bytes entry_count (drop catalog_offset a)) h
 
   module _ (bytes : all octet a ≡ true) (ok : is_accepted schema ≡ true) where
-    same : packed.packedTables schema ≡ (database_in a).tables
-    same = ap packed.packedTables there
+    same : packed.packed_tables schema ≡ (database_in a).tables
+    same = ap packed.packed_tables there
 
     state : (p t : Bool) → p ≡ part_good schema a → t ≡ tail_good a → mirror_of a ≡ when (p && t) (decode_mirror a)
     state p t x y = mirror_is schema a (omega arith) bytes there ok size ∙ (λ j. when (sym x j && sym y j) (decode_mirror a))

@@ -13,10 +13,10 @@ use Rattle.arrival.specs.declared.Numbers.{Numbers}
 -- an area in good order: its catalog, and its rows in cells
 pub record Held (a : List ℕ) (schema : List (List ℕ)) (cells : List (List (List ℕ))) : Type 0 where
   pub accepted : Accepted schema
-  pub tables : packed.packedTables schema ≡ (database_in a).tables
+  pub tables : packed.packed_tables schema ≡ (database_in a).tables
   pub few : row_count a ≤ most_rows
-  pub rows : working (packed.packedTables schema) (row_count a) cells ≡ (decode_mirror a).mirror.rows
-  pub tidy : Tidy (packed.packedTables schema) (take (row_count a) cells)
+  pub rows : working (packed.packed_tables schema) (row_count a) cells ≡ (decode_mirror a).mirror.rows
+  pub tidy : Tidy (packed.packed_tables schema) (take (row_count a) cells)
   pub ordered : Ordered (row_count a) cells
 
 -- whether it is in good order (refusal 1 where it is not), and what was read of it on the way

@@ -193,7 +193,7 @@ module _ (d : Database) (run : ℕ) (sound : sane d ≡ true) (short : run < 256
 
     -- the mirror is just what its number and what it heard make
     abbrev M : Mirror
-    M = claimed.mirrorAt d run area calls m.n ks
+    M = claimed.mirror_at d run area calls m.n ks
 
     mirror_is : m ≡ M
     mirror_is i = record { rows = (f.rows ∙ sym rows_made) i; n = m.n; top = f.top i; heard = f.loud i; whole = ends_are i }

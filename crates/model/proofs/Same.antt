@@ -1,5 +1,5 @@
 -- A commit writes nothing exactly when it changes nothing. Assumes nothing.
-use mathlib.Core.Path.{◌≡◌, refl}
+use mathlib.Core.Path.{◌≡◌, refl, subst}
 use mathlib.Core.List.{List, [], ◌∷◌, ◌++◌}
 use mathlib.Core.Option.{some}
 use Prim.Native.Nat.{ℕ, suc, ◌+◌}
@@ -27,12 +27,13 @@ find_at (x ∷ d) r p h = rw (ne_eqb (key r) (key x) (omega arith), find_at d r 
 module _ (s : Schema) where
   gones_self : (d rest : List Row) → gones (d ++ rest) rest ≡ []
   gones_self d [] = refl
-  gones_self d (r ∷ rest) = rw (has_at d r rest, ← append_snoc d r rest) (gones_self (d ++ r ∷ []) rest)
+  gones_self d (r ∷ rest) = rw (has_at d r rest) (subst (λ (l : List Row). gones l rest ≡ []) (append_snoc d r rest) (gones_self (d ++ r ∷ []) rest))
 
   walk_self : (d rest : List Row) → Sorted (d ++ rest) → walk s (d ++ rest) rest ≡ []
   walk_self d [] o = refl
   walk_self d (r ∷ rest) o =
-      rw (find_at d r rest (below_at d r rest o), writes_self r.table r.id 0 r.columns, ← append_snoc d r rest) (walk_self (d ++ r ∷ []) rest (rw (append_snoc d r rest) o))
+      rw (find_at d r rest (below_at d r rest o), writes_self r.table r.id 0 r.columns)
+      (subst (λ (l : List Row). walk s l rest ≡ []) (append_snoc d r rest) (walk_self (d ++ r ∷ []) rest (rw (append_snoc d r rest) o)))
 
   pub diff_self : (rows : List Row) → Sorted rows → diff s rows rows ≡ []
   diff_self rows o = rw (gones_self [] rows, walk_self [] rows o)

@@ -159,6 +159,7 @@ module _ (s : List ℕ) where
   plain_read at e (c, good, le, is) = go (utf8 c) refl (utf8_formed c (unescaped_character c good))
     where
       go : (l : List ℕ) → utf8 c ≡ l → Formed l → (char_by s at (byte s at) ≡ More e) × (byte s at ≡ 92 → ⊥)
+      go [] u f = elim f [ ]
       go (b ∷ bs) u (formed {xs = xs} ld f) =
           let rest : List ℕ = drop (e - at) (drop at s) in
           let whole : drop at s ≡ b ∷ (bs ++ rest) = sym (take-append-drop (e - at) (drop at s)) ∙ ap (λ l. l ++ rest) (is ∙ u) in

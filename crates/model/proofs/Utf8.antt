@@ -315,6 +315,7 @@ one_more : (c : ℕ) → is_textual c ≡ true → (rest : List ℕ) → utf8_fr
 one_more c h rest = go (utf8 c) refl (utf8_formed c (textual_character c h))
   where
     go : (l : List ℕ) → utf8 c ≡ l → Formed l → utf8_from [] (l ++ rest) ≡ utf8_from [] rest
+    go [] e f = elim f [ ]
     go (b ∷ bs) e (formed l f) = lead_from l (λ z. textual_not_zero c h ((both_zero (first_byte c e)).0 z)) (bs ++ rest) ∙ fits_from f rest
 
 encoded_from : (cs : List ℕ) → all is_textual cs ≡ true → utf8_from [] (encoded cs) ≡ true

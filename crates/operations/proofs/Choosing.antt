@@ -102,7 +102,7 @@ abbrev table_or : Schema → Option Json → Option ℕ
 table_or s o = elim (string_or o) [ none ↦ none | some w ↦ table_named s w ]
 
 module _ (s : Schema) (text : List ℕ) (ms : List Named) where
-  pub table_there : {f : Found} {p : ℕ} → Means text f (has_member (ascii "table") ms) (member_value (ascii "table") ms) → f ≡ At p → {r : Found} → r ≡ found_at (lookup.tableIn s (tree_at text p)) → r ≡ found_at (Model.table_in s ms)
+  pub table_there : {f : Found} {p : ℕ} → Means text f (has_member (ascii "table") ms) (member_value (ascii "table") ms) → f ≡ At p → {r : Found} → r ≡ found_at (lookup.table_in s (tree_at text p)) → r ≡ found_at (Model.table_in s ms)
   table_there m e h = h ∙ sym (ap (λ (o : Option Json). found_at (table_or s o)) (find_there text ms m refl e).0)
 
   pub table_missing : {f : Found} → Means text f (has_member (ascii "table") ms) (member_value (ascii "table") ms) → f ≡ Nothing → Nothing ≡ found_at (Model.table_in s ms)

@@ -114,7 +114,7 @@ module _ {schema : List (List ℕ)} {text : List ℕ} {ops : Found} {names : Lis
 
       pub going_on : is_fine r.fault ≡ true → {answer3 : List ℕ} {at2 : ℕ}
           → ((begun t : List ℕ) → single.Answers (fresh_at names i) at1 begun answer2 r.reply t → Put 200000 begun at1 t at2 answer3)
-          → {k : ℕ} → k ≡ i + 1 → {g2 : Found} → g2 ≡ next_item text p → {moved : Bool} → moved ≡ single.mayChange r.reply → Going schema text ops names rows₀ n answer₀ at₀ rows2 answer3 at2 g2 k r.count (pending || moved)
+          → {k : ℕ} → k ≡ i + 1 → {g2 : Found} → g2 ≡ next_item text p → {moved : Bool} → moved ≡ single.may_change r.reply → Going schema text ops names rows₀ n answer₀ at₀ rows2 answer3 at2 g2 k r.count (pending || moved)
       going_on f put {k} ek {g2} eg {moved} em =
           let o = done s text ops names c.given i (working s m rows) p in
           let w = put answer1 o.answer (did.reply f) in

@@ -26,11 +26,11 @@ pub record Listed (text : List ℕ) (ops : Found) (names : List ℕ) : Type 0 wh
 
 -- the operations from the place g on, by the names that were given before them, where i came before
 unfoldable pub run_from : Schema → List ℕ → List ℕ → List (List ℕ) → ℕ → List Row → Found → model.Ran
-run_from s text names given i rows g = model.runAll s (names_at text names) given (drop i (fresh_ids names)) rows (operations_at text g)
+run_from s text names given i rows g = model.run_all s (names_at text names) given (drop i (fresh_ids names)) rows (operations_at text g)
 
 -- all of them
 unfoldable pub run_whole : Schema → List ℕ → Found → List ℕ → List Row → model.Ran
-run_whole s text ops names rows = model.runAll s (names_at text names) [] (fresh_ids names) rows (operations_at text ops)
+run_whole s text ops names rows = model.run_all s (names_at text names) [] (fresh_ids names) rows (operations_at text ops)
 
 -- how many bytes nulls, an error before them and a whole answer have at most; the last is above what as many of the longest results have
 abbrev pub nulls_most : ℕ

@@ -58,7 +58,7 @@ module _ (cells : List (List ℕ)) where
         let l : length (columns_of (packed_tables cells) t) ≡ min (column_count cells t) (length cells - column_place t 0) =
         ap length (columns_in t h) ∙ length-map (take (column_count cells t) (drop (column_place t 0) cells)) column_from ∙ simp (length-take, length-drop) in
         let n = few_tables cells ok in
-        omega (arith, l, laws.few-columns cells ok t (omega (arith, h, n)), n, ok.size)
+        omega (arith, l, laws.few_columns_lem cells ok t (omega (arith, h, n)), n, ok.size)
 
     -- a table that has a column is one of the tables
     pub has_columns : (t c : ℕ) → c < length (columns_of (packed_tables cells) t) → t < table_count cells

@@ -49,7 +49,7 @@ module _ (a : List ℕ) (cells : List (List ℕ)) (x : Kept a cells) where
 
 module _ (a : List ℕ) (cells : List (List ℕ)) (x : Kept a cells) (size : length a ≡ store_bytes) (bytes : all octet a ≡ true) where
   abbrev s : Schema
-  s = packed.packedTables cells
+  s = packed.packed_tables cells
 
   module _ (before rows : List (List (List ℕ))) (b : Bool) (j : PartRead a cells before rows b) where
     is : store_of a ≡ when (part_good cells a && (rows_meet cells (row_count a) rows && lawful s (working s (row_count a) rows))) (decode_store a)
@@ -71,9 +71,9 @@ module _ (a : List ℕ) (cells : List (List ℕ)) (x : Kept a cells) (size : len
       pub rows_few : row_count a ≤ 32
       rows_few = holds.few
 
-      store_here : decode_store a ≡ store_in (packed.databaseFrom cells) (run_in a) (number_in a) (row_count a) rows
+      store_here : decode_store a ≡ store_in (packed.database_from cells) (run_in a) (number_in a) (row_count a) rows
       unfolding decode_store store_in
-      store_here = λ i. record { run = run_in a; number = number_in a; database = packed.databaseFrom (sym x.there i); rows = rows_held cells a (omega arith) bytes x.there x.accepted rows passed front i }
+      store_here = λ i. record { run = run_in a; number = number_in a; database = packed.database_from (sym x.there i); rows = rows_held cells a (omega arith) bytes x.there x.accepted rows passed front i }
 
       module _ (n : ℕ) (e : n ≡ row_count a) where
         pub opened_types : length rows ≡ length before → rows_meet cells n rows ≡ false → RowsOpened a cells before rows false
@@ -94,7 +94,7 @@ module _ (a : List ℕ) (cells : List (List ℕ)) (x : Kept a cells) (size : len
                   store = is ∙ rw (passed, m, l) (ap some store_here);
                   accepted = cells_accepted a cells x;
                   few = holds.few;
-                  tidy = rw (ap packed.packedTables x.there, front) holds.tidy;
+                  tidy = rw (ap packed.packed_tables x.there, front) holds.tidy;
                   ordered = j.ordered good;
                   read = front;
                 };
