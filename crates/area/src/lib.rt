@@ -1,4 +1,6 @@
 // The areas of a store and a mirror: rows read and written, and what an area leaves unused.
+#![tactic(auto)]
+
 ghost use Rattle.std.specs.Prelude.{◌≡◌, ◌&&◌, List, [], ◌∷◌, ◌++◌, ℕ, ◌+◌, ◌*◌, ◌-◌, ◌≤◌, ◌<◌, length, take, drop, get_or, replicate};
 ghost use Rattle.model.specs.Octets.{big, value, part};
 ghost use Rattle.model.specs.Limits.{most_columns, most_elements, most_rows, atom_bytes, number_bytes, row_cell_count, row_bytes, entry_bytes, entry_count, catalog_bytes, run_offset, number_offset, count_offset, rows_offset, store_bytes, top_offset, mirror_bytes};

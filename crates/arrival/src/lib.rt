@@ -1,4 +1,6 @@
 // An arrival at a mirror, on working rows: whether it is refused, what it does to the rows, and what the mirror's numbers are then; and what a mirror tells of itself.
+#![tactic(auto)]
+
 ghost use Rattle.std.specs.Prelude.{◌≡◌, true, false, List, ℕ, ◌+◌, ◌-◌, ◌≤◌, ◌<◌, max, length, take};
 ghost use Rattle.model.specs.Limits.{most_rows, most_columns, row_record_bytes, value_width};
 ghost use Rattle.model.specs.Octets.{value};
@@ -17,7 +19,7 @@ use model::{Atom, Atoms, Catalog, Entry, Found, ID, ROW_RECORD, ROWS, Row, Statu
 use record::{Arrival, ID_AT};
 
 // A mirror's numbers: n, the highest heard, whether anything was heard, whether n is 0 or ends a commit.
-#[derive(Drop)]
+#[derive(Clone, Copy)]
 pub struct Numbers {
     pub n: u32,
     pub top: u32,
@@ -26,7 +28,7 @@ pub struct Numbers {
 }
 
 // What an arrival leaves beside the rows: the status, the mirror's numbers, and how many rows there are.
-#[derive(Drop)]
+#[derive(Clone, Copy)]
 pub struct Outcome {
     pub status: Status,
     pub numbers: Numbers,
@@ -34,7 +36,7 @@ pub struct Outcome {
 }
 
 // What every record carries: its run and number, whether it is a mark, whether it ends a commit.
-#[derive(Drop)]
+#[derive(Clone, Copy)]
 pub struct Head {
     pub run: u32,
     pub number: u32,

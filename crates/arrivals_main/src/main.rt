@@ -1,6 +1,8 @@
 // Reads calls on a mirror's area from standard input, each after its length in two bytes, and writes a line for each: what it answers, and what the mirror tells then.
 // A call's first byte says which: 1 a start (run, schema's text), 2 an arrival (its bytes), 3 a row (table, id), 4 a column (table, id, column),
 // 5 a byte put into the area (where, in two bytes, and the byte), 6 all of these on an area that lacks its last byte.
+#![tactic(auto)]
+
 ghost use Rattle.model.specs.Limits.{id_bytes, mirror_bytes};
 ghost use Rattle.std.specs.Prelude.{◌≡◌, ◌+◌, ◌≤◌, ◌<◌, length};
 

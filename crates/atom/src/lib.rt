@@ -1,4 +1,6 @@
 // Atoms: equality, order by base type, texts, and which are well formed.
+#![tactic(auto)]
+
 ghost use Rattle.std.specs.Prelude.{◌≡◌, true, length, drop};
 ghost use Rattle.model.specs.Octets.{eq_bytes};
 ghost use Rattle.model.specs.Schema.{integer, boolean, text};

@@ -1,4 +1,5 @@
 // The C library: include/maqdufesh.h. Each function is the call of `store` or `mirror` of that name; a slice is a pointer and a length, 0 is accepted, a refusal is its number.
+#![tactic(auto)]
 
 ghost use Rattle.std.specs.Prelude.{◌≡◌, min};
 ghost use Rattle.model.specs.Refusals.{number_of};

@@ -1,4 +1,6 @@
 // The catalog: how its entries look, and what they say. No other crate knows where the parts of an entry lie.
+#![tactic(auto)]
+
 pub mod rules;
 pub mod tidied;
 pub mod tidied_columns;
@@ -256,7 +258,7 @@ fn put_six(out: &mut [u8], base: u8, how: u8, target: u8, min: u8, max: u8, muta
 }
 
 // What a column's entry says behind its name.
-#[derive(Drop)]
+#[derive(Clone, Copy)]
 pub struct Shape {
     pub base: u8,
     pub how: u8,

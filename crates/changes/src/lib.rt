@@ -1,5 +1,7 @@
 // The change records of a commit: all gone rows, then each new row with all its columns and each changed row with its changed columns, then the end. One walk writes and counts them.
 // The rows before the commit are those that the store's area has until it is written; those after it are working rows. Both are in order.
+#![tactic(auto)]
+
 ghost use Rattle.std.specs.Prelude.{◌≡◌, [], ◌∷◌, map, ◌+◌, ◌*◌, ◌%◌, ◌≤◌, ◌<◌, min, length};
 ghost use Rattle.model.specs.Limits.{most_rows, most_columns, id_bytes, store_bytes, last_number, end_bytes, row_record_bytes, column_record_bytes, least_records};
 ghost use Rattle.model.specs.Octets.{value, filled};
@@ -18,14 +20,14 @@ use model::{COUNTS_OFFSET, Catalog, Found, ID_OFFSET, LAST_NUMBER, Row};
 use record::{Born, Column, End, Gone};
 
 // Where the next record goes: how many there are already, and where their bytes end.
-#[derive(Drop)]
+#[derive(Clone, Copy)]
 pub struct Cursor {
     pub count: usize,
     pub at: usize,
 }
 
 // How the records of a commit are numbered: the store's run, and the number of the last record before them.
-#[derive(Drop)]
+#[derive(Clone, Copy)]
 pub struct Numbering {
     pub run: u32,
     pub number: u32,

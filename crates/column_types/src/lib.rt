@@ -1,4 +1,6 @@
 // The type of a column as a schema writes it: a key, min and max.
+#![tactic(auto)]
+
 ghost use Rattle.std.specs.Prelude.{◌≡◌, true, false, ◌&&◌, ◌||◌, map, ◌≤◌, ◌<◌, eqb, length};
 ghost use Rattle.std.specs.Int.Signed.{le_z};
 ghost use Rattle.model.specs.Limits.{most_tables};
@@ -17,7 +19,7 @@ use model::{ELEMENTS, Entry, Found, Whole};
 const MOST: u64 = ELEMENTS as u64;
 
 // A key: whether it fits, its base (0 integer, 1 boolean, 2 string, 3 uuid), how it refers (0 not, 1 strongly, 2 weakly), to which table, and its limits.
-#[derive(Drop)]
+#[derive(Clone, Copy)]
 pub struct Key {
     pub fits: bool,
     pub base: u8,
@@ -28,7 +30,7 @@ pub struct Key {
 }
 
 // A type: its key, and how many elements it may have; whether it fits.
-#[derive(Drop)]
+#[derive(Clone, Copy)]
 pub struct Shape {
     pub fits: bool,
     pub key: Key,
@@ -37,7 +39,7 @@ pub struct Shape {
 }
 
 // What a key says by its slots.
-#[derive(Drop)]
+#[derive(Clone, Copy)]
 struct Parts {
     word: usize,
     base: u8,

@@ -1,4 +1,6 @@
 // Columns as a schema writes them, read into cells.
+#![tactic(auto)]
+
 ghost use Rattle.std.specs.Prelude.{◌≡◌, true, false, map, ◌++◌, ℕ, ◌≤◌, ◌<◌, eqb, length, get_or, take, drop};
 ghost use Rattle.model.specs.Limits.{most_tables, most_columns};
 ghost use Rattle.model.specs.Base.{all};
@@ -16,7 +18,7 @@ use members::{Places, WORDS};
 use model::{ATOM, Atom, COLUMNS, ENTRY, Entry, Found, Kind, Whole};
 
 // A column: whether it fits, and its cell.
-#[derive(Drop)]
+#[derive(Clone, Copy)]
 pub struct Read {
     pub fits: bool,
     pub cell: Entry,

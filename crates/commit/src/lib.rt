@@ -1,4 +1,6 @@
 // The commit of a transaction: strong references, collection, weak references, and limits, in this order.
+#![tactic(auto)]
+
 ghost use Rattle.std.specs.Prelude.{◌≡◌};
 ghost use Rattle.model.specs.Base.{all};
 ghost use Rattle.model.specs.Commit.{lawful};
@@ -11,7 +13,7 @@ ghost use Rattle.commit.specs.Steps.{Committed};
 use model::{Catalog, Fault, Row};
 
 // What a commit says, and how many rows it leaves.
-#[derive(Drop)]
+#[derive(Clone, Copy)]
 pub struct Settled {
     pub fault: Fault,
     pub count: usize,

@@ -1,4 +1,6 @@
 // Conditions, [column, function, value]: each is read once, and narrows the marks of the rows that meet those before it.
+#![tactic(auto)]
+
 pub mod lookup;
 
 ghost use Rattle.std.specs.Prelude.{◌≡◌, true, [], ◌∷◌, map, ◌≤◌, length};
@@ -20,14 +22,14 @@ use model::{ATOM, Atoms, ELEMENTS, Entry, Fault, Found, Function, ROWS, Row};
 const UUID: u8 = 3;
 
 // The function that a word is, or that it is none.
-#[derive(Drop)]
+#[derive(Clone, Copy)]
 pub enum Choice {
     Of(Function),
     Nothing,
 }
 
 // What a string names: a column by its place, the row's id, or nothing.
-#[derive(Drop)]
+#[derive(Clone, Copy)]
 pub enum Named {
     Column(usize),
     Id,
@@ -120,7 +122,7 @@ fn is_allowed(column: &Entry, f: Function) -> bool
 }
 
 // A condition as read, but for its elements: what it is about, of which base type, and its function.
-#[derive(Drop)]
+#[derive(Clone, Copy)]
 pub struct Test {
     place: Place,
     kind: u8,

@@ -10,7 +10,7 @@ ghost use Rattle.conditions.specs.Lookup.{column_in, table_in, Triples, by_names
 use model::{Catalog, Entry, Found, Kind};
 
 // Where the three items of an array begin, of which the first two are strings; or that a value is no such array.
-#[derive(Drop)]
+#[derive(Clone, Copy)]
 pub enum Triple {
     Of(usize, usize, usize),
     Other,

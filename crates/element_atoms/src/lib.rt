@@ -1,4 +1,6 @@
 // Elements as written in a request, by positions of its text: the atom that one stands for, of a base type by its number.
+#![tactic(auto)]
+
 ghost use Rattle.std.specs.Prelude.{◌≡◌, true, false, ◌≤◌, length};
 ghost use Rattle.model.specs.Limits.{most_text_bytes, atom_bytes};
 ghost use Rattle.model.specs.Octets.{big, eq_bytes};
@@ -18,7 +20,7 @@ use model::{Found, Kind, TEXT, Whole};
 use text::Written;
 
 // What an element is as an atom of a base type: mistyped, a string above 24 bytes, or an atom of 25 bytes.
-#[derive(Drop)]
+#[derive(Clone, Copy)]
 pub enum Atom {
     Wrong,
     Long,

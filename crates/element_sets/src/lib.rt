@@ -1,4 +1,6 @@
 // The elements of a value as written, all together: of their type, in their limits, different, and their atoms.
+#![tactic(auto)]
+
 ghost use Rattle.std.specs.Prelude.{◌≡◌, true, pos};
 ghost use Rattle.std.specs.Int.Signed.{le_z};
 ghost use Rattle.model.specs.Base.{member, distinct};
@@ -15,7 +17,7 @@ use element_atoms::Atom;
 use model::{ATOM, Atoms, ELEMENTS, Entry, Found};
 
 // What is seen of one element: that it is of its type, not a string above 24 bytes, and in its column's limits.
-#[derive(Drop)]
+#[derive(Clone, Copy)]
 pub struct Seen {
     pub typed: bool,
     pub short: bool,
@@ -23,7 +25,7 @@ pub struct Seen {
 }
 
 // The same of all elements, and how many there are.
-#[derive(Drop)]
+#[derive(Clone, Copy)]
 pub struct Tally {
     pub count: usize,
     pub typed: bool,

@@ -1,4 +1,6 @@
 // The elements of values as written in a request, by positions of its text.
+#![tactic(auto)]
+
 ghost use Rattle.std.specs.Prelude.{◌≡◌, true};
 ghost use Rattle.inner.specs.Positions.{Says, well_at, tree_at};
 ghost use Rattle.model.specs.Nav.{items_in};
@@ -7,14 +9,14 @@ ghost use Rattle.elements.specs.Elements.{Pairs, next_element, Begins};
 use model::{Found, Kind};
 
 // Where the two items of an array begin; or that a value is no array of two.
-#[derive(Drop)]
+#[derive(Clone, Copy)]
 pub enum Pair {
     Of(usize, usize),
     Other,
 }
 
 // The elements of a value: whether they are a set's, and the first.
-#[derive(Drop)]
+#[derive(Clone, Copy)]
 pub struct Elements {
     pub set: bool,
     pub first: Found,

@@ -1,4 +1,6 @@
 // The fresh ids that come with a request, one for each operation that it may have.
+#![tactic(auto)]
+
 ghost use Rattle.std.specs.Prelude.{◌≡◌, ◌≤◌, ◌<◌, eqb, length};
 ghost use Rattle.model.specs.Limits.{id_bytes, most_operations, fresh_bytes};
 ghost use Rattle.model.specs.Octets.{value};

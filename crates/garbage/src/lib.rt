@@ -1,4 +1,6 @@
 // What a commit leaves of the working rows: rows that nothing holds go, and weak references to absent rows.
+#![tactic(auto)]
+
 pub mod counts;
 
 ghost use Rattle.std.specs.Prelude.{◌≡◌, not, [], ◌++◌, ◌+◌, ◌-◌, ◌≤◌, ◌<◌, eqb, length, drop, get_or, set};

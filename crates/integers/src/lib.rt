@@ -1,4 +1,6 @@
 // Integers as a sign and a magnitude: to and from an atom, their order, and arithmetic that is exact or told to be outside 64 bits.
+#![tactic(auto)]
+
 ghost use Rattle.std.specs.Prelude.{◌≡◌, ◌*◌, ltb, ◌+ℤ◌, ◌*ℤ◌};
 ghost use Rattle.std.specs.Int.Signed.{lt_z, le_z};
 ghost use Rattle.model.specs.Octets.{twos};
@@ -8,14 +10,14 @@ ghost use Rattle.integers.specs.Ints.{signed, int_in, as_int, differ, fitted, ca
 
 use model::{ATOM, Atom, Mutator};
 
-#[derive(Drop)]
+#[derive(Clone, Copy)]
 pub struct Int {
     pub minus: bool,
     pub size: u64,
 }
 
 // A result, that it divides by zero, or that it is outside 64 bits.
-#[derive(Drop)]
+#[derive(Clone, Copy)]
 pub enum Exact {
     Number(Int),
     ByZero,

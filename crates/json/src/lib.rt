@@ -1,4 +1,6 @@
 // A JSON text by RFC 4627 read once: where it ends, or where it stops being one, and where each value in it ends.
+#![tactic(auto)]
+
 ghost use Rattle.std.specs.Prelude.{◌≡◌, ◌≤◌, length, replicate};
 ghost use Rattle.model.specs.Json.{value_at, array_at, member_at, object_at, text_at};
 ghost use Rattle.inner.specs.Positions.{Says};

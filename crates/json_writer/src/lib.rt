@@ -1,5 +1,7 @@
 // The text of answers, written as it is produced. Each writer is lent the answer's whole buffer and told how many bytes of text came before; it puts its text there
 // as far as the buffer goes, and answers how many bytes there are now, in the buffer and past its end.
+#![tactic(auto)]
+
 ghost use Rattle.std.specs.Prelude.{◌≡◌, true, [], ◌∷◌, ◌++◌, ◌+◌, ◌-◌, ◌*◌, ◌^◌, ◌<◌, ◌≤◌, min, length, take, drop, get_or};
 ghost use Rattle.model.specs.Limits.{most_elements, id_bytes};
 ghost use Rattle.model.specs.Octets.{value};

@@ -1,4 +1,6 @@
 // What several crates use and no other crate is the home of: a byte as a number and a test as a byte, faults and kinds compared.
+#![tactic(auto)]
+
 ghost use Rattle.std.specs.Prelude.{◌≡◌, ◌∷◌, ◌≤◌, length, drop};
 ghost use Rattle.model.specs.Faults.{is_fine, rank, earlier};
 ghost use Rattle.model.specs.Nav.{kind_number, is_kind};

@@ -1,4 +1,6 @@
 // The limits of a commit: a column's minimum, a table's rows, and indexes.
+#![tactic(auto)]
+
 ghost use Rattle.std.specs.Prelude.{◌≡◌, [], ◌+◌, ◌≤◌, ◌<◌, length, take, drop, get_or};
 ghost use Rattle.model.specs.Base.{any, all, keep};
 ghost use Rattle.model.specs.Schema.{columns_of};

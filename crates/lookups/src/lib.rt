@@ -1,4 +1,6 @@
 // The searches of `rows` for C, so that a host program can time them (tests/host/lookup). A call asks for many keys or ids at once; rows that are not in order have none.
+#![tactic(auto)]
+
 ghost use Rattle.std.specs.Prelude.{◌≡◌, map, length};
 ghost use Rattle.model.specs.Octets.{value};
 ghost use Rattle.model.specs.Schema.{Schema};

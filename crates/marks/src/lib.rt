@@ -1,4 +1,6 @@
 // Marks of rows: which of them a condition leaves, how many are left, and the rows without them. No text is read here.
+#![tactic(auto)]
+
 ghost use Rattle.std.specs.Prelude.{◌≡◌, Bool, true, List, [], ℕ, ◌≤◌, ◌<◌, eqb, length, get_or, set};
 ghost use Rattle.std.specs.Int.Signed.{lt_z, le_z};
 ghost use Rattle.model.specs.Limits.{most_rows, id_bytes, atom_bytes};
@@ -15,7 +17,7 @@ use integers::Int;
 use model::{ATOM, Atom, Function, ROWS, Row};
 
 // What a condition is about: a column by its place, or the row's id.
-#[derive(Drop)]
+#[derive(Clone, Copy)]
 pub enum Place {
     Column(usize),
     Id,

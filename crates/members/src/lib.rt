@@ -1,4 +1,6 @@
 // Members of an object by a few words at once. The words stand one after another, each after its length, as b"\x03key\x03min\x03max".
+#![tactic(auto)]
+
 ghost use Rattle.std.specs.Prelude.{◌≡◌, true, [], ◌≤◌, ◌<◌, length, get_or};
 ghost use Rattle.model.specs.Base.{distinct};
 ghost use Rattle.inner.specs.Positions.{Says, well_at, tree_at};

@@ -1,6 +1,8 @@
 // The mirror that a display keeps: starting it, arrivals, and questions, on areas of any bytes.
 // Each promises its status's number, as the first refusal of document 01 that applies (crates/model/specs/FirstRefusal.antt), and the equation of the model's definition for that
 // call (Calls.antt): its status, and its area or output afterwards. Demand 3 (Demands.antt) speaks of those same definitions, so with these equations it speaks of this code.
+#![tactic(auto)]
+
 ghost use Rattle.std.specs.Prelude.{◌≡◌, false, ◌≤◌, length};
 ghost use Rattle.model.specs.Limits.{most_rows, mirror_bytes};
 ghost use Rattle.model.specs.Refusals.{number_of};
@@ -15,7 +17,7 @@ use model::{
 };
 
 // What a mirror tells of itself: n, and whether it is level. A refused question has 0 and false.
-#[derive(Drop)]
+#[derive(Clone, Copy)]
 pub struct Standing {
     pub status: Status,
     pub n: u32,
@@ -23,7 +25,7 @@ pub struct Standing {
 }
 
 // Whether a row is there; false where the question is refused.
-#[derive(Drop)]
+#[derive(Clone, Copy)]
 pub struct Presence {
     pub status: Status,
     pub there: bool,

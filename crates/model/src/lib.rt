@@ -1,7 +1,8 @@
 // The types that the definitions and the code share.
+#![tactic(auto)]
 
 // Where reading ended: past what was read, at the byte that stopped it, or at the bracket that opened one level too many.
-#[derive(Drop)]
+#[derive(Clone, Copy)]
 pub enum Read {
     End(usize),
     Stop(usize),
@@ -9,14 +10,14 @@ pub enum Read {
 }
 
 // What a loop does next: one more turn from a position on, or the end.
-#[derive(Drop)]
+#[derive(Clone, Copy)]
 pub enum Next {
     More(usize),
     Done(Read),
 }
 
 // Whether a value's first byte opens a level.
-#[derive(Drop)]
+#[derive(Clone, Copy)]
 pub enum Open {
     Array,
     Object,
@@ -24,14 +25,14 @@ pub enum Open {
 }
 
 // A position, or none.
-#[derive(Drop)]
+#[derive(Clone, Copy)]
 pub enum Found {
     At(usize),
     Nothing,
 }
 
 // The kinds of JSON values.
-#[derive(Drop)]
+#[derive(Clone, Copy)]
 pub enum Kind {
     Null,
     Truth,
@@ -42,14 +43,14 @@ pub enum Kind {
 }
 
 // What digits stand for, or that they are none or too large.
-#[derive(Drop)]
+#[derive(Clone, Copy)]
 pub enum Digits {
     Size(u64),
     Bad,
 }
 
 // An integer's sign and magnitude, or that a value is none.
-#[derive(Drop)]
+#[derive(Clone, Copy)]
 pub enum Whole {
     Plus(u64),
     Minus(u64),
@@ -57,7 +58,7 @@ pub enum Whole {
 }
 
 // How an operation or a commit fails, in the order of document 01's error checks; Fine where it does not.
-#[derive(Drop)]
+#[derive(Clone, Copy)]
 pub enum Fault {
     Fine,
     Syntax,
@@ -71,7 +72,7 @@ pub enum Fault {
 }
 
 // The functions of conditions (RFC 7047, 5.1).
-#[derive(Drop)]
+#[derive(Clone, Copy)]
 pub enum Function {
     Less,
     AtMost,
@@ -84,7 +85,7 @@ pub enum Function {
 }
 
 // The mutators of mutations (RFC 7047, 5.1).
-#[derive(Drop)]
+#[derive(Clone, Copy)]
 pub enum Mutator {
     Add,
     Subtract,
@@ -96,7 +97,7 @@ pub enum Mutator {
 }
 
 // A call's status: accepted, or the refusal of document 01's table; a mirror tells an accepted arrival apart by four more. (The answer is a transact's JSON text.)
-#[derive(Drop)]
+#[derive(Clone, Copy)]
 pub enum Status {
     Accepted,
     Disordered,

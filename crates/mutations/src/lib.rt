@@ -1,4 +1,6 @@
 // Rows mutated: each mutation is read once, and put on one marked row after another.
+#![tactic(auto)]
+
 pub mod read;
 pub mod step;
 
@@ -14,7 +16,7 @@ use model::{ATOM, Atoms, ELEMENTS, Entry, Fault, Found, ROWS, Row};
 use read::Mutation;
 
 // How far rows are mutated: up to the first on which a step fails, and the fault of that; or all of them, and no fault.
-#[derive(Drop)]
+#[derive(Clone, Copy)]
 struct Stop {
     fault: Fault,
     end: usize,

@@ -12,21 +12,21 @@ use conditions::lookup::Triple;
 use model::{Atoms, Entry, Fault, Found, Mutator};
 
 // The mutator that a word is, or that it is none.
-#[derive(Drop)]
+#[derive(Clone, Copy)]
 enum Choice {
     Of(Mutator),
     Nothing,
 }
 
 // The parts of a mutation: the place of its column, its mutator, and where its value stands; or that it is none.
-#[derive(Drop)]
+#[derive(Clone, Copy)]
 enum Parts {
     Of(usize, Mutator, usize),
     Nothing,
 }
 
 // A mutation as read: its fault, the place of its column, its mutator, where its value stands, how many elements that has, and whether their atoms fit four places.
-#[derive(Drop)]
+#[derive(Clone, Copy)]
 pub struct Mutation {
     pub fault: Fault,
     pub place: usize,

@@ -1,4 +1,6 @@
 // Names read from a text into cells, and versions.
+#![tactic(auto)]
+
 ghost use Rattle.std.specs.Prelude.{◌≡◌};
 ghost use Rattle.inner.specs.Positions.{tree_at};
 ghost use Rattle.model.specs.SchemaText.{is_version};

@@ -1,4 +1,6 @@
 // Values of a well-formed text, by position: kinds, items, members, integers.
+#![tactic(auto)]
+
 ghost use Rattle.std.specs.Prelude.{◌≡◌, ◌≤◌, ◌-◌, length, get_or};
 ghost use Rattle.model.specs.declared.Read.TheVariants.{End};
 ghost use Rattle.model.specs.Scan.{between, end_or};

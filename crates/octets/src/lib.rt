@@ -1,4 +1,6 @@
 // Bytes: zeros, copies, equality, order, and numbers most significant byte first at any width.
+#![tactic(auto)]
+
 ghost use Rattle.std.specs.Prelude.{◌≡◌, ◌++◌, ◌≤◌, length, take, drop, replicate};
 ghost use Rattle.model.specs.Octets.{big, value, twos, eq_bytes, lt_bytes};
 ghost use Rattle.model.specs.Whole.{whole_int};

@@ -1,4 +1,6 @@
 // The operations of a request, run in order on working rows; their results, written as they are produced.
+#![tactic(auto)]
+
 pub mod clauses;
 pub mod on_table;
 pub mod operation;
@@ -19,7 +21,7 @@ use model::{Catalog, Fault, Found, Row};
 use on_table::Reply;
 
 // What the operations leave: the first fault, whether there is something to commit (no fault, and an operation that may have changed a row), how many rows there are, and where the answer ends.
-#[derive(Drop)]
+#[derive(Clone, Copy)]
 pub struct Finish {
     pub fault: Fault,
     pub pending: bool,

@@ -14,7 +14,7 @@ use members::Places;
 use model::{ATOM, CELLS, COLUMNS, Catalog, Entry, Fault, ID, ROWS, Row};
 
 // What an operation is, by its "op" and its table.
-#[derive(Drop)]
+#[derive(Clone, Copy)]
 pub enum Operation {
     Insert,
     Select,
@@ -27,7 +27,7 @@ pub enum Operation {
 }
 
 // An operation of a request: its number, its place in the text, its table where it is on one, and how many rows there are before it.
-#[derive(Drop)]
+#[derive(Clone, Copy)]
 pub struct Call {
     pub operation: Operation,
     pub number: usize,
@@ -37,7 +37,7 @@ pub struct Call {
 }
 
 // What an operation answers: {}, a count, its own fresh id, or rows, which are in the answer then, up to that place.
-#[derive(Drop)]
+#[derive(Clone, Copy)]
 pub enum Reply {
     Empty,
     Count(usize),
@@ -46,7 +46,7 @@ pub enum Reply {
 }
 
 // An operation's fault, how many rows there are then, and what it answers where there is no fault.
-#[derive(Drop)]
+#[derive(Clone, Copy)]
 pub struct Done {
     pub fault: Fault,
     pub count: usize,
@@ -54,7 +54,7 @@ pub struct Done {
 }
 
 // What the conditions of a call come to: the places of its members, the fault of members that it does not have and of the conditions, and where there is none marks of the rows that match.
-#[derive(Drop)]
+#[derive(Clone, Copy)]
 pub struct Matched {
     pub slots: Places,
     pub fault: Fault,

@@ -1,4 +1,6 @@
 // The object of a selected row: "_uuid" first, then the columns in schema order, of each what is shown.
+#![tactic(auto)]
+
 ghost use Rattle.std.specs.Prelude.{◌≡◌, true, ◌+◌, ◌*◌, ◌^◌, ◌<◌, ◌≤◌, length};
 ghost use Rattle.model.specs.Limits.{most_tables, most_columns, entry_bytes, entry_count};
 ghost use Rattle.model.specs.Catalog.{entry_name, column_count};

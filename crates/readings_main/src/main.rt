@@ -5,6 +5,8 @@
 //     mark LENGTH
 //     put PLACE BYTES      bytes put into the area
 //     lacking CALL         a call on an area that lacks its last byte
+#![tactic(auto)]
+
 ghost use Rattle.std.specs.Prelude.{◌≡◌, ◌+◌, ◌≤◌, ◌<◌, length};
 ghost use Rattle.model.specs.Limits.{store_bytes};
 ghost use Rattle.io.specs.Counts.{IsPrefixLen};

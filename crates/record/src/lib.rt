@@ -1,4 +1,6 @@
 // The records of the line: one byte of kind, then a body whose length the kind fixes. A record's id and atoms stay where they are and are lent beside its struct.
+#![tactic(auto)]
+
 ghost use Rattle.std.specs.Prelude.{◌≡◌, ◌∷◌, ◌++◌, ◌+◌, ◌*◌, ◌≤◌, eqb, length, drop};
 ghost use Rattle.model.specs.Limits.{atom_bytes, id_bytes, number_bytes, most_elements, end_bytes, row_record_bytes, column_record_bytes};
 ghost use Rattle.model.specs.Octets.{value, part};
@@ -74,7 +76,7 @@ pub fn put_atoms(out: &mut [u8], atoms: &[Atom])
 }
 
 // A new row.
-#[derive(Drop)]
+#[derive(Clone, Copy)]
 pub struct Born {
     pub run: u32,
     pub number: u32,
@@ -101,7 +103,7 @@ impl Born {
 }
 
 // A row that went.
-#[derive(Drop)]
+#[derive(Clone, Copy)]
 pub struct Gone {
     pub run: u32,
     pub number: u32,
@@ -128,7 +130,7 @@ impl Gone {
 }
 
 // A column's value: its count, and the atoms beside it.
-#[derive(Drop)]
+#[derive(Clone, Copy)]
 pub struct Column {
     pub run: u32,
     pub number: u32,
@@ -168,7 +170,7 @@ impl Column {
 }
 
 // The end of a commit.
-#[derive(Drop)]
+#[derive(Clone, Copy)]
 pub struct End {
     pub run: u32,
     pub number: u32,
@@ -194,7 +196,7 @@ impl End {
 }
 
 // The last number given out.
-#[derive(Drop)]
+#[derive(Clone, Copy)]
 pub struct Mark {
     pub run: u32,
     pub last: u32,
@@ -220,7 +222,7 @@ impl Mark {
 }
 
 // What bytes are read as: a record, whose id and atoms stay in the bytes, or one of an unknown kind or the wrong length.
-#[derive(Drop)]
+#[derive(Clone, Copy)]
 pub enum Arrival {
     Born(Born),
     Gone(Gone),

@@ -1,4 +1,6 @@
 // Document 01's first reading: the 163 bytes of a row of Probe that is new in run 1, its one column and the end, written one after another and printed in hex.
+#![tactic(auto)]
+
 ghost use Rattle.std.specs.Prelude.{◌≡◌, ◌++◌, map, ◌≤◌, ◌<◌, length, drop};
 ghost use Rattle.model.specs.Base.{flat};
 ghost use Rattle.model.specs.Records.{encode, number_from};

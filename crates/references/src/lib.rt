@@ -1,4 +1,6 @@
 // References: which rows the elements of a row's columns name.
+#![tactic(auto)]
+
 ghost use Rattle.std.specs.Prelude.{◌≡◌, ◌++◌, ℕ, ◌+◌, ◌≤◌, ◌<◌, min, eqb, length, take, drop};
 ghost use Rattle.std.proofs.Math.Option.{some};
 ghost use Rattle.model.specs.Limits.{most_columns, most_elements};
@@ -16,7 +18,7 @@ ghost use Rattle.catalog.specs.Accepted.{Accepted};
 use model::{Atom, Catalog, ELEMENTS, ID, Row};
 
 // The table that a column refers to, if it refers to one.
-#[derive(Drop)]
+#[derive(Clone, Copy)]
 pub enum Target {
     Table(u8),
     Nothing,

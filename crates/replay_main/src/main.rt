@@ -1,5 +1,6 @@
 // Replays requests on a store: what each is answered and the records that it sends; then the tables as a mirror has them that heard every record, and as a display
 // has them that lost all records after the first commit's.
+#![tactic(auto)]
 
 ghost use Rattle.model.specs.Limits.{fresh_bytes, column_record_bytes};
 ghost use Rattle.std.specs.Prelude.{◌≡◌, ◌*◌, ◌+◌, ◌^◌, ◌≤◌, ◌<◌, min, length};
@@ -11,14 +12,14 @@ use model::{
 };
 
 // How much of a buffer a file fills, and whether it was read.
-#[derive(Drop)]
+#[derive(Clone, Copy)]
 struct Filled {
     good: bool,
     size: usize,
 }
 
 // A run's number, and whether it is one.
-#[derive(Drop)]
+#[derive(Clone, Copy)]
 struct Run {
     good: bool,
     run: u32,

@@ -1,4 +1,6 @@
 // A request: the params of "transact", read by positions of its text; and the fresh ids that come with it.
+#![tactic(auto)]
+
 ghost use Rattle.std.specs.Prelude.{◌≡◌, true, false};
 ghost use Rattle.inner.specs.Positions.{Says, well_at, items_from, items_fine};
 ghost use Rattle.request.specs.Reading.{Counted, Parted, RequestRead};
@@ -6,7 +8,7 @@ ghost use Rattle.request.specs.Reading.{Counted, Parted, RequestRead};
 use model::{Found, Kind, OPERATIONS, REQUEST_TEXT, Read};
 
 // Whether a text is a request, where the database's name stands in it, where its operations begin, and how many they are.
-#[derive(Drop)]
+#[derive(Clone, Copy)]
 pub struct Request {
     pub fits: bool,
     pub name: usize,
@@ -15,7 +17,7 @@ pub struct Request {
 }
 
 // Whether items are objects, as many as a request may have, and how many they are then.
-#[derive(Drop)]
+#[derive(Clone, Copy)]
 pub struct Items {
     pub few: bool,
     pub count: usize,

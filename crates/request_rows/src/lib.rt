@@ -1,4 +1,6 @@
 // A row as written in insert and update, read once: its fault, a row with what it says, and rows changed by that.
+#![tactic(auto)]
+
 ghost use Rattle.std.specs.Prelude.{◌≡◌, true, List, map, ◌≤◌, ◌<◌, length};
 ghost use Rattle.std.proofs.Math.Option.{Option};
 ghost use Rattle.model.specs.Limits.{most_columns, most_elements, most_rows};
@@ -46,7 +48,7 @@ fn named_fault(insert: bool, column: &Entry) -> Fault
 }
 
 // What one column of a row as written gives: how it is judged, and whether it is named.
-#[derive(Drop)]
+#[derive(Clone, Copy)]
 struct Taken {
     fault: Fault,
     given: bool,

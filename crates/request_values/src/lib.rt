@@ -1,4 +1,6 @@
 // Values as written in a request: how each is judged, and its atoms where there is no fault.
+#![tactic(auto)]
+
 ghost use Rattle.std.specs.Prelude.{◌≡◌, true, ◌≤◌, eqb};
 ghost use Rattle.model.specs.Limits.{most_elements};
 ghost use Rattle.model.specs.Base.{if◌then◌else◌};
@@ -14,7 +16,7 @@ ghost use Rattle.request_values.specs.Values.{Inspected, first_fault, MutationFa
 use model::{Atoms, ELEMENTS, Entry, Fault, Function, Mutator};
 
 // What is judged of a value as written: how many elements, that they are of their type, no string above 24 bytes, in their limits, and different.
-#[derive(Drop)]
+#[derive(Clone, Copy)]
 struct Findings {
     count: usize,
     typed: bool,
@@ -24,7 +26,7 @@ struct Findings {
 }
 
 // A value that was read: how it is judged, how many elements it has, and whether these are at most four and none is a long string.
-#[derive(Drop)]
+#[derive(Clone, Copy)]
 pub struct Given {
     pub fault: Fault,
     pub count: usize,

@@ -1,4 +1,6 @@
 // Whether values meet their types: count, range, and length in characters, by the columns' entries of a catalog.
+#![tactic(auto)]
+
 ghost use Rattle.std.specs.Prelude.{◌≡◌, ◌+◌, ◌≤◌, ◌<◌, pos, length, take, get_or};
 ghost use Rattle.model.specs.Limits.{most_columns};
 ghost use Rattle.model.specs.Text.{chars};

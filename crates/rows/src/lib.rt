@@ -1,4 +1,6 @@
 // Working rows: rows in cells, beside their count, in the order of their keys.
+#![tactic(auto)]
+
 ghost use Rattle.std.specs.Prelude.{◌≡◌, false, not, ◌&&◌, List, [], map, ℕ, ◌+◌, ◌-◌, ◌%◌, ◌^◌, ◌≤◌, ◌<◌, eqb, ltb, length, get_or, take, drop};
 ghost use Rattle.model.specs.Limits.{most_columns, most_elements, row_cell_count, id_bytes, counts_offset};
 ghost use Rattle.model.specs.Octets.{value, part, eq_bytes};
@@ -158,7 +160,7 @@ const FEW: usize = 8;
 const MANY: usize = 16;
 
 // Rows from a place on, up to another.
-#[derive(Drop)]
+#[derive(Clone, Copy)]
 struct Span {
     from: usize,
     to: usize,

@@ -1,4 +1,6 @@
 // The parts of a JSON text by RFC 4627 that open no level: where each ends, or where the text stops being one.
+#![tactic(auto)]
+
 ghost use Rattle.std.specs.Prelude.{◌≡◌, List, [], ◌∷◌, ℕ, ◌-◌};
 ghost use Rattle.model.specs.Scan.{byte, is_space, is_digit, spaces_at, digits_at, within_at};
 ghost use Rattle.model.specs.Scan.{word_at};
@@ -75,14 +77,14 @@ const LETTER_MORE: u16 = LETTER_A - 10;
 const CAPITAL_MORE: u16 = CAPITAL_A - 10;
 
 // Hexadecimal digits read so far: the next position and their number; or the position of a byte that is none.
-#[derive(Drop)]
+#[derive(Clone, Copy)]
 pub enum Hex {
     Unit16(usize, u32),
     Bad(usize),
 }
 
 // What a 16-bit unit is: a character, the first half of a pair, or one that is refused.
-#[derive(Drop)]
+#[derive(Clone, Copy)]
 pub enum Half {
     Whole,
     High,

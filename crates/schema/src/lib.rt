@@ -1,4 +1,6 @@
 // A schema's text read into a catalog.
+#![tactic(auto)]
+
 ghost use Rattle.std.specs.Prelude.{◌≡◌, true, false, [], ◌∷◌, ◌++◌, ◌≤◌, eqb, length, get_or, replicate};
 ghost use Rattle.inner.specs.Positions.{Says, well_at, tree_at};
 ghost use Rattle.model.specs.SchemaText.{is_string_of, is_version};

@@ -1,4 +1,6 @@
 // Reads schemas from standard input, each after its length in two bytes, and writes what was read: refused, or a line for the database, each table and each column, with its number, its name and the bytes after the name.
+#![tactic(auto)]
+
 ghost use Rattle.model.specs.Limits.{most_tables};
 ghost use Rattle.std.specs.Prelude.{◌≤◌, ◌<◌, length};
 

@@ -1,4 +1,6 @@
 // The columns that a select names, and the rows that it answers.
+#![tactic(auto)]
+
 ghost use Rattle.std.specs.Prelude.{◌≡◌, Bool, true, not, ◌&&◌, ◌||◌, List, [], map, ℕ, ◌+◌, ◌^◌, ◌≤◌, ◌<◌, length, get_or};
 ghost use Rattle.model.specs.Limits.{most_tables, most_columns, most_rows};
 ghost use Rattle.inner.specs.Positions.{Says, tree_at, items_from};
@@ -21,7 +23,7 @@ use projection::SHOWN;
 
 // What the columns of a select come to: how they are judged, and flags of what is shown, "_uuid" and each column. After a fault
 // the flags are free.
-#[derive(Drop)]
+#[derive(Clone, Copy)]
 pub struct Columns {
     pub fault: Fault,
     pub flags: [bool; SHOWN],

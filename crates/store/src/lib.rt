@@ -1,4 +1,6 @@
 // The calls of a store. Each promises its status's number, as the first refusal of document 01 that applies (specs FirstRefusal of model), and the equation of the model's definition for that call.
+#![tactic(auto)]
+
 mod good_order;
 mod reply;
 

@@ -19,7 +19,7 @@ use request::Request;
 const FEW_ROWS: usize = 8;
 
 // What a transaction comes to: whether it commits a change, how many rows there are then, and where the answer ends.
-#[derive(Drop)]
+#[derive(Clone, Copy)]
 pub struct Outcome {
     pub commits: bool,
     pub count: usize,
@@ -27,7 +27,7 @@ pub struct Outcome {
 }
 
 // What is asked: whether it is run, the refusal where it is not, and the place of the first operation.
-#[derive(Drop)]
+#[derive(Clone, Copy)]
 pub struct Question {
     pub runs: bool,
     pub status: Status,
@@ -35,7 +35,7 @@ pub struct Question {
 }
 
 // What a transact comes to: its status, whether it commits, how many rows there are then, and how many record numbers it gives out.
-#[derive(Drop)]
+#[derive(Clone, Copy)]
 pub struct Effect {
     pub status: Status,
     pub commits: bool,

@@ -1,4 +1,6 @@
 // Tables as a schema writes them, read into cells.
+#![tactic(auto)]
+
 ghost use Rattle.std.specs.Prelude.{◌≡◌, true, false, map, ◌≤◌, eqb, length, take};
 ghost use Rattle.model.specs.Limits.{most_tables, most_columns, entry_count};
 ghost use Rattle.model.specs.Base.{all};
@@ -15,7 +17,7 @@ use members::{Places, WORDS};
 use model::{COLUMNS, ENTRY, Entry, Kind, TABLES, Whole};
 
 // A table: whether it fits, and its cell.
-#[derive(Drop)]
+#[derive(Clone, Copy)]
 pub struct Read {
     pub fits: bool,
     pub cell: Entry,

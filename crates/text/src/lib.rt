@@ -1,4 +1,6 @@
 // Strings of a text: decoded, looked up, compared, counted.
+#![tactic(auto)]
+
 ghost use Rattle.std.specs.Prelude.{◌≡◌, [], ◌∷◌, true, cond, ◌+◌, ◌-◌, ◌*◌, ◌%◌, ◌≤◌, ◌<◌, length, take, drop};
 ghost use Rattle.model.specs.Scan.{byte, between, end_or};
 ghost use Rattle.model.specs.Strings.{is_first_half, utf8, pair_of, char_bytes, body_at};
@@ -19,14 +21,14 @@ use model::{Found, Next, Read};
 use scan::{BACKSLASH, Hex, LETTER_U, QUOTE};
 
 // Where the next byte goes, or that there is no room.
-#[derive(Drop)]
+#[derive(Clone, Copy)]
 pub enum Written {
     To(usize),
     Full,
 }
 
 // A byte of a string, with the character and the offset in it where the next one is; or that there are no more.
-#[derive(Drop)]
+#[derive(Clone, Copy)]
 enum Step {
     Byte(u8, usize, usize),
     End,
@@ -289,7 +291,7 @@ fn quote(text: &[u8], at: usize) -> Found
 }
 
 // A part of the text or of the scratch area.
-#[derive(Drop)]
+#[derive(Clone, Copy)]
 pub struct Part {
     pub in_scratch: bool,
     pub start: usize,

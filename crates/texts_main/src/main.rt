@@ -1,4 +1,6 @@
 // Reads texts from standard input, each after its length in two bytes, and writes a line for each: where reading ended, and what was read.
+#![tactic(auto)]
+
 ghost use Rattle.std.specs.Prelude.{◌≡◌, true, ◌≤◌, ◌<◌, length};
 ghost use Rattle.model.specs.Json.{text_at};
 ghost use Rattle.inner.specs.Positions.{Says, well_at};

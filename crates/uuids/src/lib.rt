@@ -1,4 +1,6 @@
 // Ids as written in a request: the characters of a uuid, and the uuid-names of its inserts.
+#![tactic(auto)]
+
 ghost use Rattle.std.specs.Prelude.{◌≡◌, true, ◌++◌, ◌≤◌, ◌<◌, length};
 ghost use Rattle.model.specs.Limits.{most_request_bytes, most_operations, atom_bytes, fresh_bytes};
 ghost use Rattle.model.specs.Octets.{big};
@@ -21,7 +23,7 @@ const CHARACTERS: usize = 36;
 pub const NAMES: usize = FRESH_BYTES + 2 * OPERATIONS;
 
 // The upper and the lower 64 bits of an id; or that there is none.
-#[derive(Drop)]
+#[derive(Clone, Copy)]
 pub enum Id {
     Of(u64, u64),
     Bad,

@@ -1,4 +1,6 @@
 // Sets of atoms, and the canonical form of a value.
+#![tactic(auto)]
+
 ghost use Rattle.std.specs.Prelude.{◌≡◌, true, [], ◌∷◌, ◌++◌, ◌≤◌, length, take, drop};
 ghost use Rattle.model.specs.Limits.{most_elements};
 ghost use Rattle.model.specs.Base.{if◌then◌else◌, all, member, distinct, eq_lists};
