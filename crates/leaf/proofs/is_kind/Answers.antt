@@ -1,0 +1,7 @@
+-- `leaf::is_kind` meets its contract.
+use lib.Dec.{eqb}
+use borrow.Author.Rules.{rules}
+use Rattle.leaf.proofs.is_kind.Goals as goal
+
+pub returns : goal.returns
+returns c = λ j. eqb (c.kind_number-a.ensures j) (c.kind_number-b.ensures j)

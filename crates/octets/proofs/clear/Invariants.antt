@@ -1,0 +1,14 @@
+-- The loop of `octets::clear`.
+use mathlib.Core.Path.{◌≡◌, refl, ap, ◌∙◌}
+use mathlib.Core.List.{List, ◌++◌, append-nil}
+use Prim.Native.Nat.{ℕ, ◌+◌, ◌-◌, ◌≤◌}
+use native.Mathlib.Omega.{arith}
+use lib.ListN.{length, set, drop, replicate, length-set, drop_of_length-le}
+use borrow.Author.Fill.{fill_none, fill_more}
+use Rattle.octets.proofs.clear.Given as goal
+
+abbrev pub invariant-loop-i : goal.invariant-loop-i
+invariant-loop-i l = (l.i ≤ length l.initial.b) × (length l.b ≡ length l.initial.b) × (l.b ≡ replicate l.i 0 ++ drop l.i l.initial.b)
+
+abbrev pub decreases-loop-i : goal.decreases-loop-i
+decreases-loop-i l = length l.initial.b - l.i
