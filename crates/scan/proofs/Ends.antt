@@ -11,19 +11,19 @@ use Rattle.model.specs.declared.Read.TheVariants.{End, Stop, Deep}
 
 -- what holds of a `Stop` and of a `Deep` holds of what is no `End`
 pub no_end : (P : Read → Type 0) → ((e : ℕ) → P (Stop e)) → ((e : ℕ) → P (Deep e)) → (r : Read) →
-    (tag_of (declared enum) r ≡ 1) ⊎ (tag_of (declared enum) r ≡ 2) → P r
-no_end P f g (End e) h = absurd (⊎_elim (λ x. omega (arith, x)) (λ x. omega (arith, x)) h)
+    ((x : ℕ) → r ≡ End x → ⊥) → P r
+no_end P f g (End e) h = absurd (h e refl)
 no_end P f g (Stop e) h = f e
 no_end P f g (Deep e) h = g e
 
-pub then_not : {A : Type 0} (d : A) (f : ℕ → Parsed A) (r : Read) → (tag_of (declared enum) r ≡ 1) ⊎ (tag_of (declared enum) r ≡ 2) → r ≡ (and_then d f r).read
+pub then_not : {A : Type 0} (d : A) (f : ℕ → Parsed A) (r : Read) → ((x : ℕ) → r ≡ End x → ⊥) → r ≡ (and_then d f r).read
 unfolding and_then
 then_not d f = no_end (λ r. r ≡ (and_then d f r).read) (λ e. refl) (λ e. refl)
 
-pub read_not : (f : ℕ → Read) (r : Read) → (tag_of (declared enum) r ≡ 1) ⊎ (tag_of (declared enum) r ≡ 2) → r ≡ then_read f r
+pub read_not : (f : ℕ → Read) (r : Read) → ((x : ℕ) → r ≡ End x → ⊥) → r ≡ then_read f r
 unfolding then_read
 read_not f = no_end (λ r. r ≡ then_read f r) (λ e. refl) (λ e. refl)
 
-pub read_not_twice : (f g : ℕ → Read) (r : Read) → (tag_of (declared enum) r ≡ 1) ⊎ (tag_of (declared enum) r ≡ 2) → r ≡ then_read f (then_read g r)
+pub read_not_twice : (f g : ℕ → Read) (r : Read) → ((x : ℕ) → r ≡ End x → ⊥) → r ≡ then_read f (then_read g r)
 unfolding then_read
 read_not_twice f g = no_end (λ r. r ≡ then_read f (then_read g r)) (λ e. refl) (λ e. refl)

@@ -1,0 +1,14 @@
+-- The loop of `scan::spaces`.
+use Prim.Native.Nat.{◌≤◌, ◌-◌}
+use mathlib.Core.Path.{◌≡◌, refl, sym, ap, ◌∙◌}
+use native.Mathlib.Omega.{arith}
+use native.Mathlib.Nat.{sub-zero}
+use Rattle.model.specs.Scan.{passing, is_space}
+use Rattle.scan.proofs.Bytes.{inside_test, pass_turn, pass_done, pass_spent}
+use Rattle.scan.proofs.spaces.Given as goal
+
+abbrev pub invariant-loop-k : goal.invariant-loop-k
+invariant-loop-k l = (l.k ≤ l.k-end) × (passing is_space l.text l.k-end l.at ≡ passing is_space l.text (l.k-end - l.k) l.i)
+
+abbrev pub decreases-loop-k : goal.decreases-loop-k
+decreases-loop-k l = l.k-end - l.k
