@@ -1,0 +1,16 @@
+-- The loop of `catalog::tidied::tidied`.
+use mathlib.Core.Path.{◌≡◌, refl, ap, ◌∙◌}
+use mathlib.Core.List.{[]}
+use Prim.Native.Nat.{◌-◌, ◌≤◌}
+use native.Mathlib.Omega.{arith}
+use lib.ListN.{length, set, replicate, length-set}
+use Rattle.model.specs.Catalog.{database_from, catalog_of}
+use Rattle.model.proofs.Catalogs.{catalog_length}
+use Rattle.catalog.proofs.Copied.{copied, copied_more, copied_end}
+use Rattle.catalog.proofs.tidied.tidied.Given as goal
+
+abbrev pub invariant-loop-i : goal.invariant-loop-i
+invariant-loop-i l = (l.i ≤ 29) × (length l.initial.out ≡ 29) × (length l.out ≡ 29) × (l.out ≡ copied l.initial.out (catalog_of (database_from l.cells)) [] l.i)
+
+abbrev pub decreases-loop-i : goal.decreases-loop-i
+decreases-loop-i l = 29 - l.i
