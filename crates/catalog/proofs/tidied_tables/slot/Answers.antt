@@ -11,4 +11,4 @@ returns c =
     let n = c.kept_where-n.ensures in
     let p = c.requires in
     (λ j. c.kept_where-n.result ∷ c.kept_where-x.ensures j ∷ c.kept_where-y.ensures j ∷ c.kept_where-z.ensures j ∷ [])
-    ∙ slot_are c.args.used c.args.e.now c.b-1.given c.args.at (omega (arith, p.0)) c.kept_where-n.result n (omega (arith, n, p.1))
+    ∙ slot_are c.args.used c.args.e.now c.b-1.given c.args.at (omega (arith, p.most_index_columns_bound)) c.kept_where-n.result n (omega (arith, n, p.at_bound))
