@@ -21,7 +21,7 @@ use Rattle.scan.proofs.Past.{Past, PastNext}
 use Rattle.scan.proofs.Enough.{enough, run_on, after_past, value_past, member_past, spaces_ge}
 use Rattle.model.specs.Nav.{is_read}
 use Rattle.inner.specs.Positions.{well_at, tree_at, found_of, first_from, first_of, next_of, next_item, next_member, rest_of, fine_of, items_from, items_fine, members_from, members_fine, left}
-use Rattle.json.proofs.Mono.{Below, level_more, array_more, object_more}
+use Rattle.json_reader.proofs.Mono.{Below, level_more, array_more, object_more}
 
 pub not_both : {b : Bool} → b ≡ true → b ≡ false → ⊥
 not_both t f = let z : ◌≡◌ {A = ℕ} 0 1 = cc in omega arith

@@ -36,7 +36,7 @@ pub fn end_of(text: &[u8], ends: &[u16], at: usize) -> Read
 {
     let e = entry(ends, at);
     if e == 0 {
-        return json::end_at(text, at);
+        return json_reader::end_at(text, at);
     }
     Read::End(e)
 }
@@ -88,7 +88,7 @@ pub fn next_item(text: &[u8], ends: &[u16], at: usize) -> Found
 {
     let e = entry(ends, at);
     if e == 0 {
-        let r = json::end_at(text, at);
+        let r = json_reader::end_at(text, at);
         return found(scan::after(text, r, b']'));
     }
     next_after(text, e)

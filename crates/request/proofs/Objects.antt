@@ -21,7 +21,7 @@ use Rattle.model.specs.Members.{members_in}
 use Rattle.model.specs.Written.{string_in, array_in, object_in}
 use Rattle.model.specs.Transact.{Request, objects_in, request_by, request_items, request_tree, read_request}
 use Rattle.model.proofs.Tests.{split, clash}
-use Rattle.json.proofs.Whole.{text_well}
+use Rattle.json_reader.proofs.Whole.{text_well}
 use Rattle.nav.proofs.FirstByte.{items_in_lem}
 use Rattle.nav.proofs.Walk.{walk_end, walk_rest, walk_fine}
 use Rattle.uuids.specs.Named.{operations_at}

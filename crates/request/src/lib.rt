@@ -107,7 +107,7 @@ pub fn read(text: &[u8], ends: &mut [u16]) -> Request
     if REQUEST_TEXT < text.len() {
         return refused();
     }
-    let d = json::document(text, ends);
+    let d = json_reader::document(text, ends);
     match d {
         Read::End(_) => parts(text, ends),
         Read::Stop(_) => refused(),

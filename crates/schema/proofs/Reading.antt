@@ -13,7 +13,7 @@ use Rattle.inner.specs.Positions.{tree_at, well_at}
 use Rattle.model.specs.Catalog.{database_from}
 use Rattle.model.specs.SchemaText.{schema_fits, database_of, schema_of, read_schema}
 use Rattle.model.proofs.Tests.{split, clash}
-use Rattle.json.proofs.Whole.{text_well}
+use Rattle.json_reader.proofs.Whole.{text_well}
 use Rattle.tables.specs.Tables.{FewColumns}
 use Rattle.schema.specs.Schema.{Filled, EntriesRead}
 use Rattle.schema.proofs.Members.{blanks, blank_tables, blank_columns}

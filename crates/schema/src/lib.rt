@@ -93,7 +93,7 @@ fn read_entries(text: &[u8], cells: &mut Catalog) -> bool
         return false;
     }
     let mut ends = [0u16; SCHEMA_TEXT];
-    let r = json::document(text, &mut ends);
+    let r = json_reader::document(text, &mut ends);
     match r {
         Read::End(_) => fill(text, &ends, cells),
         Read::Stop(_) => false,

@@ -193,7 +193,7 @@ fn report(text: &[u8], ends: &[u16], scratch: &mut [u8], r: Read)
 fn line(text: &[u8], ends: &mut [u16], scratch: &mut [u8])
     requires { length text.now ≤ length scratch.old }
 {
-    let r = json::document(text, ends);
+    let r = json_reader::document(text, ends);
     report(text, ends, scratch, r);
     put(b"\n");
 }

@@ -7,7 +7,7 @@ use Rattle.request.proofs.read.Statement.{statement}
 use Rattle.request.proofs.read.Tie as tie
 use Rattle.request.proofs.read.Reads as reads
 use Rattle.request.proofs.read.Lts as lts
-use Rattle.json.proofs.document.Reads as document-reads
+use Rattle.json_reader.proofs.document.Reads as document-reads
 use Rattle.request.proofs.parts.Reads as parts-reads
 use Rattle.request.proofs.refused.Reads as refused-reads
 

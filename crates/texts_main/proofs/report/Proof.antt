@@ -2,7 +2,7 @@
 use mathlib.Core.Path.{sym, ap, ◌∙◌}
 use native.Mathlib.Omega.{arith}
 use Rattle.model.specs.Nav.{is_read}
-use Rattle.json.proofs.Whole.{text_well}
+use Rattle.json_reader.proofs.Whole.{text_well}
 use borrow.Author.Rules.{rules}
 use Rattle.texts_main.proofs.report.Statement.{statement}
 use Rattle.texts_main.proofs.report.Tie as tie

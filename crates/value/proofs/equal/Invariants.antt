@@ -1,0 +1,16 @@
+-- The loop of `value::equal`.
+use mathlib.Core.Path.{◌≡◌, refl, sym, ◌∙◌}
+use Prim.Native.Nat.{◌-◌}
+use native.Mathlib.Omega.{arith}
+use borrow.Author.Rules.{rules}
+use borrow.Author.Tests.{not-true, not-false}
+use lib.ListN.{length, drop}
+use Rattle.model.specs.Base.{eq_lists}
+use Rattle.atom.proofs.Cells.{lists_on, lists_off, lists_end, lists_length}
+use Rattle.value.proofs.equal.Given as goal
+
+abbrev pub invariant-loop-i : goal.invariant-loop-i
+invariant-loop-i l = eq_lists l.l l.m ≡ eq_lists (drop l.i l.l) (drop l.i l.m)
+
+abbrev pub decreases-loop-i : goal.decreases-loop-i
+decreases-loop-i l = length l.l - l.i

@@ -1,0 +1,15 @@
+-- The loop of `value::insert_at`.
+use mathlib.Core.Path.{◌≡◌, refl, sym, ap, ◌∙◌}
+use mathlib.Core.List.{List, [], ◌∷◌, ◌++◌}
+use Prim.Native.Nat.{ℕ, ◌-◌, ◌≤◌}
+use native.Mathlib.Omega.{arith}
+use lib.ListN.{length, take, drop, length-set}
+use lib.Seq.{take_at, take_all}
+use Rattle.atom.proofs.Cells.{carried}
+use Rattle.value.proofs.insert_at.Given as goal
+
+abbrev pub invariant-loop-j : goal.invariant-loop-j
+invariant-loop-j l = (l.j ≤ 4) × (length l.a ≡ 4) × (take l.j l.a ++ (l.carry ∷ drop l.j l.a) ≡ take l.i l.initial.a ++ (l.initial.carry ∷ drop l.i l.initial.a))
+
+abbrev pub decreases-loop-j : goal.decreases-loop-j
+decreases-loop-j l = 4 - l.j

@@ -1,0 +1,20 @@
+-- `value::put_in_order` meets its contract.
+use mathlib.Core.Path.{◌∙◌}
+use native.Mathlib.Omega.{arith}
+use lib.ListN.{length-take}
+use Rattle.model.specs.Catalog.{base_numbered}
+use Rattle.value.proofs.Fours.{put_placed}
+use borrow.Author.Rules.{rules}
+use Rattle.value.proofs.put_in_order.Goals as goal
+
+pub slice_bounds-place-end : goal.slice_bounds-place-end
+slice_bounds-place-end c =
+    omega (arith, c.well_formed.1.0.1.0.1, c.requires, length-take c.args.n c.args.atoms)
+
+pub insert_at-requires : goal.insert_at-requires
+insert_at-requires c =
+    (put_placed (base_numbered c.args.kind) c.args.x c.args.atoms c.args.n c.place-p.result c.well_formed.1.0.1.0.1 c.requires c.place-p.ensures).0
+
+pub returns : goal.returns
+returns c =
+    c.insert_at.ensures ∙ (put_placed (base_numbered c.args.kind) c.args.x c.args.atoms c.args.n c.place-p.result c.well_formed.1.0.1.0.1 c.requires c.place-p.ensures).1
