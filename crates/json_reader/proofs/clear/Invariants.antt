@@ -1,0 +1,14 @@
+-- The loop of `json_reader::clear`.
+use mathlib.Core.Path.{◌≡◌, refl, ap, ◌∙◌}
+use mathlib.Core.List.{List, ◌++◌, append-nil}
+use Prim.Native.Nat.{ℕ, ◌+◌, ◌-◌, ◌≤◌}
+use native.Mathlib.Omega.{arith}
+use lib.ListN.{length, set, drop, replicate, length-set, drop_of_length-le}
+use borrow.Author.Fill.{fill_none, fill_more}
+use Rattle.json_reader.proofs.clear.Given as goal
+
+abbrev pub invariant-loop-i : goal.invariant-loop-i
+invariant-loop-i l = (l.i ≤ length l.initial.ends) × (length l.ends ≡ length l.initial.ends) × (l.ends ≡ replicate l.i 0 ++ drop l.i l.initial.ends)
+
+abbrev pub decreases-loop-i : goal.decreases-loop-i
+decreases-loop-i l = length l.initial.ends - l.i
