@@ -1,0 +1,12 @@
+-- `nav::end_of` meets its contract.
+use mathlib.Core.Path.{sym, ap, ◌∙◌}
+use mathlib.Core.Logic.{◌⊎◌, ⊎_elim}
+use Rattle.model.specs.declared.Read.TheVariants.{End}
+use Rattle.inner.specs.Positions.{Says}
+use borrow.Author.Rules.{rules}
+use Rattle.nav.proofs.end_of.Goals as goal
+
+pub returns : goal.returns
+unfolding Says
+returns c =
+    ⊎_elim (λ z. absurd (c.if-e-eq0.false (c.entry-e.ensures ∙ z))) (λ q. ap End c.entry-e.ensures ∙ sym q) (c.requires c.args.at)

@@ -1,0 +1,18 @@
+-- `nav::plus` meets its contract.
+use Prim.Native.Nat.{◌-◌}
+use borrow.Author.Tests.{lt-ltb, le-ltb}
+use Rattle.model.specs.Whole.{plus_of}
+use borrow.Author.Rules.{rules}
+use Rattle.nav.proofs.plus.Goals as goal
+
+pub returns-then-m-lt9223372036854775808 : goal.returns-then-m-lt9223372036854775808
+unfolding plus_of
+returns-then-m-lt9223372036854775808 c = rw (c.in-Size.is, plus_of, lt-ltb _ _ c.if-m-lt9223372036854775808.true)
+
+pub returns-else-m-lt9223372036854775808 : goal.returns-else-m-lt9223372036854775808
+unfolding plus_of
+returns-else-m-lt9223372036854775808 c = rw (c.in-Size.is, plus_of, le-ltb _ _ c.if-m-lt9223372036854775808.false)
+
+pub returns-in-Bad : goal.returns-in-Bad
+unfolding plus_of
+returns-in-Bad c = rw c.in-Bad.is

@@ -1,0 +1,14 @@
+-- The loop of `rows::close_at`.
+use mathlib.Core.Path.{◌≡◌, refl, sym, ap, ◌∙◌}
+use mathlib.Core.List.{[]}
+use Prim.Native.Nat.{◌+◌, ◌-◌, ◌≤◌, ◌<◌}
+use native.Mathlib.Omega.{arith}
+use lib.ListN.{length, get_or, set, take, length-set}
+use Rattle.rows.proofs.Laws.{closed, closed_none, closed_more, closed_end}
+use Rattle.rows.proofs.close_at.Given as goal
+
+abbrev pub invariant-loop-k : goal.invariant-loop-k
+invariant-loop-k l = (l.i ≤ l.k) × (l.k < l.n) × (length l.rows ≡ length l.initial.rows) × (l.rows ≡ closed l.initial.rows [] l.i l.k)
+
+abbrev pub decreases-loop-k : goal.decreases-loop-k
+decreases-loop-k l = l.n - l.k

@@ -1,0 +1,14 @@
+-- The loop of `rows::put_counts`.
+use mathlib.Core.Path.{◌≡◌, refl, ◌∙◌}
+use Prim.Native.Nat.{◌-◌, ◌≤◌}
+use native.Mathlib.Omega.{arith}
+use lib.ListN.{length, set, length-set}
+use Rattle.inner.specs.Working.{born_count}
+use Rattle.rows.proofs.Laws.{made, made_more, made_end}
+use Rattle.rows.proofs.put_counts.Given as goal
+
+abbrev pub invariant-loop-k : goal.invariant-loop-k
+invariant-loop-k l = (l.k ≤ length l.mins) × (length l.out ≡ length l.initial.out) × (l.out ≡ made born_count l.initial.out l.mins l.k)
+
+abbrev pub decreases-loop-k : goal.decreases-loop-k
+decreases-loop-k l = length l.mins - l.k
