@@ -1,0 +1,16 @@
+-- The loop of `area::again`.
+use mathlib.Core.Path.{◌≡◌, refl, sym, ◌∙◌}
+use Prim.Native.Nat.{◌-◌, ◌≤◌}
+use native.Mathlib.Omega.{arith}
+use lib.ListN.{drop}
+use Rattle.model.specs.Schema.{Schema}
+use Rattle.model.specs.Rows.{has_id}
+use Rattle.inner.specs.Working.{working, id_in}
+use Rattle.inner.proofs.Working.{has_id_here, has_id_on, has_id_end}
+use Rattle.area.proofs.again.Given as goal
+
+abbrev pub invariant-loop-i : goal.invariant-loop-i
+invariant-loop-i l = (l.i ≤ l.n) × ((s : Schema) → has_id (id_in l.row) (drop l.at (working s l.n l.rows)) ≡ has_id (id_in l.row) (drop l.i (working s l.n l.rows)))
+
+abbrev pub decreases-loop-i : goal.decreases-loop-i
+decreases-loop-i l = l.n - l.i

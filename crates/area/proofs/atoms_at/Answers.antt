@@ -1,0 +1,21 @@
+-- `area::atoms_at` meets its contract.
+use mathlib.Core.Path.{◌≡◌, sym, ap, ◌∙◌}
+use mathlib.Core.List.{List, [], ◌∷◌}
+use Prim.Native.Nat.{ℕ, ◌+◌, ◌*◌}
+use native.Mathlib.Omega.{arith}
+use lib.ListN.{take, drop}
+use lib.Seq.{drop-drop}
+use borrow.Author.Rules.{rules}
+use Rattle.area.proofs.atoms_at.Goals as goal
+
+pub returns : goal.returns
+returns c =
+    let a = c.args.area.now in
+    let at = c.args.at in
+    let two : drop (at + 25 * 2) a ≡ drop 25 (drop 25 (drop at a)) = sym (drop-drop 25 25 (drop at a) ∙ drop-drop 50 at a) in
+    let three : drop (at + 25 * 3) a ≡ drop 25 (drop 25 (drop 25 (drop at a))) = sym (ap (drop 25) (drop-drop 25 25 (drop at a)) ∙ drop-drop 25 50 (drop at a) ∙ drop-drop 75 at a) in
+    λ j. c.cell_at.ensures j
+    ∷ (c.cell_at-2.ensures ∙ ap (take 25) (sym (drop-drop 25 at a))) j
+    ∷ (c.cell_at-3.ensures ∙ ap (take 25) two) j
+    ∷ (c.cell_at-4.ensures ∙ ap (take 25) three) j
+    ∷ []

@@ -1,0 +1,15 @@
+-- The loop of `area::canonical_row`.
+use mathlib.Core.Path.{◌≡◌, refl, sym, ◌∙◌}
+use Prim.Native.Nat.{◌-◌, ◌≤◌}
+use native.Mathlib.Omega.{arith}
+use borrow.Author.Tests.{not-true, not-false}
+use lib.ListN.{length, drop}
+use Rattle.area.specs.Layout.{canonical_from}
+use Rattle.area.proofs.Schemas.{canonical_on, canonical_off, canonical_end}
+use Rattle.area.proofs.canonical_row.Given as goal
+
+abbrev pub invariant-loop-c : goal.invariant-loop-c
+invariant-loop-c l = (l.c ≤ length l.cells) × (canonical_from 0 l.cells l.row ≡ canonical_from l.c (drop l.c l.cells) l.row)
+
+abbrev pub decreases-loop-c : goal.decreases-loop-c
+decreases-loop-c l = length l.cells - l.c

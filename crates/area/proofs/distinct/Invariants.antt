@@ -1,0 +1,16 @@
+-- The loop of `area::distinct`.
+use mathlib.Core.Path.{◌≡◌, refl, sym, ◌∙◌}
+use Prim.Native.Nat.{◌-◌, ◌≤◌}
+use native.Mathlib.Omega.{arith}
+use lib.ListN.{drop}
+use Rattle.model.specs.Schema.{Schema}
+use Rattle.model.specs.Areas.{distinct_ids}
+use Rattle.inner.specs.Working.{working}
+use Rattle.area.proofs.Walks.{distinct_on, distinct_off, distinct_end}
+use Rattle.area.proofs.distinct.Given as goal
+
+abbrev pub invariant-loop-i : goal.invariant-loop-i
+invariant-loop-i l = (l.i ≤ l.n) × ((s : Schema) → distinct_ids (working s l.n l.rows) ≡ distinct_ids (drop l.i (working s l.n l.rows)))
+
+abbrev pub decreases-loop-i : goal.decreases-loop-i
+decreases-loop-i l = l.n - l.i

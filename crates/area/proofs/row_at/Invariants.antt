@@ -1,0 +1,16 @@
+-- The loop of `area::row_at`.
+use mathlib.Core.Path.{◌≡◌, refl, sym, ap, ◌∙◌}
+use mathlib.Core.List.{[]}
+use Prim.Native.Nat.{◌-◌, ◌≤◌}
+use native.Mathlib.Omega.{arith}
+use lib.ListN.{length, set, drop, replicate, length-set}
+use Rattle.model.specs.Records.{cut}
+use Rattle.catalog.proofs.Copied.{copied, copied_more, copied_end}
+use Rattle.area.proofs.Copies.{cell_from, cut_length}
+use Rattle.area.proofs.row_at.Given as goal
+
+abbrev pub invariant-loop-j : goal.invariant-loop-j
+invariant-loop-j l = (l.j ≤ 25) × (length l.initial.row ≡ 25) × (length l.row ≡ 25) × (l.row ≡ copied l.initial.row (cut 25 (drop l.at l.area)) [] l.j)
+
+abbrev pub decreases-loop-j : goal.decreases-loop-j
+decreases-loop-j l = 25 - l.j

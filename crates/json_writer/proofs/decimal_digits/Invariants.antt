@@ -1,0 +1,17 @@
+-- The loop of `json_writer::decimal_digits`.
+use lib.ListN.{drop_of_length-le, length-set}
+use mathlib.Core.Path.{◌≡◌, sym, ap, ◌∙◌}
+use Prim.Native.Nat.{ℕ, ◌-◌, ◌≤◌}
+use native.Mathlib.Omega.{arith}
+use lib.ListN.{length, drop}
+use borrow.Author.Rules.{rules}
+use Rattle.model.specs.Answers.{digits_before}
+use Rattle.json_writer.specs.Texts.{decimal_text}
+use Rattle.json_writer.proofs.Digits.{digit_more, digit_first}
+use Rattle.json_writer.proofs.decimal_digits.Given as goal
+
+abbrev pub invariant-loop-i : goal.invariant-loop-i
+invariant-loop-i l = (l.i ≤ 20) × ((length l.digits ≡ 20) × (digits_before l.i l.v (drop l.i l.digits) ≡ decimal_text l.n))
+
+abbrev pub decreases-loop-i : goal.decreases-loop-i
+decreases-loop-i l = l.i

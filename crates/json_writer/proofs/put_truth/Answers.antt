@@ -1,0 +1,12 @@
+-- `json_writer::put_truth` meets its contract.
+use native.Mathlib.Omega.{arith}
+use Rattle.json_writer.proofs.Putting.{put_is}
+use Rattle.json_writer.proofs.Joins.{truth_zero, truth_other}
+use borrow.Author.Rules.{rules}
+use Rattle.json_writer.proofs.put_truth.Goals as goal
+
+pub returns-then-b-eq0 : goal.returns-then-b-eq0
+returns-then-b-eq0 c = put_is c.put_bytes.ensures (truth_zero _ c.if-b-eq0.true) (omega arith)
+
+pub returns : goal.returns
+returns c = put_is c.put_bytes-2.ensures (truth_other _ c.if-b-eq0.false) (omega arith)

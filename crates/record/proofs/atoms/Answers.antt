@@ -1,0 +1,11 @@
+-- `record::atoms` meets its contract.
+use mathlib.Core.Path.{◌∙◌}
+use mathlib.Core.List.{[], ◌∷◌}
+use borrow.Author.Rules.{rules}
+use Rattle.record.proofs.Readings.{parts_cut}
+use Rattle.record.proofs.atoms.Goals as goal
+
+pub returns : goal.returns
+returns c =
+    (λ j. c.atom_at-a.ensures j ∷ c.atom_at-b.ensures j ∷ c.atom_at-c.ensures j ∷ c.atom_at-d.ensures j ∷ [])
+    ∙ parts_cut c.args.bytes.now

@@ -1,0 +1,18 @@
+-- The loop of `references::keep_named`.
+use mathlib.Core.Path.{◌≡◌, sym, ◌∙◌}
+use mathlib.Core.List.{[]}
+use mathlib.Core.Logic.{⊎_elim}
+use Prim.Native.Nat.{◌-◌, ◌≤◌, ◌<◌}
+use native.Mathlib.Omega.{arith}
+use lib.ListN.{length}
+use Rattle.model.specs.Schema.{Schema}
+use Rattle.model.specs.Commit.{present}
+use Rattle.inner.specs.Working.{working}
+use Rattle.references.proofs.Keeping.{Sofar, sofar_none, sofar_few, sofar_length, sofar_no, sofar_yes}
+use Rattle.references.proofs.keep_named.Given as goal
+
+abbrev pub invariant-loop-k : goal.invariant-loop-k
+invariant-loop-k l = (l.k ≤ l.count) × ((s : Schema) → Sofar (present (working s l.n l.rows) l.table) l.atoms l.initial.out l.out l.k l.kept)
+
+abbrev pub decreases-loop-k : goal.decreases-loop-k
+decreases-loop-k l = l.count - l.k

@@ -1,0 +1,29 @@
+-- The loop of `references::row_found`.
+use mathlib.Core.Path.{◌≡◌, sym, ap, ◌∙◌}
+use mathlib.Core.Bool.{Bool}
+use mathlib.Core.List.{List}
+use Prim.Native.Nat.{ℕ, ◌-◌, ◌≤◌, ◌<◌}
+use native.Mathlib.Omega.{arith}
+use borrow.Author.Rules.{rules}
+use borrow.Author.Tests.{not-true, not-false}
+use lib.ListN.{length}
+use Rattle.model.specs.Base.{all}
+use Rattle.model.specs.Rows.{has}
+use Rattle.model.specs.Schema.{columns_of}
+use Rattle.model.specs.Areas.{row_from}
+use Rattle.model.specs.Catalog.{packed_tables}
+use Rattle.inner.specs.Working.{working, table_in}
+use Rattle.references.specs.Links.{pick, target_table, referred}
+use Rattle.references.proofs.Packs.{few_columns_lem}
+use Rattle.references.proofs.Links.{rest_of, here, rest_all, rest_end, all_rest_here, all_rest_on, here_target}
+use Rattle.references.proofs.row_found.Given as goal
+
+-- there is a row under a key
+abbrev pub found : List (List ℕ) → ℕ → List (List (List ℕ)) → ℕ → Bool
+found schema n rows k = has k (working (packed_tables schema) n rows)
+
+abbrev pub invariant-loop-c : goal.invariant-loop-c
+invariant-loop-c l = (l.c ≤ l.w) × (referred (packed_tables l.schema) l.how (working (packed_tables l.schema) l.n l.rows) (row_from (packed_tables l.schema) l.row) ≡ all (found l.schema l.n l.rows) (rest_of (pick l.how) l.schema l.row l.c))
+
+abbrev pub decreases-loop-c : goal.decreases-loop-c
+decreases-loop-c l = l.w - l.c

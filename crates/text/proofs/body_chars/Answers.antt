@@ -1,0 +1,53 @@
+-- `text::body_chars` meets its contract.
+use mathlib.Core.Path.{◌≡◌, ap, ◌∙◌}
+use mathlib.Core.Bool.{cond}
+use Prim.Native.Nat.{ℕ, ◌+◌, ◌≤◌}
+use native.Mathlib.Omega.{arith}
+use lib.ListN.{length, drop}
+use Rattle.model.specs.Text.{begins, chars}
+use Rattle.text.specs.Steps.{body_from, bytes_of, Going}
+use Rattle.text.proofs.Matching.{counted_less}
+use Rattle.text.proofs.Stepping.{inside_none, going_on, bytes_less, chars_on, chars_end, body_size}
+use borrow.Author.Rules.{rules}
+use Rattle.text.proofs.body_chars.Goals as goal
+
+pub next_byte-x-requires : goal.next_byte-x-requires
+next_byte-x-requires c = inside_none c.args.text.now c.args.at
+
+pub loop-x-init : goal.loop-x-init
+loop-x-init c =
+    let a = c.args in
+    let x = c.next_byte-x.ensures in
+    let z : 0 + chars (body_from a.text.now a.at) ≡ chars (body_from a.text.now a.at) = omega arith in
+    (rw x.bytes z, rw x.bytes (omega (arith, body_size a.text.now a.at)), x.going)
+
+pub counted-n-requires : goal.counted-n-requires
+counted-n-requires c =
+    omega (arith, c.loop-x.invariant.1, bytes_less c.args.text.now c.in-Byte.is)
+
+pub next_byte-x-requires-in-Byte : goal.next_byte-x-requires-in-Byte
+next_byte-x-requires-in-Byte c =
+    going_on c.args.text.now c.in-Byte.is c.loop-x.invariant.2
+
+pub loop-x-smaller : goal.loop-x-smaller
+loop-x-smaller c =
+    rw c.next_byte-x-in-Byte.ensures.bytes (bytes_less c.args.text.now c.in-Byte.is)
+
+pub loop-x-preserved : goal.loop-x-preserved
+loop-x-preserved c =
+    let s = c.args.text.now in
+    let e = c.in-Byte.given in
+    let n = c.loop-x.n in
+    let b = begins e.0.0 in
+    let r : c.counted-n.result ≡ cond b (1 + n) n = c.counted-n.ensures ∙ ap (λ q. cond q (1 + n) n) c.begins_here.ensures in
+    let x = c.next_byte-x-in-Byte.ensures in (
+      rw x.bytes (ap (λ (m : ℕ). m + chars (drop e.0.1.1.0 (body_from s e.0.1.0))) r ∙ chars_on s e.1 n ∙ c.loop-x.invariant.0),
+      rw x.bytes (omega (arith, r, counted_less b n, bytes_less s e.1, c.loop-x.invariant.1)),
+      x.going,
+    )
+
+pub returns-in-End : goal.returns-in-End
+returns-in-End c =
+    let s = c.args.text.now in
+    let z : c.loop-x.n ≡ c.loop-x.n + chars (bytes_of s c.loop-x.x) = omega (arith, chars_end s c.in-End.is) in
+    z ∙ c.loop-x.invariant.0

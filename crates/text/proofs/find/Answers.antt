@@ -1,0 +1,36 @@
+-- `text::find` meets its contract.
+use borrow.Author.Rules.{rules}
+use mathlib.Core.Path.{sym, ◌∙◌}
+use mathlib.Core.Logic.{⊎_elim}
+use Rattle.inner.specs.Positions.{tree_at, left}
+use Rattle.model.specs.Members.{members_in}
+use Rattle.nav.proofs.Walk.{pass_less}
+use Rattle.text.proofs.Last.{Sofar, sofar_start, sofar_named, sofar_other, sofar_end}
+use Rattle.text.proofs.find.Goals as goal
+
+pub loop-g-init : goal.loop-g-init
+loop-g-init c =
+    sofar_start c.args.text.now c.args.word.now c.args.at c.requires.at_value c.first-g.ensures
+
+pub member_value-v-requires : goal.member_value-v-requires
+member_value-v-requires c = c.requires.says
+
+pub next_member-g-requires : goal.next_member-g-requires
+next_member-g-requires c = c.requires.says
+
+pub loop-g-smaller : goal.loop-g-smaller
+loop-g-smaller c =
+    rw c.next_member-g.ensures (pass_less c.args.text.now c.in-At.is)
+
+pub loop-g-preserved : goal.loop-g-preserved
+loop-g-preserved c =
+    let a = c.args in
+    ⊎_elim
+    (λ w. sofar_named a.text.now a.word.now c.loop-g.invariant c.in-At.is (sym c.before.before.is_IsWord.ensures ∙ w.if-same.true) w.member_value-v.ensures w.VAR0-is c.next_member-g.ensures)
+    (λ w. sofar_other a.text.now a.word.now c.loop-g.invariant c.in-At.is (sym c.before.before.is_IsWord.ensures ∙ w.if-same.false) w.VAR0-is c.next_member-g.ensures)
+    c.if-same.branch-raw
+
+pub returns-in-Nothing : goal.returns-in-Nothing
+returns-in-Nothing c =
+    let a = c.args in
+    sofar_end a.text.now a.word.now c.loop-g.invariant c.in-Nothing.is

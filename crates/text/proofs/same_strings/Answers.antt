@@ -1,0 +1,28 @@
+-- `text::same_strings` meets its contract.
+use mathlib.Core.Path.{sym, ap, ◌∙◌}
+use Rattle.model.specs.Octets.{eq_bytes}
+use Rattle.model.specs.Text.{is_word}
+use Rattle.inner.specs.Positions.{tree_at, word_in}
+use Rattle.text.specs.Steps.{body_from}
+use Rattle.text.proofs.Stepping.{word_begins, word_none, same_begins, same_none}
+use borrow.Author.Rules.{rules}
+use Rattle.text.proofs.same_strings.Goals as goal
+
+pub returns-in-At-g : goal.returns-in-At-g
+returns-in-At-g c =
+    let a = c.args in
+    let s = a.text.now in
+    let w = word_begins s a.p (sym c.body_at-f.ensures ∙ c.in-At.is) in
+    c.same_bodies.ensures ∙ ap (eq_bytes (body_from s _)) (sym w) ∙ sym (same_begins s a.q (word_in (tree_at s a.p)) (sym c.body_at-g.ensures ∙ c.in-At-g.is))
+
+pub returns-in-Nothing-g : goal.returns-in-Nothing-g
+returns-in-Nothing-g c =
+    let a = c.args in
+    let s = a.text.now in
+    sym (same_none s a.q (word_in (tree_at s a.p)) (sym c.body_at-g.ensures ∙ c.in-Nothing-g.is))
+
+pub returns-in-Nothing : goal.returns-in-Nothing
+returns-in-Nothing c =
+    let a = c.args in
+    let s = a.text.now in
+    c.is_IsWord.ensures ∙ ap (λ w. is_word w (tree_at s a.q)) (sym (word_none s a.p (sym c.body_at-f.ensures ∙ c.in-Nothing.is)))
