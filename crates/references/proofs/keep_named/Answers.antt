@@ -58,9 +58,9 @@ loop-k-preserved c =
     sofar_few (present (working [] a.n a.rows.now) a.table) a.atoms.now a.out.now [] c.loop-k.k c.loop-k.kept c.loop-k.out (c.loop-k.invariant.1 []) (omega (arith, c.loop-k.invariant.0, c.requires)) in
     let l = c.loop-k in
     let h : l.k < length c.args.atoms.now = omega (arith, c.loop-k-test.true, c.requires) in
-    let g : l.auto < length c.args.out.now = omega (arith, fewer, c.loop-k-test.true, c.requires) in
-    ⊎_elim (λ w. (omega arith, λ sc. rw (w.VAR0-is, w.VAR1-is) (sofar_yes (present (working sc c.args.n c.args.rows.now) c.args.table) c.args.atoms.now c.args.out.now [] l.k l.auto l.out (l.invariant.1 sc) h g (sym (c.has_named.ensures sc) ∙ w.if-has_named.true))))
-    (λ w. (omega arith, λ sc. rw (w.VAR0-is, w.VAR1-is) (sofar_no (present (working sc c.args.n c.args.rows.now) c.args.table) c.args.atoms.now c.args.out.now [] l.k l.auto l.out (l.invariant.1 sc) h (sym (c.has_named.ensures sc) ∙ w.if-has_named.false)))) c.if-has_named.branch-raw
+    let g : l.kept < length c.args.out.now = omega (arith, fewer, c.loop-k-test.true, c.requires) in
+    ⊎_elim (λ w. (omega arith, λ sc. rw (w.out-is, w.kept-is) (sofar_yes (present (working sc c.args.n c.args.rows.now) c.args.table) c.args.atoms.now c.args.out.now [] l.k l.kept l.out (l.invariant.1 sc) h g (sym (c.has_named.ensures sc) ∙ w.if-has_named.true))))
+    (λ w. (omega arith, λ sc. rw (w.out-is, w.kept-is) (sofar_no (present (working sc c.args.n c.args.rows.now) c.args.table) c.args.atoms.now c.args.out.now [] l.k l.kept l.out (l.invariant.1 sc) h (sym (c.has_named.ensures sc) ∙ w.if-has_named.false)))) c.if-has_named.branch-raw
 
 pub shape_of-out : goal.shape_of-out
 shape_of-out c =

@@ -16,6 +16,15 @@ use Rattle.references.proofs.Packs.{few_columns_lem}
 use Rattle.references.proofs.Links.{rest_of, here, rest_all, rest_end, any_rest_here, any_rest_on, here_target}
 use Rattle.references.proofs.refers_to.Goals as goal
 
+pub width-w-requires : goal.width-w-requires
+width-w-requires c = c.requires
+
+pub loop-c-init : goal.loop-c-init
+unfolding pick
+loop-c-init c =
+    let a = c.args in
+    (omega arith, ap (any (eqb (key_in a.other.now))) (rest_all strongly a.schema.now a.row.now))
+
 pub refers-to-requires : goal.refers-to-requires
 refers-to-requires c = record { accepted = c.requires; c_in_bounds = omega (arith, c.width-w.ensures, c.loop-c-test.true) }
 
@@ -26,6 +35,7 @@ column_names-requires c =
 pub returns-then-column_names : goal.returns-then-column_names
 returns-then-column_names c =
     let at : ℕ = c.loop-c.c in
+    let table : c.table_of-table.result ≡ table_in c.args.row.now = c.table_of-table.ensures in
     let within : at < length (columns_of (packed_tables c.args.schema.now) (table_in c.args.row.now)) = omega (arith, c.loop-c-test.true, c.width-w.ensures, ap (λ (t : ℕ). length (columns_of (packed_tables c.args.schema.now) t)) table) in
     let step : any (eqb (key_in c.args.other.now)) (here (pick 1) c.args.schema.now c.args.row.now at) ≡ c.column_names.result = sym (c.column_names.ensures
     ∙ ap (any (eqb (key_in c.args.other.now))) (here_target c.args.schema.now c.args.row.now 1 c.table_of-table.result at table (target_table c.refers-to.result) c.refers-to.ensures)) in
@@ -38,6 +48,7 @@ overflow_add-c c =
 pub loop-c-preserved : goal.loop-c-preserved
 loop-c-preserved c =
     let at : ℕ = c.loop-c.c in
+    let table : c.table_of-table.result ≡ table_in c.args.row.now = c.table_of-table.ensures in
     let within : at < length (columns_of (packed_tables c.args.schema.now) (table_in c.args.row.now)) = omega (arith, c.loop-c-test.true, c.width-w.ensures, ap (λ (t : ℕ). length (columns_of (packed_tables c.args.schema.now) t)) table) in
     let step : any (eqb (key_in c.args.other.now)) (here (pick 1) c.args.schema.now c.args.row.now at) ≡ c.column_names.result = sym (c.column_names.ensures
     ∙ ap (any (eqb (key_in c.args.other.now))) (here_target c.args.schema.now c.args.row.now 1 c.table_of-table.result at table (target_table c.refers-to.result) c.refers-to.ensures)) in

@@ -38,6 +38,7 @@ column_found-requires c =
 pub returns-then-not-column_found : goal.returns-then-not-column_found
 returns-then-not-column_found c =
     let at : ℕ = c.loop-c.c in
+    let table : c.table_of-table.result ≡ table_in c.args.row.now = c.table_of-table.ensures in
     let within : at < length (columns_of (packed_tables c.args.schema.now) (table_in c.args.row.now)) = omega (arith, c.loop-c-test.true, c.width-w.ensures, ap (λ (t : ℕ). length (columns_of (packed_tables c.args.schema.now) t)) table) in
     let step : all (found c.args.schema.now c.args.n c.args.rows.now) (here (pick c.args.how) c.args.schema.now c.args.row.now at) ≡ c.column_found.result = sym (c.column_found.ensures (packed_tables c.args.schema.now)
     ∙ ap (all (found c.args.schema.now c.args.n c.args.rows.now)) (here_target c.args.schema.now c.args.row.now c.args.how c.table_of-table.result at table (target_table c.refers-to.result) c.refers-to.ensures)) in
@@ -50,6 +51,7 @@ overflow_add-c c =
 pub loop-c-preserved : goal.loop-c-preserved
 loop-c-preserved c =
     let at : ℕ = c.loop-c.c in
+    let table : c.table_of-table.result ≡ table_in c.args.row.now = c.table_of-table.ensures in
     let within : at < length (columns_of (packed_tables c.args.schema.now) (table_in c.args.row.now)) = omega (arith, c.loop-c-test.true, c.width-w.ensures, ap (λ (t : ℕ). length (columns_of (packed_tables c.args.schema.now) t)) table) in
     let step : all (found c.args.schema.now c.args.n c.args.rows.now) (here (pick c.args.how) c.args.schema.now c.args.row.now at) ≡ c.column_found.result = sym (c.column_found.ensures (packed_tables c.args.schema.now)
     ∙ ap (all (found c.args.schema.now c.args.n c.args.rows.now)) (here_target c.args.schema.now c.args.row.now c.args.how c.table_of-table.result at table (target_table c.refers-to.result) c.refers-to.ensures)) in

@@ -10,11 +10,6 @@ use Prim.Native.Nat.{ℕ, ◌+◌, ◌<◌}
 use borrow.Author.Rules.{rules}
 use Rattle.references.proofs.width.Goals as goal
 
--- what the bytes say, and what the table has
-module _ (c : tie.After-wide2) where
-  abbrev start : tie.Start
-  start = c.before.before.before.before.before.before.before
-
 pub returns-then-table_count-table : goal.returns-then-table_count-table
 returns-then-table_count-table c =
     sym (ap length (columns_out c.args.schema.now c.args.table (omega (arith, c.table_count.ensures, c.if-table_count-table.true))))
@@ -25,5 +20,7 @@ bounds-schema-wide c =
 
 pub returns : goal.returns
 returns c =
-    let s = start c in
-    omega (arith, said c, width_is s.args.schema.now s.pre s.args.table (there c))
+    let said : c.wide-2.result ≡ column_count c.args.schema.now c.args.table = c.wide-2.ensures ∙ c.width.ensures
+    ∙ ap (λ (n : ℕ). get_or (get_or c.args.schema.now (1 + n) []) columns_offset 0) c.wide.ensures in
+    let there : c.args.table < table_count c.args.schema.now = omega (arith, c.table_count.ensures, c.if-table_count-table.false) in
+    omega (arith, said, width_is c.args.schema.now c.requires c.args.table (there))

@@ -26,8 +26,8 @@ pub loop-g-preserved : goal.loop-g-preserved
 loop-g-preserved c =
     let a = c.args in
     ⊎_elim
-    (λ w. sofar_named a.text.now a.word.now c.loop-g.invariant c.in-At.is (sym c.before.before.is_IsWord.ensures ∙ w.if-same.true) w.member_value-v.ensures w.VAR0-is c.next_member-g.ensures)
-    (λ w. sofar_other a.text.now a.word.now c.loop-g.invariant c.in-At.is (sym c.before.before.is_IsWord.ensures ∙ w.if-same.false) w.VAR0-is c.next_member-g.ensures)
+    (λ w. sofar_named a.text.now a.word.now c.loop-g.invariant c.in-At.is (sym c.is_word-same.ensures ∙ w.if-same.true) w.member_value-v.ensures w.last-is c.next_member-g.ensures)
+    (λ w. sofar_other a.text.now a.word.now c.loop-g.invariant c.in-At.is (sym c.is_word-same.ensures ∙ w.if-same.false) w.last-is c.next_member-g.ensures)
     c.if-same.branch-raw
 
 pub returns-in-Nothing : goal.returns-in-Nothing

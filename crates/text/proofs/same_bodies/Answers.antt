@@ -15,9 +15,7 @@ next_byte-y-requires c = inside_none c.args.text.now c.args.q
 
 pub loop-x-init : goal.loop-x-init
 loop-x-init c =
-    let x = c.next_byte-x in
-    let y = c.next_byte-y in
-    (rw (x.ensures.bytes, y.ensures.bytes), x.ensures.going, y.ensures.going)
+    (rw (c.next_byte-x.ensures.bytes, c.next_byte-y.ensures.bytes), c.next_byte-x.ensures.going, c.next_byte-y.ensures.going)
 
 pub returns-then-b-c : goal.returns-then-b-c
 returns-then-b-c c =
@@ -40,10 +38,8 @@ loop-x-smaller c =
 pub loop-x-preserved : goal.loop-x-preserved
 loop-x-preserved c =
     let a = c.args in
-    let x = c.next_byte-x-in-Byte-y in
-    let y = c.next_byte-y-in-Byte-y in
     let h = same_on a.text.now c.in-Byte.is c.in-Byte-y.is c.if-b-c.false in
-    (c.loop-x.invariant.0 ∙ h ∙ rw (x.ensures.bytes, y.ensures.bytes), x.ensures.going, y.ensures.going)
+    (c.loop-x.invariant.0 ∙ h ∙ rw (c.next_byte-x-in-Byte-y.ensures.bytes, c.next_byte-y-in-Byte-y.ensures.bytes), c.next_byte-x-in-Byte-y.ensures.going, c.next_byte-y-in-Byte-y.ensures.going)
 
 pub returns-in-End-y : goal.returns-in-End-y
 returns-in-End-y c =

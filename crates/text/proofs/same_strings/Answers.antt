@@ -25,4 +25,4 @@ pub returns-in-Nothing : goal.returns-in-Nothing
 returns-in-Nothing c =
     let a = c.args in
     let s = a.text.now in
-    c.is_IsWord.ensures ∙ ap (λ w. is_word w (tree_at s a.q)) (sym (word_none s a.p (sym c.body_at-f.ensures ∙ c.in-Nothing.is)))
+    c.is_word.ensures ∙ ap (λ w. is_word w (tree_at s a.q)) (sym (word_none s a.p (sym c.body_at-f.ensures ∙ c.in-Nothing.is)))
