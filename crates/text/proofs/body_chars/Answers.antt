@@ -36,13 +36,13 @@ loop-x-smaller c =
 pub loop-x-preserved : goal.loop-x-preserved
 loop-x-preserved c =
     let s = c.args.text.now in
-    let e = c.in-Byte.given in
+    let e = c.in-Byte in
     let n = c.loop-x.n in
-    let b = begins e.0.0 in
+    let b = begins e.b in
     let r : c.counted-n.result ≡ cond b (1 + n) n = c.counted-n.ensures ∙ ap (λ q. cond q (1 + n) n) c.begins_here.ensures in
     let x = c.next_byte-x-in-Byte.ensures in (
-      rw x.bytes (ap (λ (m : ℕ). m + chars (drop e.0.1.1.0 (body_from s e.0.1.0))) r ∙ chars_on s e.1 n ∙ c.loop-x.invariant.0),
-      rw x.bytes (omega (arith, r, counted_less b n, bytes_less s e.1, c.loop-x.invariant.1)),
+      rw x.bytes (ap (λ (m : ℕ). m + chars (drop e.a (body_from s e.i))) r ∙ chars_on s e.is n ∙ c.loop-x.invariant.0),
+      rw x.bytes (omega (arith, r, counted_less b n, bytes_less s e.is, c.loop-x.invariant.1)),
       x.going,
     )
 

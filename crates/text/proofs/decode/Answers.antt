@@ -72,7 +72,7 @@ loop-k-preserved c =
     c.if-plain.branch-raw in
     let put : Pushed c.loop-k.out c.loop-k.x (char_bytes s i c.if-plain.i (byte s i)) c.if-plain.x c.if-plain.out = ⊎_elim
     (λ w. rw (w.out-is, w.i-is, w.x-is, plain_bytes s i (sym is ∙ w.if-plain.true), ← c.peek-b.ensures) w.push-x.ensures)
-    (λ w. rw (w.out-is, w.VAR1-is, w.VAR2-is) w.emit-x.ensures)
+    (λ w. rw (w.out-is, w.i-is, w.x-is) w.emit-x.ensures)
     c.if-plain.branch-raw in
     (omega arith, (ap length put.out ∙ all_length _ _ _ ∙ c.loop-k.invariant.1.0, λ r o q. c.loop-k.invariant.1.1 r o (rw (turn_tree (char_turn s) _ _ _ c.loop-k-test.true on, on) (pushed_append put q))))
 

@@ -1,0 +1,28 @@
+-- The loop of `garbage::counts::count_row`.
+use mathlib.Core.Path.{◌≡◌, refl, sym, ap, ◌∙◌, subst}
+use mathlib.Core.List.{List, ◌++◌}
+use Prim.Native.Nat.{ℕ, ◌+◌, ◌-◌, ◌≤◌, ◌<◌}
+use native.Mathlib.Omega.{arith}
+use lib.ListN.{length}
+use Rattle.model.specs.Schema.{columns_of}
+use Rattle.model.specs.Value.{elements}
+use Rattle.model.specs.Commit.{keys_of, strongly, strong_of}
+use Rattle.model.specs.Areas.{row_from}
+use Rattle.model.specs.Catalog.{packed_tables}
+use Rattle.inner.specs.Working.{table_in, value_in}
+use Rattle.references.specs.Links.{pick, target_table}
+use Rattle.references.proofs.Packs.{few_columns_lem}
+use Rattle.references.proofs.Links.{rest_of, here, rest_all, rest_end, rest_on, here_target}
+use Rattle.garbage.specs.Counts.{Room, Counted}
+use Rattle.garbage.proofs.Counting.{Left, left_start, left_on, left_end, room_on}
+use Rattle.garbage.proofs.counts.count_row.Given as goal
+
+-- the keys that a row refers to strongly
+abbrev pub strong_in : List (List ℕ) → List (List ℕ) → List ℕ
+strong_in schema row = strong_of (packed_tables schema) (row_from (packed_tables schema) row)
+
+abbrev pub invariant-loop-c : goal.invariant-loop-c
+invariant-loop-c l = (l.c ≤ l.w) × (length l.counts ≡ length l.initial.counts) × Left l.up l.n l.rows l.own (strong_in l.schema l.row) l.initial.counts (rest_of (pick 1) l.schema l.row l.c) l.counts
+
+abbrev pub decreases-loop-c : goal.decreases-loop-c
+decreases-loop-c l = l.w - l.c

@@ -1,0 +1,16 @@
+-- The loop of `garbage::first_loose`.
+use mathlib.Core.Path.{◌≡◌, refl, sym, ◌∙◌}
+use Prim.Native.Nat.{◌-◌, ◌≤◌}
+use native.Mathlib.Omega.{arith}
+use lib.ListN.{drop}
+use Rattle.model.specs.Commit.{first_loose}
+use Rattle.model.specs.Catalog.{packed_tables}
+use Rattle.inner.specs.Working.{working}
+use Rattle.garbage.proofs.Loosely.{loose_on, loose_here_lem, loose_end, loose_found, loose_nothing}
+use Rattle.garbage.proofs.first_loose.Given as goal
+
+abbrev pub invariant-loop-i : goal.invariant-loop-i
+invariant-loop-i l = (l.i ≤ l.n) × (first_loose (packed_tables l.schema) (working (packed_tables l.schema) l.n l.rows) (working (packed_tables l.schema) l.n l.rows) ≡ first_loose (packed_tables l.schema) (working (packed_tables l.schema) l.n l.rows) (drop l.i (working (packed_tables l.schema) l.n l.rows)))
+
+abbrev pub decreases-loop-i : goal.decreases-loop-i
+decreases-loop-i l = l.n - l.i

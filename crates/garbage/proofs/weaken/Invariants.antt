@@ -1,0 +1,15 @@
+-- The loop of `garbage::weaken`.
+use mathlib.Core.Path.{sym, subst}
+use mathlib.Core.List.{[]}
+use Prim.Native.Nat.{◌+◌, ◌-◌, ◌≤◌}
+use native.Mathlib.Omega.{arith}
+use lib.ListN.{length, get_or}
+use Rattle.model.specs.Catalog.{packed_tables}
+use Rattle.garbage.proofs.Partly.{Going, going_none, going_on, going_ordered, going_end}
+use Rattle.garbage.proofs.weaken.Given as goal
+
+abbrev pub invariant-loop-i : goal.invariant-loop-i
+invariant-loop-i l = (l.i ≤ l.n) × ((h : l.n ≤ length l.initial.rows) → Going (packed_tables l.schema) l.n l.initial.rows h l.i l.rows)
+
+abbrev pub decreases-loop-i : goal.decreases-loop-i
+decreases-loop-i l = l.n - l.i

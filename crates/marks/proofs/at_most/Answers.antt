@@ -1,0 +1,12 @@
+-- `marks::at_most` meets its contract.
+use mathlib.Core.Path.{◌∙◌}
+use lib.Signed.{le_z}
+use Rattle.model.specs.Conditions.{first_int}
+use Rattle.marks.proofs.Atoms.{ordered}
+use borrow.Author.Rules.{rules}
+use Rattle.marks.proofs.at_most.Goals as goal
+
+pub returns : goal.returns
+returns c =
+    let a = c.args in
+    c.at_most.ensures ∙ ordered le_z c.first_of-x.result c.first_of-y.result (first_int a.xs.now) (first_int a.ys.now) c.first_of-x.ensures c.first_of-y.ensures

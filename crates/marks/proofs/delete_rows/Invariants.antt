@@ -1,0 +1,23 @@
+-- The loop of `marks::delete_rows`.
+use mathlib.Core.Path.{◌≡◌, refl, sym, ap, ◌∙◌}
+use mathlib.Core.Bool.{Bool, not, false}
+use mathlib.Core.List.{List, []}
+use mathlib.Core.Logic.{⊎_elim}
+use Prim.Native.Nat.{ℕ, ◌-◌, ◌≤◌, ◌<◌}
+use native.Mathlib.Omega.{arith}
+use lib.ListN.{length, take, get_or}
+use Rattle.model.specs.Areas.{row_from}
+use Rattle.model.specs.Base.{keep}
+use Rattle.model.specs.Schema.{Column, Schema, columns_of}
+use Rattle.model.specs.Rows.{Row}
+use Rattle.model.specs.Conditions.{Test, matches}
+use Rattle.inner.specs.Working.{working, Tidy}
+use Rattle.marks.specs.Marks.{MarkedRows}
+use Rattle.marks.proofs.Picking.{Partly, row_here, partly_out, partly_in, tidy_in, rows_in, rows_out}
+use Rattle.marks.proofs.delete_rows.Given as goal
+
+abbrev pub invariant-loop-i : goal.invariant-loop-i
+invariant-loop-i l = (l.i ≤ l.n) × Partly l.initial.rows l.rows l.i l.kept × ((s : Schema) → Tidy s (take l.n l.initial.rows) → Tidy s (take l.kept l.rows)) × ((cs : List Column) (table : ℕ) (ts : List Test) → MarkedRows cs ts table l.n l.initial.rows l.marks → (s : Schema) → columns_of s table ≡ cs → working s l.kept l.rows ≡ keep (λ (q : Row). not (matches table ts q)) (working s l.i l.initial.rows))
+
+abbrev pub decreases-loop-i : goal.decreases-loop-i
+decreases-loop-i l = l.n - l.i

@@ -1,0 +1,19 @@
+-- The loop of `marks::is_sized`.
+use mathlib.Core.Path.{◌≡◌, refl, sym, ap, ◌∙◌}
+use mathlib.Core.Bool.{true}
+use mathlib.Core.List.{List, []}
+use Prim.Native.Nat.{ℕ, ◌+◌, ◌-◌, ◌≤◌}
+use native.Mathlib.Omega.{arith}
+use lib.Dec.{eqb}
+use lib.ListN.{length, get_or, drop}
+use borrow.Author.Tests.{eq-eqb}
+use Rattle.model.specs.Base.{all}
+use Rattle.marks.proofs.Atoms.{all_on, all_end}
+use borrow.Author.Rules.{rules}
+use Rattle.marks.proofs.is_sized.Given as goal
+
+abbrev pub invariant-loop-i : goal.invariant-loop-i
+invariant-loop-i l = (l.i ≤ length l.xs) × (l.ok ≡ true) × (all (λ (x : List ℕ). eqb (length x) 25) l.xs ≡ all (λ (x : List ℕ). eqb (length x) 25) (drop l.i l.xs))
+
+abbrev pub decreases-loop-i : goal.decreases-loop-i
+decreases-loop-i l = length l.xs - l.i

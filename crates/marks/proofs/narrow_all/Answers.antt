@@ -1,0 +1,49 @@
+-- `marks::narrow_all` meets its contract.
+use mathlib.Core.Path.{◌≡◌, refl, sym, ap, ◌∙◌}
+use mathlib.Core.Bool.{Bool, ◌&&◌}
+use mathlib.Core.List.{List, []}
+use mathlib.Core.Logic.{⊎_elim}
+use Prim.Native.Nat.{ℕ, ◌+◌, ◌-◌, ◌≤◌}
+use native.Mathlib.Omega.{arith}
+use lib.ListN.{length, get_or}
+use Rattle.marks.specs.Marks.{atoms_at, Sized}
+use Rattle.marks.proofs.Atoms.{and_true}
+use Rattle.marks.proofs.Marking.{Narrowing, narrowing_none, narrowing_set, narrowing_keep, narrowing_end}
+use borrow.Author.Rules.{rules}
+use Rattle.marks.proofs.narrow_all.Goals as goal
+
+pub loop-i-init : goal.loop-i-init
+loop-i-init c = (omega arith, λ p h. narrowing_none p _ _)
+
+pub bounds-marks-i : goal.bounds-marks-i
+bounds-marks-i c = omega (arith, c.loop-i-test.true, c.requires.1)
+
+pub offset_bounds-rows-i : goal.offset_bounds-rows-i
+offset_bounds-rows-i c = omega (arith, c.loop-i-test.true, c.requires.1)
+
+pub bounds-rows-i : goal.bounds-rows-i
+bounds-rows-i c = omega (arith, c.loop-i-test.true)
+
+pub sized_at-s-requires : goal.sized_at-s-requires
+sized_at-s-requires c = c.requires.0
+
+pub bounds-marks-i-then-marks-i : goal.bounds-marks-i-then-marks-i
+bounds-marks-i-then-marks-i c = omega (arith, c.loop-i-test.true, c.requires.1)
+
+pub overflow_add-i : goal.overflow_add-i
+overflow_add-i c = omega (arith, c.loop-i-test.true, c.requires.1)
+
+pub loop-i-preserved : goal.loop-i-preserved
+loop-i-preserved c =
+    let a = c.args in
+    ⊎_elim
+    (λ w. (
+      omega arith,
+      λ p h. rw w.3 (narrowing_set p _ _ (c.loop-i.invariant.1 p h) w.0.taken (ap (λ b. a.stays && b) w.2.ensures.0 ∙ and_true a.stays ∙ sym (h (get_or a.rows.now c.loop-i.i []) w.2.ensures.1))),
+    ))
+    (λ w. (omega arith, λ p h. rw w.1 (narrowing_keep p _ _ (c.loop-i.invariant.1 p h) w.0.left)))
+    c.if-marks-i.branch
+
+pub returns : goal.returns
+returns c =
+    λ p h. narrowing_end p _ _ (c.loop-i.invariant.1 p h) (omega (arith, c.loop-i-test.false, c.loop-i.invariant.0))

@@ -1,0 +1,15 @@
+-- The loop of `row_types::row_meets`.
+use mathlib.Core.Path.{◌≡◌, refl, sym, ◌∙◌}
+use Prim.Native.Nat.{◌-◌, ◌≤◌}
+use native.Mathlib.Omega.{arith}
+use borrow.Author.Tests.{not-true, not-false}
+use lib.ListN.{length, drop}
+use Rattle.row_types.specs.Met.{met_from}
+use Rattle.row_types.proofs.Laws.{met_on, met_off, met_end}
+use Rattle.row_types.proofs.row_meets.Given as goal
+
+abbrev pub invariant-loop-c : goal.invariant-loop-c
+invariant-loop-c l = (l.c ≤ length l.columns) × (met_from 0 l.columns l.row ≡ met_from l.c (drop l.c l.columns) l.row)
+
+abbrev pub decreases-loop-c : goal.decreases-loop-c
+decreases-loop-c l = length l.columns - l.c
