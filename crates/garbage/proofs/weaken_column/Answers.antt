@@ -30,13 +30,12 @@ returns-in-Table c =
     let row = get_or rows a.i [] in
     let next = c.set_column.new.row in
     let v = value_in a.c row in
-    let u = c.in-Table.given in
     let e : get_or (set rows a.i next) a.i [] ≡ next = get_or-set_same rows a.i next [] (omega (arith, c.requires.1, c.requires.2.there)) in
     record { rows_after = ap (set rows a.i) (sym e); column_weak = subst (ColumnWeak (target_table a.to) a.c a.n rows row) (sym e)
           (record {
             row = λ sc h. c.set_column.ensures.row sc
-                ∙ ap (λ (w : Value). set_column a.c w (row_from sc row)) (kept_value_lem (present (working sc a.n rows) u.0.0) v c.keep_column-k.new.out c.keep_column-k.result (c.keep_column-k.ensures.value sc) (c.keep_column-k.ensures.out_after sc))
-                ∙ ap (λ (o : Option ℕ). set_column a.c (kept_value (working sc a.n rows) o v) (row_from sc row)) (sym (ap target_table u.1));
+                ∙ ap (λ (w : Value). set_column a.c w (row_from sc row)) (kept_value_lem (present (working sc a.n rows) c.in-Table.t) v c.keep_column-k.new.out c.keep_column-k.result (c.keep_column-k.ensures.value sc) (c.keep_column-k.ensures.out_after sc))
+                ∙ ap (λ (o : Option ℕ). set_column a.c (kept_value (working sc a.n rows) o v) (row_from sc row)) (sym (ap target_table c.in-Table.is));
             tidy = λ sc h w t. c.set_column.ensures.tidy sc h w t;
           }) }
 

@@ -26,8 +26,8 @@ loop-i-preserved c =
     let t = c.loop-i-test.true in
     let m = c.args.marks.now in
     ⊎_elim
-    (λ w. (omega arith, omega (arith, w.VAR0-is, c.loop-i.invariant.1), w.VAR0-is ∙ ap (λ k. k + 1) c.loop-i.invariant.2 ∙ sym (marked_yes m c.loop-i.i w.if-marks-i.true)))
-    (λ w. (omega arith, omega (arith, w.VAR0-is, c.loop-i.invariant.1), w.VAR0-is ∙ c.loop-i.invariant.2 ∙ sym (marked_no m c.loop-i.i w.if-marks-i.false)))
+    (λ w. (omega arith, omega (arith, w.found-is, c.loop-i.invariant.1), w.found-is ∙ ap (λ k. k + 1) c.loop-i.invariant.2 ∙ sym (marked_yes m c.loop-i.i w.if-marks-i.true)))
+    (λ w. (omega arith, omega (arith, w.found-is, c.loop-i.invariant.1), w.found-is ∙ c.loop-i.invariant.2 ∙ sym (marked_no m c.loop-i.i w.if-marks-i.false)))
     c.if-marks-i.branch-raw
 
 pub returns : goal.returns

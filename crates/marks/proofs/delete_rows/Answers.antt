@@ -43,8 +43,8 @@ loop-i-preserved c =
     let b = a.rows.now in
     let h : c.loop-i.i < length b = omega (arith, t, c.requires.1) in
     ⊎_elim
-    (λ w. let e = w.VAR0-is ∙ w.copy_row.ensures in
-    rw (e, w.VAR1-is) (
+    (λ w. let e = w.rows-is ∙ w.copy_row.ensures in
+    rw (e, w.kept-is) (
       omega arith,
       partly_in b c.loop-i.rows c.loop-i.i c.loop-i.kept p h,
       λ s u. tidy_in b c.loop-i.rows c.loop-i.i c.loop-i.kept p h s a.n t c.requires.1 u (c.loop-i.invariant.2 s u),

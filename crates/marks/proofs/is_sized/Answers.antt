@@ -28,7 +28,7 @@ pub loop-i-preserved : goal.loop-i-preserved
 loop-i-preserved c =
     let xs = c.args.xs.now in
     let t = c.loop-i-test.true in
-    let e = eq-eqb (length (get_or xs c.loop-i.i [])) 25 (omega (arith, c.bytes-1.given.0)) in
+    let e = eq-eqb (length (get_or xs c.loop-i.i [])) 25 (omega (arith, c.bytes-1.given)) in
     (omega arith, rw (c.loop-i.invariant.1, e), c.loop-i.invariant.2 ∙ all_on (λ (x : List ℕ). eqb (length x) 25) xs c.loop-i.i t e)
 
 pub returns : goal.returns

@@ -42,7 +42,7 @@ returns-then-not-is_root c =
     let at : ℕ = c.loop-i.i in
     let step : not_root schema (row_from schema (get_or c.args.rows.now at [])) ≡ not c.is_root.result = ap (λ (t : ℕ). not (is_root schema t)) (row_table schema (get_or c.args.rows.now at []) ∙ sym c.table_of.ensures) ∙ ap not (sym c.is_root.ensures) in
     let l = c.loop-i in
-    sym (l.invariant.1 ∙ any_row_here (schema) c.args.rows.now c.args.n c.requires.n_in_bounds l.i (not_root (schema)) c.loop-i-test.true (step ∙ c.if-not-is_root.true))
+    sym (l.invariant.1 ∙ any_row_here (schema) c.args.rows.now c.args.n c.requires.n_in_bounds l.i (not_root (schema)) c.loop-i-test.true (step ∙ (ap not c.if-not-is_root.true)))
 
 pub loop-i-preserved : goal.loop-i-preserved
 loop-i-preserved c =
@@ -50,7 +50,7 @@ loop-i-preserved c =
     let at : ℕ = c.loop-i.i in
     let step : not_root schema (row_from schema (get_or c.args.rows.now at [])) ≡ not c.is_root.result = ap (λ (t : ℕ). not (is_root schema t)) (row_table schema (get_or c.args.rows.now at []) ∙ sym c.table_of.ensures) ∙ ap not (sym c.is_root.ensures) in
     let l = c.loop-i in
-    (omega arith, l.invariant.1 ∙ any_row_on (schema) c.args.rows.now c.args.n c.requires.n_in_bounds l.i (not_root (schema)) c.loop-i-test.true (step ∙ c.if-not-is_root.false))
+    (omega arith, l.invariant.1 ∙ any_row_on (schema) c.args.rows.now c.args.n c.requires.n_in_bounds l.i (not_root (schema)) c.loop-i-test.true (step ∙ (ap not c.if-not-is_root.false)))
 
 pub returns : goal.returns
 returns c =

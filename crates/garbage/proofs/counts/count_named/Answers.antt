@@ -31,17 +31,17 @@ offset_bounds-counts-i c =
     let key : ℕ = key_of c.args.table (uuid_of c.args.atom.now) in
     let spot : ℕ = c.in-At.i in
     let found_at_lem : place key (working [] c.args.n c.args.rows.now) ≡ At spot = sym (c.find_key-found.ensures []) ∙ c.in-At.is in
-    let within : spot < (start c⟪After-known_told⟫).args.n = let a = (start c⟪After-known_told⟫).args in
-    place_within a.n a.rows.now (start c⟪After-known_told⟫).pre.0.0 (key) a.up a.own a.counts.now (spot) (found_at_lem) c.if-i-own.false in
-    omega (arith, within, c.requires.ordered.1, c.before.before.before.before.before.before.before.before.good)
+    let within : spot < c.args.n = let a = c.args in
+    place_within a.n a.rows.now c.requires.ordered.0 (key) a.up a.own a.counts.now (spot) (found_at_lem) c.if-i-own.false in
+    omega (arith, within, c.requires.ordered.1, c.well_formed)
 
 pub bounds-counts-i : goal.bounds-counts-i
 bounds-counts-i c =
     let key : ℕ = key_of c.args.table (uuid_of c.args.atom.now) in
     let spot : ℕ = c.in-At.i in
     let found_at_lem : place key (working [] c.args.n c.args.rows.now) ≡ At spot = sym (c.find_key-found.ensures []) ∙ c.in-At.is in
-    let within : spot < (start c⟪After-known_told⟫).args.n = let a = (start c⟪After-known_told⟫).args in
-    place_within a.n a.rows.now (start c⟪After-known_told⟫).pre.0.0 (key) a.up a.own a.counts.now (spot) (found_at_lem) c.if-i-own.false in
+    let within : spot < c.args.n = let a = c.args in
+    place_within a.n a.rows.now c.requires.ordered.0 (key) a.up a.own a.counts.now (spot) (found_at_lem) c.if-i-own.false in
     omega (arith, within, c.requires.ordered.1)
 
 pub moved-d-requires : goal.moved-d-requires
@@ -57,17 +57,17 @@ offset_bounds-counts-i-2 c =
     let key : ℕ = key_of c.args.table (uuid_of c.args.atom.now) in
     let spot : ℕ = c.in-At.i in
     let found_at_lem : place key (working [] c.args.n c.args.rows.now) ≡ At spot = sym (c.find_key-found.ensures []) ∙ c.in-At.is in
-    let within : spot < (start c⟪After-known_told⟫).args.n = let a = (start c⟪After-known_told⟫).args in
-    place_within a.n a.rows.now (start c⟪After-known_told⟫).pre.0.0 (key) a.up a.own a.counts.now (spot) (found_at_lem) c.if-i-own.false in
-    omega (arith, within, c.requires.ordered.1, c.before.before.before.before.before.before.before.before.before.before.good)
+    let within : spot < c.args.n = let a = c.args in
+    place_within a.n a.rows.now c.requires.ordered.0 (key) a.up a.own a.counts.now (spot) (found_at_lem) c.if-i-own.false in
+    omega (arith, within, c.requires.ordered.1, c.well_formed)
 
 pub bounds-counts-i-2 : goal.bounds-counts-i-2
 bounds-counts-i-2 c =
     let key : ℕ = key_of c.args.table (uuid_of c.args.atom.now) in
     let spot : ℕ = c.in-At.i in
     let found_at_lem : place key (working [] c.args.n c.args.rows.now) ≡ At spot = sym (c.find_key-found.ensures []) ∙ c.in-At.is in
-    let within : spot < (start c⟪After-known_told⟫).args.n = let a = (start c⟪After-known_told⟫).args in
-    place_within a.n a.rows.now (start c⟪After-known_told⟫).pre.0.0 (key) a.up a.own a.counts.now (spot) (found_at_lem) c.if-i-own.false in
+    let within : spot < c.args.n = let a = c.args in
+    place_within a.n a.rows.now c.requires.ordered.0 (key) a.up a.own a.counts.now (spot) (found_at_lem) c.if-i-own.false in
     omega (arith, within, c.requires.ordered.1)
 
 pub returns-then-d-eq0 : goal.returns-then-d-eq0
@@ -75,8 +75,8 @@ returns-then-d-eq0 c =
     let key : ℕ = key_of c.args.table (uuid_of c.args.atom.now) in
     let spot : ℕ = c.in-At.i in
     let found_at_lem : place key (working [] c.args.n c.args.rows.now) ≡ At spot = sym (c.find_key-found.ensures []) ∙ c.in-At.is in
-    let counted : let a = (start c⟪After-known_told⟫).args in Counted a.up a.n a.rows.now a.own (key ∷ []) a.counts.now (set a.counts.now (spot) c.moved-d.result) = let a = (start c⟪After-known_told⟫).args in
-    counted_one a.n a.rows.now (start c⟪After-known_told⟫).requires.0.0 (key) a.up a.own a.counts.now (spot) (found_at_lem) c.if-i-own.false (start c⟪After-known_told⟫).requires.0.1 c.moved-d.result c.moved-d.ensures in
+    let counted : let a = c.args in Counted a.up a.n a.rows.now a.own (key ∷ []) a.counts.now (set a.counts.now (spot) c.moved-d.result) = let a = c.args in
+    counted_one a.n a.rows.now c.requires.ordered.0 (key) a.up a.own a.counts.now (spot) (found_at_lem) c.if-i-own.false c.requires.ordered.1 c.moved-d.result c.moved-d.ensures in
     counted
 
 pub returns : goal.returns
@@ -84,6 +84,6 @@ returns c =
     let key : ℕ = key_of c.args.table (uuid_of c.args.atom.now) in
     let spot : ℕ = c.in-At.i in
     let found_at_lem : place key (working [] c.args.n c.args.rows.now) ≡ At spot = sym (c.find_key-found.ensures []) ∙ c.in-At.is in
-    let counted : let a = (start c⟪After-known_told⟫).args in Counted a.up a.n a.rows.now a.own (key ∷ []) a.counts.now (set a.counts.now (spot) c.moved-d.result) = let a = (start c⟪After-known_told⟫).args in
-    counted_one a.n a.rows.now (start c⟪After-known_told⟫).requires.0.0 (key) a.up a.own a.counts.now (spot) (found_at_lem) c.if-i-own.false (start c⟪After-known_told⟫).requires.0.1 c.moved-d.result c.moved-d.ensures in
+    let counted : let a = c.args in Counted a.up a.n a.rows.now a.own (key ∷ []) a.counts.now (set a.counts.now (spot) c.moved-d.result) = let a = c.args in
+    counted_one a.n a.rows.now c.requires.ordered.0 (key) a.up a.own a.counts.now (spot) (found_at_lem) c.if-i-own.false c.requires.ordered.1 c.moved-d.result c.moved-d.ensures in
     counted

@@ -110,7 +110,7 @@ count_row-z-requires c =
 
 pub overflow_step-k : goal.overflow_step-k
 overflow_step-k c =
-    omega (arith, c.loop-k-test.true, s.good, c.requires.ordered.0.there)
+    omega (arith, c.loop-k-test.true, c.well_formed, c.requires.ordered.0.there)
 
 pub loop-k-smaller : goal.loop-k-smaller
 loop-k-smaller c = omega (arith, c.loop-k-test.true)

@@ -1,0 +1,15 @@
+-- The loop of `fresh::ids_good`.
+use Prim.Native.Nat.{◌-◌, ◌≤◌}
+use mathlib.Core.Path.{◌≡◌, refl, sym, ap, ◌∙◌}
+use native.Mathlib.Omega.{arith}
+use Rattle.model.specs.Schema.{Schema}
+use Rattle.inner.specs.Working.{working}
+use Rattle.fresh.specs.Fresh.{fresh_good}
+use Rattle.fresh.proofs.Ids.{good_from, good_first, good_on, good_not, good_end}
+use Rattle.fresh.proofs.ids_good.Given as goal
+
+abbrev pub invariant-loop-k : goal.invariant-loop-k
+invariant-loop-k l = ((s : Schema) → fresh_good l.fresh (working s l.n l.rows) ≡ good_from l.fresh (working s l.n l.rows) l.k) × (l.k ≤ 16)
+
+abbrev pub decreases-loop-k : goal.decreases-loop-k
+decreases-loop-k l = 16 - l.k

@@ -1,0 +1,26 @@
+-- The loop of `limits::same_in`.
+use mathlib.Core.Path.{◌≡◌, sym, ap, ◌∙◌}
+use native.Mathlib.Omega.{arith}
+use borrow.Author.Rules.{rules}
+use mathlib.Core.Bool.{Bool}
+use mathlib.Core.List.{List}
+use Prim.Native.Nat.{ℕ, ◌-◌, ◌≤◌, ◌<◌}
+use borrow.Author.Tests.{not-true, not-false}
+use lib.ListN.{length, get_or, take, drop}
+use lib.Seq.{take-length}
+use Rattle.model.specs.Base.{all}
+use Rattle.model.specs.Value.{same_value}
+use Rattle.inner.specs.Working.{value_in}
+use Rattle.references.proofs.Walks.{all_here, all_on, all_end}
+use Rattle.limits.specs.Alike.{same_cells}
+use Rattle.limits.proofs.same_in.Given as goal
+
+-- two rows have the same value in a column
+abbrev pub alike : List (List ℕ) → List (List ℕ) → ℕ → Bool
+alike x y c = same_value (value_in c x) (value_in c y)
+
+abbrev pub invariant-loop-k : goal.invariant-loop-k
+invariant-loop-k l = (l.k ≤ length l.index) × (same_cells l.index l.x l.y ≡ all (alike l.x l.y) (drop l.k (take (length l.index) l.index)))
+
+abbrev pub decreases-loop-k : goal.decreases-loop-k
+decreases-loop-k l = length l.index - l.k

@@ -1,0 +1,18 @@
+-- The loop of `limits::tables_good`.
+use mathlib.Core.Path.{◌≡◌, sym, ◌∙◌}
+use native.Mathlib.Omega.{arith}
+use borrow.Author.Rules.{rules}
+use Prim.Native.Nat.{◌-◌, ◌≤◌}
+use borrow.Author.Tests.{not-true, not-false}
+use Rattle.model.specs.Commit.{tables_good}
+use Rattle.model.specs.Catalog.{packed_tables, table_count}
+use Rattle.inner.specs.Working.{working}
+use Rattle.catalog.proofs.Laws.{tables_length, few_tables}
+use Rattle.limits.proofs.Tables.{good_from, tables_here, tables_next, tables_last}
+use Rattle.limits.proofs.tables_good.Given as goal
+
+abbrev pub invariant-loop-t : goal.invariant-loop-t
+invariant-loop-t l = (l.t ≤ l.k) × (tables_good 0 (packed_tables l.schema) (working (packed_tables l.schema) l.n l.rows) ≡ good_from l.schema l.n l.rows 0 l.t)
+
+abbrev pub decreases-loop-t : goal.decreases-loop-t
+decreases-loop-t l = l.k - l.t

@@ -1,0 +1,17 @@
+-- `limits::within` meets its contract.
+use mathlib.Core.Path.{sym, ap, ◌∙◌}
+use lib.Dec.{leb}
+use borrow.Author.Tests.{not-true, not-false}
+use borrow.Author.Rules.{rules}
+use Rattle.limits.proofs.Enough.{limit_none, limit_some}
+use Rattle.limits.proofs.within.Goals as goal
+
+pub returns-then-not-is_limited : goal.returns-then-not-is_limited
+returns-then-not-is_limited c =
+    let a = c.args in
+    sym (limit_none a.entry.now a.k (sym c.is_limited.ensures ∙ c.if-not-is_limited.true))
+
+pub returns : goal.returns
+returns c =
+    let a = c.args in
+    ap (leb a.k) c.max_rows.ensures ∙ sym (limit_some a.entry.now a.k (sym c.is_limited.ensures ∙ c.if-not-is_limited.false))

@@ -1,0 +1,48 @@
+-- `lookups::count_keys` meets its contract.
+use mathlib.Core.Path.{◌≡◌, refl, sym, ◌∙◌}
+use mathlib.Core.Bool.{Bool}
+use mathlib.Core.Logic.{⊎_elim}
+use mathlib.Core.List.{List, map}
+use Prim.Native.Nat.{ℕ, ◌+◌, ◌-◌, ◌≤◌}
+use native.Mathlib.Omega.{arith}
+use lib.ListN.{length}
+use Rattle.model.specs.Octets.{value}
+use Rattle.model.specs.Schema.{Schema}
+use Rattle.model.specs.Rows.{has}
+use Rattle.inner.specs.Working.{working}
+use Rattle.lookups.specs.Found.{count_true}
+use Rattle.lookups.proofs.Laws.{left, left_one, left_none, left_end}
+use Rattle.lookups.proofs.count_keys.Invariants.{is}
+use Rattle.lookups.proofs.count_keys.Goals as goal
+
+pub loop-i-init : goal.loop-i-init
+loop-i-init c = (omega arith, omega arith, λ s. omega arith)
+
+pub offset_bounds-keys-i : goal.offset_bounds-keys-i
+offset_bounds-keys-i c = omega (arith, c.well_formed)
+
+pub has_key-requires : goal.has_key-requires
+has_key-requires c = c.requires
+
+pub overflow_add-count : goal.overflow_add-count
+overflow_add-count c = omega (arith, c.well_formed)
+
+pub overflow_add-i : goal.overflow_add-i
+overflow_add-i c = omega (arith, c.well_formed)
+
+pub loop-i-preserved : goal.loop-i-preserved
+loop-i-preserved c =
+    let a = c.args in
+    let l = c.loop-i in
+    let t = c.loop-i-test.true in
+    ⊎_elim {C = (c.if-has_key.count ≤ l.i + 1) × (l.i + 1 ≤ length a.keys.now) × ((s : Schema) → count_true (is s a.rows.now) (map value a.keys.now) ≡ c.if-has_key.count + left (is s a.rows.now) a.keys.now (l.i + 1) (l.i + 1))}
+    (λ w. (omega (arith, w.count-is), omega arith, λ s. omega (arith, w.count-is, l.invariant.2 s, left_one (is s a.rows.now) a.keys.now l.i t (sym (c.has_key.ensures s) ∙ w.if-has_key.true))))
+    (λ w. (omega (arith, w.count-is), omega arith, λ s. omega (arith, w.count-is, l.invariant.2 s, left_none (is s a.rows.now) a.keys.now l.i t (sym (c.has_key.ensures s) ∙ w.if-has_key.false))))
+    c.if-has_key.branch-raw
+
+pub returns : goal.returns
+returns c =
+    λ s.
+    let a = c.args in
+    let l = c.loop-i in
+    omega (arith, l.invariant.2 s, left_end (is s a.rows.now) a.keys.now l.i c.loop-i-test.false)

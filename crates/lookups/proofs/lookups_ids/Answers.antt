@@ -1,0 +1,22 @@
+-- `lookups::lookups_ids` meets its contract.
+use mathlib.Core.Path.{sym, ◌∙◌}
+use mathlib.Core.List.{[]}
+use native.Mathlib.Omega.{arith}
+use borrow.Author.Tests.{not-true, not-false}
+use lib.ListN.{length}
+use Rattle.model.proofs.GoodOrder.{ascends_sorted}
+use Rattle.inner.specs.Working.{working}
+use Rattle.inner.proofs.Ordering.{sorted_ordered}
+use borrow.Author.Rules.{rules}
+use Rattle.lookups.proofs.lookups_ids.Goals as goal
+
+pub returns-then-not-ascending : goal.returns-then-not-ascending
+returns-then-not-ascending c = λ s. rw (sym (c.ascending.ensures s) ∙ c.if-not-ascending.true)
+
+pub count_ids-requires : goal.count_ids-requires
+count_ids-requires c =
+    let rows = c.args.rows.now in
+    sorted_ordered [] (length rows) rows (omega arith) (ascends_sorted (working [] (length rows) rows) (sym (c.ascending.ensures []) ∙ c.if-not-ascending.false))
+
+pub returns : goal.returns
+returns c = λ s. c.count_ids.ensures s ∙ rw (sym (c.ascending.ensures s) ∙ c.if-not-ascending.false)
