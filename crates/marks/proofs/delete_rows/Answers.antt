@@ -48,13 +48,13 @@ loop-i-preserved c =
       omega arith,
       partly_in b c.loop-i.rows c.loop-i.i c.loop-i.kept p h,
       λ s u. tidy_in b c.loop-i.rows c.loop-i.i c.loop-i.kept p h s a.n t c.requires.1 u (c.loop-i.invariant.2 s u),
-      λ cs table ts m s v. rows_in b c.loop-i.rows c.loop-i.i c.loop-i.kept p h s (λ (q : Row). not (matches table ts q)) (c.loop-i.invariant.3 cs table ts m s v) (ap not (sym (m s v c.loop-i.i t)) ∙ w.if-not-marks-i.true),
+      λ cs table ts m s v. rows_in b c.loop-i.rows c.loop-i.i c.loop-i.kept p h s (λ (q : Row). not (matches table ts q)) (c.loop-i.invariant.3 cs table ts m s v) (ap not (sym (m s v c.loop-i.i t)) ∙ (ap not w.if-not-marks-i.true)),
     ))
-    (λ w. rw (w.VAR0-is, w.VAR1-is) (
+    (λ w. rw (w.rows-is, w.kept-is) (
       omega arith,
       partly_out b c.loop-i.rows c.loop-i.i c.loop-i.kept p,
       c.loop-i.invariant.2,
-      λ cs table ts m s v. rows_out b c.loop-i.rows c.loop-i.i c.loop-i.kept p h s (λ (q : Row). not (matches table ts q)) (c.loop-i.invariant.3 cs table ts m s v) (ap not (sym (m s v c.loop-i.i t)) ∙ w.if-not-marks-i.false),
+      λ cs table ts m s v. rows_out b c.loop-i.rows c.loop-i.i c.loop-i.kept p h s (λ (q : Row). not (matches table ts q)) (c.loop-i.invariant.3 cs table ts m s v) (ap not (sym (m s v c.loop-i.i t)) ∙ (ap not w.if-not-marks-i.false)),
     ))
     c.if-not-marks-i.branch-raw
 

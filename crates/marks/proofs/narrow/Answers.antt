@@ -33,8 +33,8 @@ overflow_add-i c = omega (arith, c.loop-i-test.true, c.requires.1)
 pub loop-i-preserved : goal.loop-i-preserved
 loop-i-preserved c =
     ⊎_elim
-    (λ w. (omega arith, rw w.VAR1-is (narrowing_set _ _ _ c.loop-i.invariant.1 w.if-marks-i.true w.VAR0-is)))
-    (λ w. (omega arith, rw w.VAR0-is (narrowing_keep _ _ _ c.loop-i.invariant.1 w.if-marks-i.false)))
+    (λ w. (omega arith, rw w.marks-is (narrowing_set _ _ _ c.loop-i.invariant.1 w.if-marks-i.true w.holds-m.ensures)))
+    (λ w. (omega arith, rw w.marks-is (narrowing_keep _ _ _ c.loop-i.invariant.1 w.if-marks-i.false)))
     c.if-marks-i.branch-raw
 
 pub returns : goal.returns

@@ -39,9 +39,9 @@ loop-i-preserved c =
     ⊎_elim
     (λ w. (
       omega arith,
-      λ p h. rw w.VAR1-is (narrowing_set p _ _ (c.loop-i.invariant.1 p h) w.if-marks-i.true (ap (λ b. a.stays && b) w.VAR0-is ∙ and_true a.stays ∙ sym (h (get_or a.rows.now c.loop-i.i []) w.VAR0-is))),
+      λ p h. rw w.marks-is (narrowing_set p _ _ (c.loop-i.invariant.1 p h) w.if-marks-i.true (ap (λ b. a.stays && b) w.sized_at-s.ensures.0 ∙ and_true a.stays ∙ sym (h (get_or a.rows.now c.loop-i.i []) w.sized_at-s.ensures.1))),
     ))
-    (λ w. (omega arith, λ p h. rw w.VAR0-is (narrowing_keep p _ _ (c.loop-i.invariant.1 p h) w.if-marks-i.false)))
+    (λ w. (omega arith, λ p h. rw w.marks-is (narrowing_keep p _ _ (c.loop-i.invariant.1 p h) w.if-marks-i.false)))
     c.if-marks-i.branch-raw
 
 pub returns : goal.returns

@@ -1,0 +1,51 @@
+-- `arrival::bad` meets its contract.
+use mathlib.Core.Bool.{not}
+use mathlib.Core.Path.{sym, ap, ◌∙◌}
+use Prim.Native.Nat.{◌-◌}
+use borrow.Author.Rules.{rules}
+use borrow.Author.Tests.{not-true, not-false}
+use Rattle.model.specs.Catalog.{packed_tables}
+use Rattle.inner.specs.Working.{working}
+use Rattle.record.specs.Reading.{arrival_record}
+use Rattle.arrival.specs.declared.Head.{Head}
+use Rattle.arrival.proofs.Answers.{bad_unsound, bad_mark, bad_zero, bad_later, bad_next}
+use Rattle.arrival.proofs.bad.Goals as goal
+
+pub returns-then-not-sound : goal.returns-then-not-sound
+returns-then-not-sound c =
+    let a = c.args in
+    sym (bad_unsound (packed_tables a.schema.now) a.n (working (packed_tables a.schema.now) a.count a.rows.now) (arrival_record a.arrival a.bytes.now) (sym c.sound.ensures ∙ c.if-not-sound.true))
+
+pub returns-then-head : goal.returns-then-head
+returns-then-head c =
+    let a = c.args in
+    sym (bad_mark (packed_tables a.schema.now) a.n (working (packed_tables a.schema.now) a.count a.rows.now) (arrival_record a.arrival a.bytes.now) (sym (ap (λ (h : Head). h.marks) (c.head_of-head.ensures a.bytes.now)) ∙ c.if-head.true))
+
+pub returns-then-number-eq0 : goal.returns-then-number-eq0
+returns-then-number-eq0 c =
+    let a = c.args in
+    let e = c.head_of-head.ensures a.bytes.now in
+    sym (bad_zero (packed_tables a.schema.now) a.n (working (packed_tables a.schema.now) a.count a.rows.now) (arrival_record a.arrival a.bytes.now)
+    (sym (ap (λ (h : Head). h.marks) e) ∙ c.if-head.false) (sym (ap (λ (h : Head). h.number) e) ∙ c.if-number-eq0.true))
+
+pub returns-then-number-n : goal.returns-then-number-n
+returns-then-number-n c =
+    let a = c.args in
+    let e = c.head_of-head.ensures a.bytes.now in
+    sym (bad_later (packed_tables a.schema.now) a.n (working (packed_tables a.schema.now) a.count a.rows.now) (arrival_record a.arrival a.bytes.now)
+    (sym c.sound.ensures ∙ c.if-not-sound.false)
+    (sym (ap (λ (h : Head). h.marks) e) ∙ c.if-head.false)
+    (λ z. c.if-number-eq0.false (ap (λ (h : Head). h.number) e ∙ z))
+    (λ z. c.if-number-n.true (ap (λ (h : Head). h.number - 1) e ∙ z)))
+
+pub returns : goal.returns
+returns c =
+    let a = c.args in
+    let e = c.head_of-head.ensures a.bytes.now in
+    let t = packed_tables a.schema.now in
+    ap not (c.fits.ensures t)
+    ∙ sym (bad_next t a.n (working t a.count a.rows.now) (arrival_record a.arrival a.bytes.now)
+    (sym c.sound.ensures ∙ c.if-not-sound.false)
+    (sym (ap (λ (h : Head). h.marks) e) ∙ c.if-head.false)
+    (λ z. c.if-number-eq0.false (ap (λ (h : Head). h.number) e ∙ z))
+    (sym (ap (λ (h : Head). h.number - 1) e) ∙ c.if-number-n.false))

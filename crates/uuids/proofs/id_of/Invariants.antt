@@ -1,0 +1,15 @@
+-- The loop of `uuids::id_of`.
+use Prim.Native.Nat.{◌≤◌, ◌-◌, ◌+◌}
+use native.Mathlib.Omega.{arith}
+use mathlib.Core.Path.{◌≡◌, subst, sym}
+use lib.ListN.{length}
+use Rattle.uuids.specs.Ids.{Spells}
+use Rattle.uuids.proofs.Spelling.{Sofar, sofar_start, sofar_on, sofar_end, not_36}
+use borrow.Author.Rules.{rules}
+use Rattle.uuids.proofs.id_of.Given as goal
+
+abbrev pub invariant-loop-at : goal.invariant-loop-at
+invariant-loop-at l = (l.at ≤ 36) × Sofar l.t l.at l.i
+
+abbrev pub decreases-loop-at : goal.decreases-loop-at
+decreases-loop-at l = 36 - l.at
