@@ -59,8 +59,8 @@ loop-j-preserved c =
       omega (arith, g),
       omega (arith, l.invariant.1),
       l.invariant.2 ∙ ⊎_elim
-          (λ w. any_kept_on (of_t c.args.table) [] c.args.rows.now c.args.n l.j c.requires.i_lt_n.1 (test) g (sym c.is_of.ensures ∙ w.if-is_of.true) (sym w.VAR0-is ∙ w.VAR1-is))
-          (λ w. any_kept_no (of_t c.args.table) [] c.args.rows.now c.args.n l.j c.requires.i_lt_n.1 (test) g (sym c.is_of.ensures ∙ w.left))
+          (λ w. any_kept_on (of_t c.args.table) [] c.args.rows.now c.args.n l.j c.requires.i_lt_n.1 (test) g (sym c.is_of.ensures ∙ w.if-is_of.true) (sym w.same_in.ensures ∙ w.if-same_in.false))
+          (λ w. any_kept_no (of_t c.args.table) [] c.args.rows.now c.args.n l.j c.requires.i_lt_n.1 (test) g (sym c.is_of.ensures ∙ w.if-is_of.false))
           c.if-is_of.branch-raw,
     )
 

@@ -40,7 +40,7 @@ pub overflow_add-k : goal.overflow_add-k
 overflow_add-k c =
     let turn : ℕ = c.loop-k.k in
     let within : turn < length c.args.index.now = c.loop-k-test.true in
-    omega (arith, within, c.before.before.before.before.before.before.before.good)
+    omega (arith, within, c.well_formed)
 
 pub loop-k-smaller : goal.loop-k-smaller
 loop-k-smaller c =

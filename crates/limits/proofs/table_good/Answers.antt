@@ -15,6 +15,12 @@ use Rattle.limits.proofs.Tables.{mine, few_enough, good_over, good_none, good_fi
 use borrow.Author.Rules.{rules}
 use Rattle.limits.proofs.table_good.Goals as goal
 
+positive : (a b : ℕ) → a ≡ b → (a ≡ 0 → ⊥) → 0 < b
+positive a b e f = omega arith
+
+above : (a b : ℕ) → a ≡ b → (a ≡ 0 → ⊥) → (a ≡ 1 → ⊥) → 1 < b
+above a b e f g = omega arith
+
 pub bounds-schema-wide : goal.bounds-schema-wide
 bounds-schema-wide c =
     omega (arith, c.wide.ensures, c.requires.table_in_bounds, tables_length c.args.schema.now 0 (table_count c.args.schema.now), few_tables c.args.schema.now c.requires.accepted)
@@ -33,17 +39,26 @@ returns-then-count-eq0 c =
     let same : cell ≡ cell_at c.args.schema.now c.args.table = ap (λ (n : ℕ). get_or c.args.schema.now (1 + n) []) c.wide.ensures in
     let over : few_enough c.args.schema.now c.args.table c.args.n c.args.rows.now ≡ c.within.result = sym (c.within.ensures ∙ ap (λ (k : ℕ). not_over (max_rows_from cell) k) c.rows_of.ensures
     ∙ ap (λ (x : List ℕ). not_over (max_rows_from x) (length (mine c.args.schema.now c.args.table c.args.n c.args.rows.now))) same) in
-    let schema : List (List ℕ) = (start c⟪After-within⟫).args.schema.now in
-    let table : ℕ = (start c⟪After-within⟫).args.table in
+    let schema : List (List ℕ) = c.args.schema.now in
+    let table : ℕ = c.args.table in
     let entry : List ℕ = cell_at schema table in
-    let few : few_enough schema table (start c⟪After-within⟫).args.n (start c⟪After-within⟫).args.rows.now ≡ true = over ∙ c.if-not-within.false in
+    let few : few_enough schema table c.args.n c.args.rows.now ≡ true = over ∙ c.if-not-within.false in
     let number : c.index_count-count.result ≡ get_or entry indexes_offset 0 = c.index_count-count.ensures ∙ ap (λ (x : List ℕ). get_or x indexes_offset 0) (same) in
     sym (good_none c.args.schema.now c.args.table c.args.n c.args.rows.now (few) (sym (number) ∙ c.if-count-eq0.true))
 
 pub unique-requires : goal.unique-requires
 unique-requires c =
-    let first_is : c.first_index.result.now ≡ index_from (entry c⟪After-index_count⟫) first_index_offset = c.first_index.ensures ∙ ap (λ (x : List ℕ). index_from x first_index_offset) (same (at c⟪After-index_count⟫)) in
-    record { index_fits = rw (first_is) (first_fits c⟪After-index_count⟫ c.if-count-eq0.false).0; n_in_bounds = c.requires.n_in_bounds }
+    let cell : List ℕ = get_or c.args.schema.now (1 + c.wide.result) [] in
+    let same : cell ≡ cell_at c.args.schema.now c.args.table = ap (λ (n : ℕ). get_or c.args.schema.now (1 + n) []) c.wide.ensures in
+    let one : c.args.table < table_count c.args.schema.now = omega (arith, c.requires.table_in_bounds, tables_length c.args.schema.now 0 (table_count c.args.schema.now)) in
+    let schema : List (List ℕ) = c.args.schema.now in
+    let table : ℕ = c.args.table in
+    let entry : List ℕ = cell_at schema table in
+    let number : c.index_count-count.result ≡ get_or entry indexes_offset 0 = c.index_count-count.ensures ∙ ap (λ (x : List ℕ). get_or x indexes_offset 0) (same) in
+    let some : (c.index_count-count.result ≡ 0 → ⊥) → 0 < get_or entry indexes_offset 0 = λ n0. positive c.index_count-count.result (get_or entry indexes_offset 0) number n0 in
+    let first_fits : (c.index_count-count.result ≡ 0 → ⊥) → IndexFits (index_from entry first_index_offset) × Below (width_at schema table) (index_from entry first_index_offset) = λ n0. fits_first schema c.requires.accepted table (one) (some n0) in
+    let first_is : c.first_index.result.now ≡ index_from (entry) first_index_offset = c.first_index.ensures ∙ ap (λ (x : List ℕ). index_from x first_index_offset) (same) in
+    record { index_fits = rw (first_is) (first_fits c.if-count-eq0.false).0; n_in_bounds = c.requires.n_in_bounds }
 
 pub returns-then-not-unique : goal.returns-then-not-unique
 returns-then-not-unique c =
@@ -52,31 +67,17 @@ returns-then-not-unique c =
     let one : c.args.table < table_count c.args.schema.now = omega (arith, c.requires.table_in_bounds, tables_length c.args.schema.now 0 (table_count c.args.schema.now)) in
     let over : few_enough c.args.schema.now c.args.table c.args.n c.args.rows.now ≡ c.within.result = sym (c.within.ensures ∙ ap (λ (k : ℕ). not_over (max_rows_from cell) k) c.rows_of.ensures
     ∙ ap (λ (x : List ℕ). not_over (max_rows_from x) (length (mine c.args.schema.now c.args.table c.args.n c.args.rows.now))) same) in
-    let schema : List (List ℕ) = (start c⟪After-within⟫).args.schema.now in
-    let table : ℕ = (start c⟪After-within⟫).args.table in
+    let schema : List (List ℕ) = c.args.schema.now in
+    let table : ℕ = c.args.table in
     let entry : List ℕ = cell_at schema table in
-    let few : few_enough schema table (start c⟪After-within⟫).args.n (start c⟪After-within⟫).args.rows.now ≡ true = over ∙ c.if-not-within.false in
+    let few : few_enough schema table c.args.n c.args.rows.now ≡ true = over ∙ c.if-not-within.false in
     let number : c.index_count-count.result ≡ get_or entry indexes_offset 0 = c.index_count-count.ensures ∙ ap (λ (x : List ℕ). get_or x indexes_offset 0) (same) in
-    let differ : List ℕ → Bool = λ index. unique_cells index (mine schema table (start c⟪After-within⟫).args.n (start c⟪After-within⟫).args.rows.now)
-module _ (n0 : c.index_count-count.result ≡ 0 → ⊥) where
-  some : 0 < get_or entry indexes_offset 0
-  some = positive c.index_count-count.result (get_or entry indexes_offset 0) number n0
-    where
-      positive : (a b : ℕ) → a ≡ b → (a ≡ 0 → ⊥) → 0 < b
-      positive a b e f = omega arith
-  first_fits : IndexFits (index_from entry first_index_offset) × Below (width_at schema table) (index_from entry first_index_offset)
-  first_fits = fits_first schema (start c⟪After-within⟫).pre.0 table (one) some
-  module _ (n1 : c.index_count-count.result ≡ 1 → ⊥) where
-    more : 1 < get_or entry indexes_offset 0
-    more = above c.index_count-count.result (get_or entry indexes_offset 0) number n0 n1
-      where
-        above : (a b : ℕ) → a ≡ b → (a ≡ 0 → ⊥) → (a ≡ 1 → ⊥) → 1 < b
-        above a b e f g = omega arith
-    second_fits : IndexFits (index_from entry second_index_offset) × Below (width_at schema table) (index_from entry second_index_offset)
-    second_fits = fits_second schema (start c⟪After-within⟫).pre.0 table (one) more in
-    let first_is : c.first_index.result.now ≡ index_from (entry c⟪After-index_count⟫) first_index_offset = c.first_index.ensures ∙ ap (λ (x : List ℕ). index_from x first_index_offset) (same (at c⟪After-index_count⟫)) in
+    let differ : List ℕ → Bool = λ index. unique_cells index (mine schema table c.args.n c.args.rows.now) in
+    let some : (c.index_count-count.result ≡ 0 → ⊥) → 0 < get_or entry indexes_offset 0 = λ n0. positive c.index_count-count.result (get_or entry indexes_offset 0) number n0 in
+    let first_fits : (c.index_count-count.result ≡ 0 → ⊥) → IndexFits (index_from entry first_index_offset) × Below (width_at schema table) (index_from entry first_index_offset) = λ n0. fits_first schema c.requires.accepted table (one) (some n0) in
+    let first_is : c.first_index.result.now ≡ index_from (entry) first_index_offset = c.first_index.ensures ∙ ap (λ (x : List ℕ). index_from x first_index_offset) (same) in
     let n0 = c.if-count-eq0.false in
-    sym (good_first_no c.args.schema.now c.args.table c.args.n c.args.rows.now (few) (first_fits c⟪After-index_count⟫ n0).1 (some c⟪After-index_count⟫ n0) (ap (differ) (sym (first_is)) ∙ sym c.unique.ensures ∙ c.if-not-unique.true))
+    sym (good_first_no c.args.schema.now c.args.table c.args.n c.args.rows.now (few) (first_fits n0).1 (some n0) (ap (differ) (sym (first_is)) ∙ sym c.unique.ensures ∙ c.if-not-unique.true))
 
 pub returns-then-count-eq1 : goal.returns-then-count-eq1
 returns-then-count-eq1 c =
@@ -85,36 +86,31 @@ returns-then-count-eq1 c =
     let one : c.args.table < table_count c.args.schema.now = omega (arith, c.requires.table_in_bounds, tables_length c.args.schema.now 0 (table_count c.args.schema.now)) in
     let over : few_enough c.args.schema.now c.args.table c.args.n c.args.rows.now ≡ c.within.result = sym (c.within.ensures ∙ ap (λ (k : ℕ). not_over (max_rows_from cell) k) c.rows_of.ensures
     ∙ ap (λ (x : List ℕ). not_over (max_rows_from x) (length (mine c.args.schema.now c.args.table c.args.n c.args.rows.now))) same) in
-    let schema : List (List ℕ) = (start c⟪After-within⟫).args.schema.now in
-    let table : ℕ = (start c⟪After-within⟫).args.table in
+    let schema : List (List ℕ) = c.args.schema.now in
+    let table : ℕ = c.args.table in
     let entry : List ℕ = cell_at schema table in
-    let few : few_enough schema table (start c⟪After-within⟫).args.n (start c⟪After-within⟫).args.rows.now ≡ true = over ∙ c.if-not-within.false in
+    let few : few_enough schema table c.args.n c.args.rows.now ≡ true = over ∙ c.if-not-within.false in
     let number : c.index_count-count.result ≡ get_or entry indexes_offset 0 = c.index_count-count.ensures ∙ ap (λ (x : List ℕ). get_or x indexes_offset 0) (same) in
-    let differ : List ℕ → Bool = λ index. unique_cells index (mine schema table (start c⟪After-within⟫).args.n (start c⟪After-within⟫).args.rows.now)
-module _ (n0 : c.index_count-count.result ≡ 0 → ⊥) where
-  some : 0 < get_or entry indexes_offset 0
-  some = positive c.index_count-count.result (get_or entry indexes_offset 0) number n0
-    where
-      positive : (a b : ℕ) → a ≡ b → (a ≡ 0 → ⊥) → 0 < b
-      positive a b e f = omega arith
-  first_fits : IndexFits (index_from entry first_index_offset) × Below (width_at schema table) (index_from entry first_index_offset)
-  first_fits = fits_first schema (start c⟪After-within⟫).pre.0 table (one) some
-  module _ (n1 : c.index_count-count.result ≡ 1 → ⊥) where
-    more : 1 < get_or entry indexes_offset 0
-    more = above c.index_count-count.result (get_or entry indexes_offset 0) number n0 n1
-      where
-        above : (a b : ℕ) → a ≡ b → (a ≡ 0 → ⊥) → (a ≡ 1 → ⊥) → 1 < b
-        above a b e f g = omega arith
-    second_fits : IndexFits (index_from entry second_index_offset) × Below (width_at schema table) (index_from entry second_index_offset)
-    second_fits = fits_second schema (start c⟪After-within⟫).pre.0 table (one) more in
-    let first_is : c.first_index.result.now ≡ index_from (entry c⟪After-index_count⟫) first_index_offset = c.first_index.ensures ∙ ap (λ (x : List ℕ). index_from x first_index_offset) (same (at c⟪After-index_count⟫)) in
+    let differ : List ℕ → Bool = λ index. unique_cells index (mine schema table c.args.n c.args.rows.now) in
+    let some : (c.index_count-count.result ≡ 0 → ⊥) → 0 < get_or entry indexes_offset 0 = λ n0. positive c.index_count-count.result (get_or entry indexes_offset 0) number n0 in
+    let first_fits : (c.index_count-count.result ≡ 0 → ⊥) → IndexFits (index_from entry first_index_offset) × Below (width_at schema table) (index_from entry first_index_offset) = λ n0. fits_first schema c.requires.accepted table (one) (some n0) in
+    let first_is : c.first_index.result.now ≡ index_from (entry) first_index_offset = c.first_index.ensures ∙ ap (λ (x : List ℕ). index_from x first_index_offset) (same) in
     let n0 = c.if-count-eq0.false in
-    sym (good_one c.args.schema.now c.args.table c.args.n c.args.rows.now (few) (first_fits c⟪After-index_count⟫ n0).1 (sym (number) ∙ c.if-count-eq1.true) (ap (differ) (sym (first_is)) ∙ sym c.unique.ensures ∙ c.if-not-unique.false))
+    sym (good_one c.args.schema.now c.args.table c.args.n c.args.rows.now (few) (first_fits n0).1 (sym (number) ∙ c.if-count-eq1.true) (ap (differ) (sym (first_is)) ∙ sym c.unique.ensures ∙ c.if-not-unique.false))
 
 pub unique-requires-2 : goal.unique-requires-2
 unique-requires-2 c =
-    let second_is : c.second_index.result.now ≡ index_from (entry (counted c⟪After-first_index⟫)) second_index_offset = c.second_index.ensures ∙ ap (λ (x : List ℕ). index_from x second_index_offset) (same (at (counted c⟪After-first_index⟫))) in
-    record { index_fits = rw (second_is) (second_fits c⟪After-index_count⟫ c.if-count-eq0.false c.if-count-eq1.false).0; n_in_bounds = c.requires.n_in_bounds }
+    let cell : List ℕ = get_or c.args.schema.now (1 + c.wide.result) [] in
+    let same : cell ≡ cell_at c.args.schema.now c.args.table = ap (λ (n : ℕ). get_or c.args.schema.now (1 + n) []) c.wide.ensures in
+    let one : c.args.table < table_count c.args.schema.now = omega (arith, c.requires.table_in_bounds, tables_length c.args.schema.now 0 (table_count c.args.schema.now)) in
+    let schema : List (List ℕ) = c.args.schema.now in
+    let table : ℕ = c.args.table in
+    let entry : List ℕ = cell_at schema table in
+    let number : c.index_count-count.result ≡ get_or entry indexes_offset 0 = c.index_count-count.ensures ∙ ap (λ (x : List ℕ). get_or x indexes_offset 0) (same) in
+    let more : (c.index_count-count.result ≡ 0 → ⊥) → (c.index_count-count.result ≡ 1 → ⊥) → 1 < get_or entry indexes_offset 0 = λ n0 n1. above c.index_count-count.result (get_or entry indexes_offset 0) number n0 n1 in
+    let second_fits : (c.index_count-count.result ≡ 0 → ⊥) → (c.index_count-count.result ≡ 1 → ⊥) → IndexFits (index_from entry second_index_offset) × Below (width_at schema table) (index_from entry second_index_offset) = λ n0 n1. fits_second schema c.requires.accepted table (one) (more n0 n1) in
+    let second_is : c.second_index.result.now ≡ index_from (entry) second_index_offset = c.second_index.ensures ∙ ap (λ (x : List ℕ). index_from x second_index_offset) (same) in
+    record { index_fits = rw (second_is) (second_fits c.if-count-eq0.false c.if-count-eq1.false).0; n_in_bounds = c.requires.n_in_bounds }
 
 pub returns : goal.returns
 returns c =
@@ -123,32 +119,20 @@ returns c =
     let one : c.args.table < table_count c.args.schema.now = omega (arith, c.requires.table_in_bounds, tables_length c.args.schema.now 0 (table_count c.args.schema.now)) in
     let over : few_enough c.args.schema.now c.args.table c.args.n c.args.rows.now ≡ c.within.result = sym (c.within.ensures ∙ ap (λ (k : ℕ). not_over (max_rows_from cell) k) c.rows_of.ensures
     ∙ ap (λ (x : List ℕ). not_over (max_rows_from x) (length (mine c.args.schema.now c.args.table c.args.n c.args.rows.now))) same) in
-    let schema : List (List ℕ) = (start c⟪After-within⟫).args.schema.now in
-    let table : ℕ = (start c⟪After-within⟫).args.table in
+    let schema : List (List ℕ) = c.args.schema.now in
+    let table : ℕ = c.args.table in
     let entry : List ℕ = cell_at schema table in
-    let few : few_enough schema table (start c⟪After-within⟫).args.n (start c⟪After-within⟫).args.rows.now ≡ true = over ∙ c.if-not-within.false in
+    let few : few_enough schema table c.args.n c.args.rows.now ≡ true = over ∙ c.if-not-within.false in
     let number : c.index_count-count.result ≡ get_or entry indexes_offset 0 = c.index_count-count.ensures ∙ ap (λ (x : List ℕ). get_or x indexes_offset 0) (same) in
-    let differ : List ℕ → Bool = λ index. unique_cells index (mine schema table (start c⟪After-within⟫).args.n (start c⟪After-within⟫).args.rows.now)
-module _ (n0 : c.index_count-count.result ≡ 0 → ⊥) where
-  some : 0 < get_or entry indexes_offset 0
-  some = positive c.index_count-count.result (get_or entry indexes_offset 0) number n0
-    where
-      positive : (a b : ℕ) → a ≡ b → (a ≡ 0 → ⊥) → 0 < b
-      positive a b e f = omega arith
-  first_fits : IndexFits (index_from entry first_index_offset) × Below (width_at schema table) (index_from entry first_index_offset)
-  first_fits = fits_first schema (start c⟪After-within⟫).pre.0 table (one) some
-  module _ (n1 : c.index_count-count.result ≡ 1 → ⊥) where
-    more : 1 < get_or entry indexes_offset 0
-    more = above c.index_count-count.result (get_or entry indexes_offset 0) number n0 n1
-      where
-        above : (a b : ℕ) → a ≡ b → (a ≡ 0 → ⊥) → (a ≡ 1 → ⊥) → 1 < b
-        above a b e f g = omega arith
-    second_fits : IndexFits (index_from entry second_index_offset) × Below (width_at schema table) (index_from entry second_index_offset)
-    second_fits = fits_second schema (start c⟪After-within⟫).pre.0 table (one) more in
-    let first_is : c.first_index.result.now ≡ index_from (entry c⟪After-index_count⟫) first_index_offset = c.first_index.ensures ∙ ap (λ (x : List ℕ). index_from x first_index_offset) (same (at c⟪After-index_count⟫)) in
-    let second_is : c.second_index.result.now ≡ index_from (entry (counted c⟪After-first_index⟫)) second_index_offset = c.second_index.ensures ∙ ap (λ (x : List ℕ). index_from x second_index_offset) (same (at (counted c⟪After-first_index⟫))) in
+    let differ : List ℕ → Bool = λ index. unique_cells index (mine schema table c.args.n c.args.rows.now) in
+    let some : (c.index_count-count.result ≡ 0 → ⊥) → 0 < get_or entry indexes_offset 0 = λ n0. positive c.index_count-count.result (get_or entry indexes_offset 0) number n0 in
+    let first_fits : (c.index_count-count.result ≡ 0 → ⊥) → IndexFits (index_from entry first_index_offset) × Below (width_at schema table) (index_from entry first_index_offset) = λ n0. fits_first schema c.requires.accepted table (one) (some n0) in
+    let more : (c.index_count-count.result ≡ 0 → ⊥) → (c.index_count-count.result ≡ 1 → ⊥) → 1 < get_or entry indexes_offset 0 = λ n0 n1. above c.index_count-count.result (get_or entry indexes_offset 0) number n0 n1 in
+    let second_fits : (c.index_count-count.result ≡ 0 → ⊥) → (c.index_count-count.result ≡ 1 → ⊥) → IndexFits (index_from entry second_index_offset) × Below (width_at schema table) (index_from entry second_index_offset) = λ n0 n1. fits_second schema c.requires.accepted table (one) (more n0 n1) in
+    let first_is : c.first_index.result.now ≡ index_from (entry) first_index_offset = c.first_index.ensures ∙ ap (λ (x : List ℕ). index_from x first_index_offset) (same) in
+    let second_is : c.second_index.result.now ≡ index_from (entry) second_index_offset = c.second_index.ensures ∙ ap (λ (x : List ℕ). index_from x second_index_offset) (same) in
     let n0 = c.if-count-eq0.false in
     let n1 = c.if-count-eq1.false in
     c.unique-2.ensures ∙ ap (differ) (second_is)
-    ∙ sym (good_two c.args.schema.now c.args.table c.args.n c.args.rows.now (few) (first_fits c⟪After-index_count⟫ n0).1 (second_fits c⟪After-index_count⟫ n0 n1).1 (more c⟪After-index_count⟫ n0 n1)
+    ∙ sym (good_two c.args.schema.now c.args.table c.args.n c.args.rows.now (few) (first_fits n0).1 (second_fits n0 n1).1 (more n0 n1)
     (ap (differ) (sym (first_is)) ∙ sym c.unique.ensures ∙ c.if-not-unique.false))

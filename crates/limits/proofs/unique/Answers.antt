@@ -46,7 +46,7 @@ loop-i-preserved c =
       l.invariant.1 ∙ ⊎_elim
           (λ w. ap (unique_cells index) (keep_yes (of_t c.args.table) [] c.args.rows.now c.args.n l.i c.requires.n_in_bounds g (sym c.is_of.ensures ∙ w.if-is_of.true))
           ∙ unique_on index (get_or c.args.rows.now l.i []) (keep (of_t c.args.table) (drop (l.i + 1) (take c.args.n c.args.rows.now))) (sym w.again.ensures ∙ w.if-again.false))
-          (λ w. ap (unique_cells index) (keep_no (of_t c.args.table) [] c.args.rows.now c.args.n l.i c.requires.n_in_bounds g (sym c.is_of.ensures ∙ w.left)))
+          (λ w. ap (unique_cells index) (keep_no (of_t c.args.table) [] c.args.rows.now c.args.n l.i c.requires.n_in_bounds g (sym c.is_of.ensures ∙ w.if-is_of.false)))
           c.if-is_of.branch-raw,
     )
 

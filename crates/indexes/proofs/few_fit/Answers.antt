@@ -1,0 +1,53 @@
+-- `indexes::few_fit` meets its contract.
+use Rattle.indexes.proofs.Judged.{Passed, passed_start, passed_end, passed_more, passed_bad, passed_on, few_many, few_bad, few_end}
+use Rattle.nav.proofs.Walk.{walk_less, walk_fine}
+use Rattle.model.specs.SchemaText.{index_fits}
+use Rattle.model.specs.Members.{members_in}
+use Rattle.model.specs.Json.{Json, Named}
+use Rattle.inner.specs.Positions.{tree_at, left}
+use Rattle.model.specs.Nav.{items_in}
+use mathlib.Core.Path.{sym, refl, ◌∙◌}
+use mathlib.Core.List.{List}
+use Prim.Native.Nat.{◌≤◌}
+use native.Mathlib.Omega.{arith}
+use borrow.Author.Rules.{rules}
+use Rattle.indexes.proofs.few_fit.Goals as goal
+
+pub loop-g-init : goal.loop-g-init
+loop-g-init c = (omega arith, passed_start c.args.at c.requires.at_value c.first-g.ensures)
+
+pub returns-then-n-ge-INDEXES : goal.returns-then-n-ge-INDEXES
+returns-then-n-ge-INDEXES c =
+    let columns : List Named = members_in (tree_at c.args.text.now c.args.columns) in
+    let tree : Json = tree_at c.args.text.now c.args.at in
+    few_many (columns) (tree) (omega (arith, passed_more c.loop-g.invariant.1 c.in-At.is, c.if-n-ge-INDEXES.true))
+
+pub index_fits-ok-requires : goal.index_fits-ok-requires
+index_fits-ok-requires c =
+    (c.requires.says, ((walk_fine c.args.text.now c.in-At.is c.loop-g.invariant.1.fine).0, l.before.before.before.before.requires.1.1))
+
+pub overflow_add-n : goal.overflow_add-n
+overflow_add-n c = omega (arith, c.if-n-ge-INDEXES.false)
+
+pub next_item-g-requires : goal.next_item-g-requires
+next_item-g-requires c = c.requires.says
+
+pub loop-g-smaller : goal.loop-g-smaller
+loop-g-smaller c =
+    rw c.next_item-g.ensures (walk_less c.args.text.now c.in-At.is)
+
+pub loop-g-preserved : goal.loop-g-preserved
+loop-g-preserved c =
+    (omega (arith, c.if-n-ge-INDEXES.false), passed_on c.loop-g.invariant.1 c.in-At.is (sym c.index_fits-ok.ensures ∙ c.if-ok.true) refl c.next_item-g.ensures)
+
+pub returns-else-ok : goal.returns-else-ok
+returns-else-ok c =
+    let columns : List Named = members_in (tree_at c.args.text.now c.args.columns) in
+    let tree : Json = tree_at c.args.text.now c.args.at in
+    few_bad (columns) (tree) (passed_bad c.loop-g.invariant.1 c.in-At.is (sym c.index_fits-ok.ensures ∙ c.if-ok.false))
+
+pub returns-in-Nothing : goal.returns-in-Nothing
+returns-in-Nothing c =
+    let columns : List Named = members_in (tree_at c.args.text.now c.args.columns) in
+    let tree : Json = tree_at c.args.text.now c.args.at in
+    few_end (columns) (tree) c.loop-g.invariant.0 (passed_end c.loop-g.invariant.1 c.in-Nothing.is)

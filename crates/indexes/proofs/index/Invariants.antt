@@ -1,0 +1,15 @@
+-- The loop of `indexes::index`.
+use Rattle.indexes.proofs.Numbers.{Filled, filled_start, filled_end, filled_more, filled_short, filled_on}
+use Rattle.nav.proofs.Walk.{walk_less}
+use Rattle.model.specs.Catalog.{entry_name}
+use Rattle.inner.specs.Positions.{tree_at, left}
+use mathlib.Core.List.{map}
+use native.Mathlib.Omega.{arith}
+use borrow.Author.Rules.{rules}
+use Rattle.indexes.proofs.index.Given as goal
+
+abbrev pub invariant-loop-g : goal.invariant-loop-g
+invariant-loop-g l = Filled l.text (map entry_name l.columns) (tree_at l.text l.at) l.q l.n l.g
+
+abbrev pub decreases-loop-g : goal.decreases-loop-g
+decreases-loop-g l = left l.text l.g
