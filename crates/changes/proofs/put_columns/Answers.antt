@@ -50,11 +50,11 @@ loop-c-preserved c =
     ⊎_elim
     (λ w. (
       omega (arith, c.loop-c-test.true),
-      rw (w.records-is, w.to-is) (along_is (along_next (along_is l.invariant.1 (columns_other (skips (is_nothing c.args.old)) S (old_cells c.args.area.now c.args.old c.args.row.now) c.args.row.now (table_in c.args.row.now) (id_in c.args.row.now) l.c g h (sym c.is_left.ensures ∙ not-true _ w.if-not-is_left.true)) (128 * l.c) (omega arith)) w.put_column-past.ensures w.put_column-past.kept.1.1.1.1.0) refl (128 * (l.c + 1)) (omega arith)),
+      rw (w.records-is, w.to-is) (along_is (along_next (along_is l.invariant.1 (columns_other (skips (is_nothing c.args.old)) S (old_cells c.args.area.now c.args.old c.args.row.now) c.args.row.now (table_in c.args.row.now) (id_in c.args.row.now) l.c g h (sym c.is_left.ensures ∙ w.if-not-is_left.true)) (128 * l.c) (omega arith)) w.put_column-past.ensures w.put_column-past.auto.records) refl (128 * (l.c + 1)) (omega arith)),
     ))
     (λ w. (
       omega (arith, c.loop-c-test.true),
-      rw (w.VAR0-is, w.VAR1-is) (along_is l.invariant.1 (columns_like (skips (is_nothing c.args.old)) S (old_cells c.args.area.now c.args.old c.args.row.now) c.args.row.now (table_in c.args.row.now) (id_in c.args.row.now) l.c g h (sym c.is_left.ensures ∙ not-false _ w.if-not-is_left.false)) (128 * (l.c + 1)) (omega arith)),
+      rw (w.records-is, w.to-is) (along_is l.invariant.1 (columns_like (skips (is_nothing c.args.old)) S (old_cells c.args.area.now c.args.old c.args.row.now) c.args.row.now (table_in c.args.row.now) (id_in c.args.row.now) l.c g h (sym c.is_left.ensures ∙ w.if-not-is_left.false)) (128 * (l.c + 1)) (omega arith)),
     ))
     c.if-not-is_left.branch-raw
 

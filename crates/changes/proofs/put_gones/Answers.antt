@@ -63,10 +63,10 @@ loop-i-preserved c =
     (λ w. (
       omega (arith, c.loop-i-test.true),
       λ sc. rw (w.records-is, w.to-is) (along_is (along_next
-          (along_is (l.invariant.1 sc) (gones_other sc (working sc a.n a.after.now) cells a.m size l.i c.loop-i-test.true (ap (λ (x : ℕ). has x (working sc a.n a.after.now)) there ∙ sym (c.has_key.ensures sc) ∙ not-true _ w.if-not-has_key.true)) (26 * l.i) (omega arith))
-          (recorded_is w.put_gone-past.ensures (λ j. gone ((key_table c.key_at-key.ensures ∙ sym (ap table_in row)) j) ((key_id c.key_at-key.ensures ∙ sym (ap id_in row)) j) ∷ []) 26 (omega arith)) w.put_gone-past.kept.1.1.1.1.0) refl (26 * (l.i + 1)) (omega arith)),
+          (along_is (l.invariant.1 sc) (gones_other sc (working sc a.n a.after.now) cells a.m size l.i c.loop-i-test.true (ap (λ (x : ℕ). has x (working sc a.n a.after.now)) there ∙ sym (c.has_key.ensures sc) ∙ w.if-not-has_key.true)) (26 * l.i) (omega arith))
+          (recorded_is w.put_gone-past.ensures (λ j. gone ((key_table c.key_at-key.ensures ∙ sym (ap table_in row)) j) ((key_id c.key_at-key.ensures ∙ sym (ap id_in row)) j) ∷ []) 26 (omega arith)) w.put_gone-past.auto.records) refl (26 * (l.i + 1)) (omega arith)),
     ))
-    (λ w. (omega (arith, c.loop-i-test.true), λ sc. rw (w.VAR0-is, w.VAR1-is) (along_is (l.invariant.1 sc) (gones_like sc (working sc a.n a.after.now) cells a.m size l.i c.loop-i-test.true (ap (λ (x : ℕ). has x (working sc a.n a.after.now)) there ∙ sym (c.has_key.ensures sc) ∙ not-false _ w.if-not-has_key.false)) (26 * (l.i + 1)) (omega arith))))
+    (λ w. (omega (arith, c.loop-i-test.true), λ sc. rw (w.records-is, w.to-is) (along_is (l.invariant.1 sc) (gones_like sc (working sc a.n a.after.now) cells a.m size l.i c.loop-i-test.true (ap (λ (x : ℕ). has x (working sc a.n a.after.now)) there ∙ sym (c.has_key.ensures sc) ∙ w.if-not-has_key.false)) (26 * (l.i + 1)) (omega arith))))
     c.if-not-has_key.branch-raw
 
 pub shape_of-records : goal.shape_of-records

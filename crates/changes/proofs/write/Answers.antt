@@ -35,8 +35,8 @@ returns-then-to-eq0 c =
     let after : List Row = working schema c.args.n c.args.after.now in
     let changed : List Change = gones after before ++ walk schema before after in
     let most : ℕ = 26 * c.args.m + row_most * c.args.n in
-    let whole : Recorded c.args.run c.args.number changed most (record { count = 0; at = 0 }) c.clear.last.0 c.put_rows-to.result c.put_rows-to.last.1.1.1.1.1.1.1.0 = recorded_then (c.put_gones-to.ensures schema) c.put_rows-to.ensures in
-    let cleared : c.clear.last.0 ≡ replicate (length c.args.records.now) 0 = c.clear.ensures in
+    let whole : Recorded c.args.run c.args.number changed most (record { count = 0; at = 0 }) c.clear.new.b c.put_rows-to.result c.put_rows-to.new.records = recorded_then (c.put_gones-to.ensures schema) c.put_rows-to.ensures in
+    let cleared : c.clear.new.b ≡ replicate (length c.args.records.now) 0 = c.clear.ensures in
     let none : length (changed) ≡ 0 = sym (finished_count (whole)) ∙ c.if-to-eq0.true in
     let p = recorded_is (whole) (closed_none (changed) none) (most) (omega arith) in
     record { value = sym c.if-to-eq0.true ∙ finished_count p; records_after = finished_bytes p (length c.args.records.now) (cleared) }
@@ -56,7 +56,7 @@ returns c =
     let after : List Row = working schema c.args.n c.args.after.now in
     let changed : List Change = gones after before ++ walk schema before after in
     let most : ℕ = 26 * c.args.m + row_most * c.args.n in
-    let whole : Recorded c.args.run c.args.number changed most (record { count = 0; at = 0 }) c.clear.last.0 c.put_rows-to.result c.put_rows-to.last.1.1.1.1.1.1.1.0 = recorded_then (c.put_gones-to.ensures schema) c.put_rows-to.ensures in
-    let cleared : c.clear.last.0 ≡ replicate (length c.args.records.now) 0 = c.clear.ensures in
+    let whole : Recorded c.args.run c.args.number changed most (record { count = 0; at = 0 }) c.clear.new.b c.put_rows-to.result c.put_rows-to.new.records = recorded_then (c.put_gones-to.ensures schema) c.put_rows-to.ensures in
+    let cleared : c.clear.new.b ≡ replicate (length c.args.records.now) 0 = c.clear.ensures in
     let p = recorded_is (recorded_then (whole) c.put_end-to.ensures) (closed_some (changed) (λ h. c.if-to-eq0.false (finished_count (whole) ∙ h))) (most + 9) (omega arith) in
     record { value = finished_count p; records_after = finished_bytes p (length c.args.records.now) (cleared) }

@@ -23,8 +23,7 @@ returns-then-n-ge-INDEXES c =
     few_many (columns) (tree) (omega (arith, passed_more c.loop-g.invariant.1 c.in-At.is, c.if-n-ge-INDEXES.true))
 
 pub index_fits-ok-requires : goal.index_fits-ok-requires
-index_fits-ok-requires c =
-    (c.requires.says, ((walk_fine c.args.text.now c.in-At.is c.loop-g.invariant.1.fine).0, l.before.before.before.before.requires.1.1))
+index_fits-ok-requires c = record { says = c.requires.says; at_value = (walk_fine c.args.text.now c.in-At.is c.loop-g.invariant.1.fine).0; columns_value = c.requires.columns_value; columns_value_2 = c.requires.columns_value_2 }
 
 pub overflow_add-n : goal.overflow_add-n
 overflow_add-n c = omega (arith, c.if-n-ge-INDEXES.false)

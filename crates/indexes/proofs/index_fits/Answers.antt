@@ -23,7 +23,7 @@ returns-then-n-ge-INDEX_COLUMNS c =
     index_many (columns) (tree) (omega (arith, passed_more c.loop-g.invariant.1 c.in-At.is, c.if-n-ge-INDEX_COLUMNS.true))
 
 pub is_indexed-ok-requires : goal.is_indexed-ok-requires
-is_indexed-ok-requires c = (c.requires.says, s.pre.1.1)
+is_indexed-ok-requires c = record { says = c.requires.says; columns_value = c.requires.columns_value; columns_value_2 = c.requires.columns_value_2 }
 
 pub overflow_add-n : goal.overflow_add-n
 overflow_add-n c = omega (arith, c.if-n-ge-INDEX_COLUMNS.false)

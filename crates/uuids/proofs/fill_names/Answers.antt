@@ -12,7 +12,7 @@ use Rattle.uuids.proofs.fill_names.Goals as goal
 
 pub put_bytes-requires : goal.put_bytes-requires
 put_bytes-requires c =
-    omega (arith, c.clear.auto.b, st.requires.1.1.1.1)
+    omega (arith, c.clear.auto.b, c.requires.fresh_len, c.requires.names_len)
 
 pub loop-g-init : goal.loop-g-init
 loop-g-init c =
