@@ -78,6 +78,17 @@ offset_bounds-names-left c =
     let room_left : c.forget-left.result < 6 = room c.if-left-most.false in
     omega (arith, room_left)
 
+pub bounds-names-left : goal.bounds-names-left
+bounds-names-left c =
+    let small : c.args.most ≤ 6 = c.requires.most_le_most_columns in
+    let s : List ℕ = c.args.text.now in
+    let p : ℕ = c.in-At.p in
+    let id_allowed : is_id (text_of (name_cell (tree_at s p))) ≡ c.is_id-id.result = sym (c.is_id-id.ensures ∙ ap is_id (c.text_of.ensures ∙ ap text_of c.name_at-name.ensures)) in
+    let id_there : is_id (text_of (name_cell (tree_at (s) (p)))) ≡ true = id_allowed ∙ c.if-id.true in
+    let room : (c.forget-left.result ≡ c.args.most → ⊥) → c.forget-left.result < 6 = in_six (small) c.loop-g.invariant c.in-At.is id_there c.name_at-name.ensures c.forget-left.ensures in
+    let room_left : c.forget-left.result < 6 = room c.if-left-most.false in
+    room_left
+
 pub overflow_add-n : goal.overflow_add-n
 overflow_add-n c =
     let small : c.args.most ≤ 6 = c.requires.most_le_most_columns in
