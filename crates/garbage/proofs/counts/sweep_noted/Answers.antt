@@ -123,14 +123,14 @@ loop-k-preserved c =
     let spot : ℕ = count_trailing_zeros 64 c.loop-k.pending in
     let l = c.loop-k in
     ⊎_elim
-    (λ w. rw (w.counts-is, w.pending-is) (
+    (λ w. rw (w.marks-is, w.counts-is) (
       length-set (marks) (spot) 0 ∙ l.invariant.0,
-      w.counts-1.kept.1.1.1.1.1.1.0 ∙ l.invariant.1,
+      w.count_row-z.auto.counts ∙ l.invariant.1,
       partly_on (schema) c.args.n c.args.rows.now c.requires.ordered.0 (marks) (counts) (spot)
           (next_here (schema) c.args.n c.args.rows.now (marks) (counts) (spot) c.may_go.result c.if-n-i.false c.may_go.ensures w.if-may_go.true)
-          w.counts-1.last.1.1.1.1.1.1.0 w.counts-1.ensures c.args.marks.now c.args.counts.now l.invariant.2,
+          w.count_row-z.new.counts w.count_row-z.ensures c.args.marks.now c.args.counts.now l.invariant.2,
     ))
-    (λ w. rw (w.VAR0-is, w.VAR1-is) (l.invariant.0, l.invariant.1, l.invariant.2))
+    (λ w. rw (w.marks-is, w.counts-is) (l.invariant.0, l.invariant.1, l.invariant.2))
     c.if-may_go.branch-raw
 
 pub shape_of-marks : goal.shape_of-marks

@@ -1,0 +1,7 @@
+-- `request_values::most` meets its contract.
+use mathlib.Core.Path.{◌∙◌}
+use borrow.Author.Rules.{rules}
+use Rattle.request_values.proofs.most.Goals as goal
+
+pub returns : goal.returns
+returns c = c.wide.ensures ∙ c.maximum.ensures
