@@ -24,7 +24,7 @@ offset_bounds-places-i c =
 
 pub bounds-places-i : goal.bounds-places-i
 bounds-places-i c =
-    let listed : c.loop-i.i - 1 < length c.args.places.now = here_fits c.args.text.now c.args.places.now c.args.heads.now c.args.cells.now c.requires.heads c.loop-i.invariant c.loop-i-test.taken in
+    let listed : c.loop-i.i - 1 < length c.args.places.now = here_fits c.args.text.now c.args.places.now c.args.heads.now c.args.cells.now c.requires.heads c.loop-i.invariant c.loop-i-test.true in
     listed
 
 pub member_value-v-requires : goal.member_value-v-requires
@@ -37,7 +37,7 @@ offset_bounds-heads-i c =
 
 pub bounds-heads-i : goal.bounds-heads-i
 bounds-heads-i c =
-    let headed : c.loop-i.i - 1 < length c.args.heads.now = here_few c.args.text.now c.args.places.now c.args.heads.now c.args.cells.now c.requires.heads c.loop-i.invariant c.loop-i-test.taken in
+    let headed : c.loop-i.i - 1 < length c.args.heads.now = here_few c.args.text.now c.args.places.now c.args.heads.now c.args.cells.now c.requires.heads c.loop-i.invariant c.loop-i-test.true in
     headed
 
 pub overflow_mul-first : goal.overflow_mul-first
@@ -103,26 +103,25 @@ loop-i-preserved c =
     let cells : List (List ℕ) = c.loop-i.cells in
     let first : ℕ = 5 + 6 * (c.loop-i.i - 1) in
     let ys : List (List ℕ) = c.read_table-r.new.columns in
-    let read : TableRead (map entry_name begun.args.heads.now) (entry_name (get_or begun.args.heads.now (c.loop-i.i - 1) [])) (tree_at begun.args.text.now c.member_value-v.result) c.read_table-r.result (drop first cells) ys = rw (mid_rest first cells) at c.read_table-r.ensures in
+    let read : TableRead (map entry_name c.args.heads.now) (entry_name (get_or c.args.heads.now (c.loop-i.i - 1) [])) (tree_at c.args.text.now c.member_value-v.result) c.read_table-r.result (drop first cells) ys = rw (mid_rest first cells) at c.read_table-r.ensures in
     let long : length (ys) ≡ length (drop (first) (cells)) = c.read_table-r.auto.columns ∙ ap length (mid_rest (first) (cells)) in
-    rw (put_rest (first) (cells) (ys)) (each_more c.args.text.now c.args.places.now c.args.heads.now c.args.cells.now c.requires.heads c.loop-i.invariant c.loop-i-test.taken c.member_value-v.ensures (read) long c.if-r.true)
+    rw (put_rest (first) (cells) (ys)) (each_more c.args.text.now c.args.places.now c.args.heads.now c.args.cells.now c.requires.heads c.loop-i.invariant c.loop-i-test.true c.member_value-v.ensures (read) long c.if-r.true)
 
 pub shape_of-cells-else-r : goal.shape_of-cells-else-r
 shape_of-cells-else-r c =
-    let begun : tie.Start invariant_loop decreases_loop = c⟪Start⟫ in
     let cells : List (List ℕ) = c.loop-i.cells in
     let first : ℕ = 5 + 6 * (c.loop-i.i - 1) in
     let ys : List (List ℕ) = c.read_table-r.new.columns in
     let size : length (put_mid first (length cells - first) cells ys) ≡ 29 = same_len_mid first (length cells - first) cells ys c.read_table-r.auto.columns ∙ c.loop-i.invariant.size in
-    size ∙ sym (begun).pre.1.1
+    size ∙ sym c.requires.cells_len
 
 pub returns-else-r : goal.returns-else-r
 returns-else-r c =
     let cells : List (List ℕ) = c.loop-i.cells in
     let first : ℕ = 5 + 6 * (c.loop-i.i - 1) in
     let ys : List (List ℕ) = c.read_table-r.new.columns in
-    let read : TableRead (map entry_name begun.args.heads.now) (entry_name (get_or begun.args.heads.now (c.loop-i.i - 1) [])) (tree_at begun.args.text.now c.member_value-v.result) c.read_table-r.result (drop first cells) ys = rw (mid_rest first cells) at c.read_table-r.ensures in
-    rw (put_rest (first) (cells) (ys)) (each_bad c.args.text.now c.args.places.now c.args.heads.now c.args.cells.now c.requires.heads c.loop-i.invariant c.loop-i-test.taken c.member_value-v.ensures (read) c.if-r.false)
+    let read : TableRead (map entry_name c.args.heads.now) (entry_name (get_or c.args.heads.now (c.loop-i.i - 1) [])) (tree_at c.args.text.now c.member_value-v.result) c.read_table-r.result (drop first cells) ys = rw (mid_rest first cells) at c.read_table-r.ensures in
+    rw (put_rest (first) (cells) (ys)) (each_bad c.args.text.now c.args.places.now c.args.heads.now c.args.cells.now c.requires.heads c.loop-i.invariant c.loop-i-test.true c.member_value-v.ensures (read) c.if-r.false)
 
 pub shape_of-cells : goal.shape_of-cells
 shape_of-cells c =

@@ -24,8 +24,7 @@ fields-f-requires c = record { says = c.requires.says; at_value = c.requires.at_
 pub columns_in-n-requires : goal.columns_in-n-requires
 unfolding words_of words_from
 columns_in-n-requires c =
-    let p = (c.requires.tables_value, (c.requires.tables_len_bound, c.requires.most_columns_in_bounds)) in
-    record { says = c.requires.says; p_value = c.fields-f.ensures.well 0 (omega arith); tables_value = p.0; tables_len_bound = p.1.0; most_columns_in_bounds = p.1.1 }
+    record { says = c.requires.says; p_value = c.fields-f.ensures.well 0 (omega arith); tables_value = c.requires.tables_value; tables_len_bound = c.requires.tables_len_bound; most_columns_in_bounds = c.requires.most_columns_in_bounds }
 
 pub returns-then-n-gt-COLUMNS : goal.returns-then-n-gt-COLUMNS
 unfolding words_of words_from

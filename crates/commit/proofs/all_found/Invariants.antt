@@ -1,0 +1,21 @@
+-- The loop of `commit::all_found`.
+use mathlib.Core.Path.{◌≡◌, refl, sym, ◌∙◌}
+use Prim.Native.Nat.{◌-◌, ◌≤◌}
+use native.Mathlib.Omega.{arith}
+use borrow.Author.Tests.{not-true, not-false}
+use lib.ListN.{drop}
+use Rattle.model.specs.Base.{all}
+use Rattle.model.specs.Catalog.{packed_tables}
+use Rattle.inner.specs.Working.{working}
+use Rattle.references.specs.Links.{referred}
+use Rattle.references.proofs.Walks.{all_row_here, all_row_on, all_row_end}
+use Rattle.commit.proofs.all_found.Given as goal
+
+abbrev pub invariant-loop-i : goal.invariant-loop-i
+invariant-loop-i l =
+    let s = packed_tables l.schema in
+    let q = referred s l.how (working s l.n l.rows) in
+    (l.i ≤ l.n) × (all q (working s l.n l.rows) ≡ all q (drop l.i (working s l.n l.rows)))
+
+abbrev pub decreases-loop-i : goal.decreases-loop-i
+decreases-loop-i l = l.n - l.i
