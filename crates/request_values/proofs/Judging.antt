@@ -122,11 +122,7 @@ module _ (names : Names) (c : Column) (j : Json) {n : ℕ} {t s w d : Bool} {ato
 
 -- ── the five mutators of arithmetic ──
 abbrev pub Five : Mutator → Type 0
-Five m =
-    (tag_of (declared enum) m ≡ 0) ⊎ ((tag_of (declared enum) m ≡ 1) ⊎ ((tag_of (declared enum) m ≡ 2) ⊎ ((tag_of (declared enum) m ≡ 3) ⊎ (tag_of (declared enum) m ≡ 4))))
-
-pub none_of : {P : Type 0} (t : ℕ) → 4 < t → (t ≡ 0) ⊎ ((t ≡ 1) ⊎ ((t ≡ 2) ⊎ ((t ≡ 3) ⊎ (t ≡ 4)))) → P
-none_of t g h = absurd (⊎_elim (λ x. omega (arith, x)) (λ k. ⊎_elim (λ x. omega (arith, x)) (λ l. ⊎_elim (λ x. omega (arith, x)) (λ n. ⊎_elim (λ x. omega (arith, x)) (λ x. omega (arith, x)) n) l) k) h)
+Five m = (m ≡ Insert → ⊥) × (m ≡ Delete → ⊥)
 
 pub five_fault : (c : Column) (m : Mutator) → Five m → (l : List (List ℕ)) → operand_fault l ≡ mutation_fault c m l
 five_fault c Add k l = refl
@@ -134,8 +130,8 @@ five_fault c Subtract k l = refl
 five_fault c Multiply k l = refl
 five_fault c Divide k l = refl
 five_fault c Remainder k l = refl
-five_fault c Insert k l = none_of 5 (omega arith) k
-five_fault c Delete k l = none_of 6 (omega arith) k
+five_fault c Insert k l = absurd (k.0 refl)
+five_fault c Delete k l = absurd (k.1 refl)
 
 -- ── inspected by places ──
 pub inspected : (names : Names) (c : Column) (s : List ℕ) (set : Bool) (f : Found) (j : Json) {n : ℕ} {t sh w d : Bool} {atoms : List (List ℕ)} → Begins s set f j

@@ -34,4 +34,4 @@ returns-in_default c names j atoms p =
     let a = c.args in
     let z = column_from a.column.now in
     let x = a.w in
-    first_is names z.base (mutation_fault z a.m) j true (eqb x.count 1) x.typed c.first_fault-in_default.ensures p.typed (operand_is names z j p ∙ five_fault z a.m c.in_default.not-Delete.not-Insert (atoms_as names z.base j))
+    first_is names z.base (mutation_fault z a.m) j true (eqb x.count 1) x.typed c.first_fault-in_default.ensures p.typed (operand_is names z j p ∙ five_fault z a.m (c.in_default.not-Insert, c.in_default.not-Delete) (atoms_as names z.base j))

@@ -1,0 +1,33 @@
+-- `schema::read_entries` meets its contract.
+use mathlib.Core.Path.{refl, sym, ap, ◌∙◌}
+use Rattle.model.specs.Nav.{is_read}
+use Rattle.schema.proofs.Reading.{read_long, read_bad, read_well, read_good}
+use borrow.Author.Rules.{rules}
+use Rattle.schema.proofs.read_entries.Goals as goal
+
+pub returns-then-text-gt-SCHEMA_TEXT : goal.returns-then-text-gt-SCHEMA_TEXT
+returns-then-text-gt-SCHEMA_TEXT c = read_long c.args.text.now c.if-text-gt-SCHEMA_TEXT.true
+
+pub fill-requires : goal.fill-requires
+unfolding is_read
+fill-requires c =
+    let s = c.args.text.now in
+    let end = ap is_read (sym c.document-r.ensures.value ∙ c.in-End.is) in
+    record { says = c.document-r.ensures.says; text_value = read_well s c.if-text-gt-SCHEMA_TEXT.false end; text_len_bound = c.if-text-gt-SCHEMA_TEXT.false; cells_value = refl }
+
+pub returns-in-End : goal.returns-in-End
+unfolding is_read
+returns-in-End c =
+    let s = c.args.text.now in
+    let end = ap is_read (sym c.document-r.ensures.value ∙ c.in-End.is) in
+    read_good s c.if-text-gt-SCHEMA_TEXT.false end c.fill.auto.cells c.fill.ensures
+
+pub returns-in-Stop : goal.returns-in-Stop
+unfolding is_read
+returns-in-Stop c =
+    read_bad c.args.text.now c.if-text-gt-SCHEMA_TEXT.false (ap is_read (sym c.document-r.ensures.value ∙ c.in-Stop.is))
+
+pub returns-in-Deep : goal.returns-in-Deep
+unfolding is_read
+returns-in-Deep c =
+    read_bad c.args.text.now c.if-text-gt-SCHEMA_TEXT.false (ap is_read (sym c.document-r.ensures.value ∙ c.in-Deep.is))
