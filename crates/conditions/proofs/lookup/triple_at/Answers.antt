@@ -1,0 +1,25 @@
+-- `conditions::lookup::triple_at` meets its contract.
+use mathlib.Core.Path.{sym, ◌∙◌}
+use Rattle.conditions.proofs.Items.{no_first, no_second, no_third, some_fourth, no_fourth}
+use borrow.Author.Rules.{rules}
+use Rattle.conditions.proofs.lookup.triple_at.Goals as goal
+
+pub returns-in_default : goal.returns-in_default
+returns-in_default c =
+    no_first c.args.text.now c.args.at c.requires.at_value (sym c.first-f.ensures ∙ c.in_default.is)
+
+pub returns-in_default-g : goal.returns-in_default-g
+returns-in_default-g c =
+    no_second c.args.text.now c.args.at c.requires.at_value (sym c.first-f.ensures ∙ c.in-At.is) (sym c.next_item-g.ensures ∙ c.in_default-g.is)
+
+pub returns-in_default-h : goal.returns-in_default-h
+returns-in_default-h c =
+    no_third c.args.text.now c.args.at c.requires.at_value (sym c.first-f.ensures ∙ c.in-At.is) (sym c.next_item-g.ensures ∙ c.in-At-g.is) (sym c.next_item-h.ensures ∙ c.in_default-h.is)
+
+pub returns-in-At-l : goal.returns-in-At-l
+returns-in-At-l c =
+    some_fourth c.args.text.now c.args.at c.requires.at_value (sym c.first-f.ensures ∙ c.in-At.is) (sym c.next_item-g.ensures ∙ c.in-At-g.is) (sym c.next_item-h.ensures ∙ c.in-At-h.is) (sym c.next_item-l.ensures ∙ c.in-At-l.is)
+
+pub returns-in-Nothing : goal.returns-in-Nothing
+returns-in-Nothing c =
+    no_fourth c.args.text.now c.args.at c.requires.at_value (sym c.first-f.ensures ∙ c.in-At.is) (sym c.next_item-g.ensures ∙ c.in-At-g.is) (sym c.next_item-h.ensures ∙ c.in-At-h.is) (sym c.next_item-l.ensures ∙ c.in-Nothing.is) c.by_names.ensures

@@ -1,0 +1,21 @@
+-- `conditions::subject_at` meets its contract.
+use mathlib.Core.Path.{sym, ◌∙◌}
+use Rattle.inner.specs.Positions.{tree_at}
+use Rattle.conditions.proofs.Naming.{about_id, about_column, about_none}
+use borrow.Author.Rules.{rules}
+use Rattle.conditions.proofs.subject_at.Goals as goal
+
+pub returns-then-own : goal.returns-then-own
+returns-then-own c =
+    let a = c.args in
+    about_id a.columns.now (tree_at a.text.now a.at) (sym c.is_word-own.ensures ∙ c.if-own.true)
+
+pub returns-in-At : goal.returns-in-At
+returns-in-At c =
+    let a = c.args in
+    about_column a.columns.now (tree_at a.text.now a.at) (sym c.is_word-own.ensures ∙ c.if-own.false) c.column_at-f.ensures c.in-At.is
+
+pub returns-in-Nothing : goal.returns-in-Nothing
+returns-in-Nothing c =
+    let a = c.args in
+    about_none a.columns.now (tree_at a.text.now a.at) (sym c.is_word-own.ensures ∙ c.if-own.false) c.column_at-f.ensures c.in-Nothing.is
