@@ -1,0 +1,19 @@
+-- The loop of `request_rows::put_columns`.
+use mathlib.Core.Path.{◌≡◌, refl}
+use mathlib.Core.List.{List}
+use mathlib.Core.Logic.{⊎_elim}
+use mathlib.Core.Option.{Option}
+use Prim.Native.Nat.{◌-◌, ◌≤◌}
+use native.Mathlib.Omega.{arith}
+use lib.ListN.{length}
+use Rattle.model.specs.Value.{Value}
+use Rattle.request_rows.specs.Assigned.{Template}
+use Rattle.request_rows.proofs.Rows.{Assigning, assigning_none, assigning_on, assigning_end}
+use Rattle.request_rows.proofs.Reading.{put_flagged, put_unflagged}
+use Rattle.request_rows.proofs.put_columns.Given as goal
+
+abbrev pub invariant-loop-c : goal.invariant-loop-c
+invariant-loop-c l = (l.c ≤ l.k) × ((os : List (Option Value)) → length os ≡ l.k → Template os l.row l.given → Assigning os l.initial.to l.c l.to)
+
+abbrev pub decreases-loop-c : goal.decreases-loop-c
+decreases-loop-c l = l.k - l.c

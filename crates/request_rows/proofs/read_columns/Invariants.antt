@@ -1,0 +1,17 @@
+-- The loop of `request_rows::read_columns`.
+use mathlib.Core.Path.{refl}
+use mathlib.Core.Bool.{false}
+use Prim.Native.Nat.{◌-◌, ◌≤◌}
+use native.Mathlib.Omega.{arith}
+use lib.ListN.{length, replicate}
+use Rattle.inner.specs.Positions.{tree_at}
+use Rattle.model.specs.Members.{members_in}
+use Rattle.uuids.specs.Named.{names_at}
+use Rattle.request_rows.proofs.Reading.{Reading, reading_none, reading_on, reading_end}
+use Rattle.request_rows.proofs.read_columns.Given as goal
+
+abbrev pub invariant-loop-c : goal.invariant-loop-c
+invariant-loop-c l = (l.c ≤ length l.columns) × Reading l.insert (names_at l.text l.names) (members_in (tree_at l.text l.at)) l.columns l.initial.row l.c l.f l.row l.given
+
+abbrev pub decreases-loop-c : goal.decreases-loop-c
+decreases-loop-c l = length l.columns - l.c
