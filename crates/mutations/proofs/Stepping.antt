@@ -22,7 +22,7 @@ use Rattle.inner.specs.Positions.{tree_at}
 use Rattle.uuids.specs.Named.{names_at}
 use Rattle.request_values.specs.Values.{atoms_as}
 use Rattle.rows.specs.Post.{ColumnSet}
-use Rattle.request_values.proofs.Judging.{Five, none_of}
+use Rattle.request_values.proofs.Judging.{Five}
 use Rattle.mutations.specs.Steps.{arithmetic_on, inserted_on, deleted_on, mutated_on, Kept, Stepped}
 use Rattle.mutations.specs.Mutating.{elements_read, Ready}
 use Rattle.mutations.specs.declared.read.Mutation.{Mutation as Read}
@@ -100,7 +100,7 @@ module _ (text : List ℕ) (m : Read) (atoms : List (List ℕ)) (r : Ready text 
   insert_held e = split m.fits (λ y. y) (λ f. let d = r.deletes f in cc)
 
   pub five_held : Five m.mutator → m.fits ≡ true
-  five_held k = split m.fits (λ y. y) (λ f. none_of 6 (omega arith) (subst Five (r.deletes f) k))
+  five_held k = split m.fits (λ y. y) (λ f. absurd (k.1 (r.deletes f)))
 
 -- ── by the mutator ──
 module _ (c : Column) (m : Mutator) (l xs : List (List ℕ)) where
@@ -119,8 +119,8 @@ arithmetic_arm c Subtract l xs k = refl
 arithmetic_arm c Multiply l xs k = refl
 arithmetic_arm c Divide l xs k = refl
 arithmetic_arm c Remainder l xs k = refl
-arithmetic_arm c Insert l xs k = none_of 5 (omega arith) k
-arithmetic_arm c Delete l xs k = none_of 6 (omega arith) k
+arithmetic_arm c Insert l xs k = absurd (k.0 refl)
+arithmetic_arm c Delete l xs k = absurd (k.1 refl)
 
 pub five_suits : (c : Column) (m : Mutator) → Five m → suits c m ≡ is_integer_base c.base
 five_suits c Add k = refl
@@ -128,5 +128,5 @@ five_suits c Subtract k = refl
 five_suits c Multiply k = refl
 five_suits c Divide k = refl
 five_suits c Remainder k = refl
-five_suits c Insert k = none_of 5 (omega arith) k
-five_suits c Delete k = none_of 6 (omega arith) k
+five_suits c Insert k = absurd (k.0 refl)
+five_suits c Delete k = absurd (k.1 refl)

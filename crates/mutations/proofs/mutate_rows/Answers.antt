@@ -64,8 +64,8 @@ loop-g-preserved c =
       ⊎_elim
           (λ w.
           let y = fine (sym c.is_fine-ok.ensures ∙ w.if-ok.true) in
-          walked_on z a.marks.now a.n a.rows.now (room) c.loop-g.invariant.2 y.0 (got_on a.text.now a.names.now a.columns.now h) w.rows-1.ensures (c.read_mutation-m.ensures.got y.1) w.VAR1-is w.VAR2-is (w.VAR3-is ∙ w.VAR0-is))
-          (λ w. walked_by z a.marks.now a.n a.rows.now c.loop-g.invariant.2 (sym c.is_fine-ok.ensures ∙ w.if-ok.false) w.VAR0-is w.VAR1-is w.VAR2-is)
+          walked_on z a.marks.now a.n a.rows.now (room) c.loop-g.invariant.2 y.0 (got_on a.text.now a.names.now a.columns.now h) w.mutate_marked-s.ensures (c.read_mutation-m.ensures.got y.1) w.rows-is w.e-is (w.stop-is ∙ w.fault_or-stop.ensures))
+          (λ w. walked_by z a.marks.now a.n a.rows.now c.loop-g.invariant.2 (sym c.is_fine-ok.ensures ∙ w.if-ok.false) w.rows-is w.e-is w.stop-is)
           c.if-ok.branch-raw,
     )
 

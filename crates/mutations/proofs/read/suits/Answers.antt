@@ -24,4 +24,4 @@ returns-in-Delete c =
 pub returns-in_default : goal.returns-in_default
 returns-in_default c =
     let a = c.args in
-    ap (λ (k : ℕ). eqb k 0) c.kind-integer.ensures ∙ sym (five_suits (column_from a.column.now) a.m c.in_default.not-Delete.not-Insert ∙ base_integer (get_or a.column.now 25 0))
+    ap (λ (k : ℕ). eqb k 0) c.kind-integer.ensures ∙ sym (five_suits (column_from a.column.now) a.m (c.in_default.not-Insert, c.in_default.not-Delete) ∙ base_integer (get_or a.column.now 25 0))

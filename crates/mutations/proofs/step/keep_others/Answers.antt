@@ -56,6 +56,10 @@ loop-i-smaller c = omega (arith, c.loop-i-test.true)
 
 pub loop-i-preserved : goal.loop-i-preserved
 loop-i-preserved c =
+    let few : c.loop-i.n ≤ c.loop-i.i = let a = c.args in
+    let o = c.loop-i in
+    omega (arith, o.invariant.1.size, length_keep (λ (y : List ℕ). not (member y (elements_read a.text.now a.names.now (base_numbered a.kind) a.m a.atoms.now))) (take o.i a.xs.now), length-take-le o.i a.xs.now o.invariant.0) in
+    let room : c.loop-i.n < 4 = omega (arith, few, c.loop-i-test.true, c.requires.xs_len_bound) in
     let a = c.args in
     let o = c.loop-i in
     let g = elements_read a.text.now a.names.now (base_numbered a.kind) a.m a.atoms.now in
@@ -68,13 +72,13 @@ loop-i-preserved c =
     let e = left_in g a.xs.now o.i h (sym c.is_deleted-gone.ensures ∙ w.if-not-gone.true) in (
       omega (arith, h),
       record {
-        size = w.VAR1-is ∙ sym (ap length e ∙ length-append r (x ∷ []) ∙ ap (λ (j : ℕ). j + 1) (sym k.size));
-        cells = w.VAR0-is ∙ set_padded r o.out o.n x k.cells k.size (omega (arith, room (record { before = c⟪After-is_deleted⟫; if1 = w.if-not-gone }), k.size)) ∙ ap padded (sym e);
+        size = w.n-is ∙ sym (ap length e ∙ length-append r (x ∷ []) ∙ ap (λ (j : ℕ). j + 1) (sym k.size));
+        cells = w.out-is ∙ set_padded r o.out o.n x k.cells k.size (omega (arith, room, k.size)) ∙ ap padded (sym e);
       },
     ))
     (λ w.
     let e = left_out g a.xs.now o.i h (sym c.is_deleted-gone.ensures ∙ w.if-not-gone.false) in
-    (omega (arith, h), record { size = w.VAR1-is ∙ k.size ∙ ap length (sym e); cells = w.VAR0-is ∙ k.cells ∙ ap padded (sym e) }))
+    (omega (arith, h), record { size = w.n-is ∙ k.size ∙ ap length (sym e); cells = w.out-is ∙ k.cells ∙ ap padded (sym e) }))
     c.if-not-gone.branch-raw
 
 pub returns : goal.returns

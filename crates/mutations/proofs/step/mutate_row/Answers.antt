@@ -69,10 +69,10 @@ returns-in_default c =
     let z = column_from (get_or a.columns.now a.m.place []) in
     let l = elements_read a.text.now a.names.now z.base a.m a.atoms.now in
     let x = elements_of a.m.place a.row.now in
-    let y = five_held a.text.now a.m a.atoms.now c.requires.ready c.in_default.not-Delete.not-Insert in
+    let y = five_held a.text.now a.m a.atoms.now c.requires.ready (c.in_default.not-Insert, c.in_default.not-Delete) in
     row_stepped a.text.now a.names.now a.columns.now c.requires.place_in_bounds.1 a.m a.atoms.now c.requires.place_in_bounds.0 c.arithmetic.result a.row.now c.arithmetic.new.row
     (stepped_as
     (ap (λ (b : ℤ). arithmetic_on z a.m.mutator b x) (sym (c.requires.ready.first y))
     ∙ ap (λ (b : List (List ℕ)). arithmetic_on z a.m.mutator (first_int b) x) (sym (read_held a.text.now a.names.now z.base a.m a.atoms.now y))
-    ∙ arithmetic_arm z a.m.mutator l x c.in_default.not-Delete.not-Insert)
+    ∙ arithmetic_arm z a.m.mutator l x (c.in_default.not-Insert, c.in_default.not-Delete))
     c.arithmetic.ensures)

@@ -1,0 +1,16 @@
+-- The loop of `selection::repeats`.
+use mathlib.Core.Path.{◌≡◌, refl, sym, ap, ◌∙◌}
+use mathlib.Core.Bool.{Bool, ◌||◌}
+use mathlib.Core.List.{[]}
+use Prim.Native.Nat.{◌-◌, ◌≤◌}
+use native.Mathlib.Omega.{arith}
+use lib.ListN.{get_or}
+use Rattle.selection.specs.Picks.{repeated}
+use Rattle.selection.proofs.Picks.{again_step, again_end}
+use Rattle.selection.proofs.repeats.Given as goal
+
+abbrev pub invariant-loop-j : goal.invariant-loop-j
+invariant-loop-j l = (l.j ≤ l.i) × (repeated l.flags l.k l.marks l.rows (get_or l.rows l.i []) l.i ≡ repeated l.flags l.k l.marks l.rows (get_or l.rows l.i []) l.j)
+
+abbrev pub decreases-loop-j : goal.decreases-loop-j
+decreases-loop-j l = l.j

@@ -1,0 +1,14 @@
+-- The loop of `selection::same_columns`.
+use mathlib.Core.Path.{◌≡◌, sym, ap, ◌∙◌}
+use mathlib.Core.Bool.{Bool, not, ◌&&◌}
+use Prim.Native.Nat.{◌+◌, ◌-◌, ◌≤◌}
+use native.Mathlib.Omega.{arith}
+use Rattle.selection.specs.Picks.{same_from}
+use Rattle.selection.proofs.Picks.{columns_step, columns_end}
+use Rattle.selection.proofs.same_columns.Given as goal
+
+abbrev pub invariant-loop-c : goal.invariant-loop-c
+invariant-loop-c l = (l.c ≤ l.k) × (same_from l.flags l.x l.y 0 l.k ≡ same_from l.flags l.x l.y l.c (l.k - l.c))
+
+abbrev pub decreases-loop-c : goal.decreases-loop-c
+decreases-loop-c l = l.k - l.c

@@ -1,0 +1,53 @@
+-- `selection::with_name` meets its contract.
+use borrow.Author.Rules.{rules}
+use mathlib.Core.Path.{◌∙◌, ap}
+use mathlib.Core.List.{List}
+use Prim.Native.Nat.{ℕ, ◌-◌, ◌≤◌}
+use native.Mathlib.Omega.{arith}
+use lib.ListN.{length}
+use Rattle.inner.specs.Positions.{tree_at}
+use Rattle.model.specs.Text.{is_word}
+use Rattle.selection.proofs.Names.{Adding, adding_none, adding_on, adding_end}
+use Rattle.selection.proofs.with_name.Goals as goal
+
+pub loop-c-init : goal.loop-c-init
+loop-c-init c =
+    let a = c.args in
+    (omega arith, adding_none (tree_at a.text.now a.at) a.columns.now a.flags c.well_formed.1.1.1.0.1.0.1 c.is_word-id.ensures)
+
+pub offset_bounds-columns-c : goal.offset_bounds-columns-c
+offset_bounds-columns-c c = omega (arith, c.loop-c-test.true, c.requires)
+
+pub overflow_add-more : goal.overflow_add-more
+overflow_add-more c =
+    omega (arith, c.loop-c-test.true, c.requires)
+
+pub bounds-flags-c : goal.bounds-flags-c
+bounds-flags-c c =
+    omega (arith, c.loop-c-test.true, c.requires)
+
+pub overflow_add-more-in-loop-c : goal.overflow_add-more-in-loop-c
+overflow_add-more-in-loop-c c =
+    omega (arith, c.loop-c-test.true, c.requires)
+
+pub bounds-more-c : goal.bounds-more-c
+bounds-more-c c =
+    omega (arith, c.loop-c-test.true, c.requires)
+
+pub overflow_add-c : goal.overflow_add-c
+overflow_add-c c =
+    omega (arith, c.loop-c-test.true, c.requires)
+
+pub loop-c-smaller : goal.loop-c-smaller
+loop-c-smaller c = omega (arith, c.loop-c-test.true)
+
+pub loop-c-preserved : goal.loop-c-preserved
+loop-c-preserved c =
+    let a = c.args in
+    let j = tree_at a.text.now a.at in
+    (omega (arith, c.loop-c-test.true), adding_on j a.columns.now a.flags c.loop-c.c (omega (arith, c.loop-c-test.true, c.requires)) c.loop-c-test.true c.loop-c.invariant.1 (c.is_word-same.ensures ∙ ap (λ (w : List ℕ). is_word w j) c.name_of.ensures))
+
+pub returns : goal.returns
+returns c =
+    let a = c.args in
+    adding_end (tree_at a.text.now a.at) a.columns.now a.flags c.loop-c.c c.loop-c-test.false c.loop-c.invariant.1
