@@ -71,7 +71,12 @@ stop-requires c =
     let short : c.put_comma-at.result ≤ 4000000 = let v = c.loop-g.invariant.2 in omega (arith, v.short, v.size, c.put_comma-at.ensures.short, c.put_byte-at.ensures.short) in
     let v = c.loop-g.invariant.2 in
     let h = c.in-At.is in
-    (c.requires.running.says, rw c.next_item-g.ensures ((walk_fine c.args.text.now h v.fine).1, (omega (arith, v.size, ap length (walk_rest c.args.text.now h)), omega (arith, short))))
+    record {
+      says = c.requires.running.says;
+      g_value = rw c.next_item-g.ensures (walk_fine c.args.text.now h v.fine).1;
+      g_len_bound = rw c.next_item-g.ensures (omega (arith, v.size, ap length (walk_rest c.args.text.now h)));
+      stop_most_bound = omega (arith, short);
+    }
 
 pub shape_of-rows-else-is_fine : goal.shape_of-rows-else-is_fine
 shape_of-rows-else-is_fine c = c.operate-d.auto.rows ∙ c.loop-g.invariant.0
