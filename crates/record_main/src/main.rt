@@ -6,7 +6,6 @@ ghost use Rattle.model.specs.Base.{flat};
 ghost use Rattle.model.specs.Records.{encode, number_from};
 ghost use Rattle.record_main.specs.Reading.{new_row};
 
-use libc::STDOUT_FILENO;
 use model::{ATOM, Atom};
 use record::{Born, Column, End};
 
@@ -39,10 +38,10 @@ fn print(bytes: &[u8]) {
     while i < bytes.len() {
         let b = bytes[i];
         let pair = [digit(b / 16), digit(b % 16)];
-        io::write_all(STDOUT_FILENO, &pair);
+        io::write_all(1, &pair);
         i += 1;
     }
-    io::write_all(STDOUT_FILENO, b"\n");
+    io::write_all(1, b"\n");
 }
 
 fn main() {

@@ -5,11 +5,19 @@
 ghost use Rattle.model.specs.Limits.{fresh_bytes, column_record_bytes};
 ghost use Rattle.std.specs.Prelude.{◌≡◌, ◌*◌, ◌+◌, ◌^◌, ◌≤◌, ◌<◌, min, length};
 
-use libc::{STDERR_FILENO, STDOUT_FILENO};
 use model::{
     COLUMN_RECORD, COLUMNS, Catalog, ENTRIES, ENTRY, Entry, FRESH_BYTES, ID, LEAST_RECORDS,
     MIRROR_BYTES, ROW_RECORD, STORE_BYTES, Status, TABLES,
 };
+use std::env::{Env, FillError};
+use std::fs::File;
+use std::io::Read;
+use std::str;
+
+// The descriptors of standard output and standard error.
+const STDOUT_FILENO: i32 = 1;
+
+const STDERR_FILENO: i32 = 2;
 
 // How much of a buffer a file fills, and whether it was read.
 #[derive(Clone, Copy)]
@@ -95,59 +103,92 @@ fn is_accepted(a: Status) -> bool {
 // ── arguments and files ──
 
 // A file that is open, read to its end.
-fn read_open(fd: i32, buf: &mut [u8]) -> Filled
+fn read_open(file: &mut File, buf: &mut [u8]) -> Filled
     ensures { result.size ≤ length buf.new }
 {
-    let got = libc::read(fd, buf);
-    if got < 0 {
-        return Filled {
-            good: false,
-            size: 0,
-        };
+    let mut size = 0;
+    while size < buf.len() {
+        match file.read(&mut buf[size..]) {
+            Ok(0) => return Filled { good: true, size },
+            Ok(n) => size += n,
+            Err(_) => {
+                return Filled {
+                    good: 0 < size,
+                    size,
+                };
+            }
+        }
     }
-    let k = io::count(got, buf);
-    let more = io::read_full(fd, &mut buf[k..]);
-    Filled {
-        good: true,
-        size: k + more,
+    Filled { good: true, size }
+}
+
+// To standard error: a path and what failed there.
+fn say_failed(path: &[u8], what: &[u8]) {
+    say(path);
+    say(b": ");
+    say(what);
+    say(b"\n");
+}
+
+// The file of a path, where the path is text.
+fn open(rt: &HostRuntime, path: &[u8]) -> Option<File> {
+    match str::from_utf8(path) {
+        Ok(text) => File::open(rt, text).ok(),
+        Err(_) => None,
     }
 }
 
 // The file of a path; what fails is said.
-fn read_path(path: &[u8], buf: &mut [u8]) -> Filled
+fn read_path(rt: &HostRuntime, path: &[u8], buf: &mut [u8]) -> Filled
     ensures { result.size ≤ length buf.new }
 {
-    let fd = os::open_read(path);
-    if fd < 0 {
-        os::fail(path);
+    let Some(mut file) = open(rt, path) else {
+        say_failed(path, b"cannot be opened");
         return Filled {
             good: false,
             size: 0,
         };
-    }
-    let r = read_open(fd, buf);
+    };
+    let r = read_open(&mut file, buf);
     if !r.good {
-        os::fail(path);
+        say_failed(path, b"cannot be read");
     }
-    libc::close(fd);
     if r.size < buf.len() {
         return r;
     }
-    say(path);
-    say(b": longer than 65535 bytes\n");
+    say_failed(path, b"longer than 65535 bytes");
     Filled {
         good: false,
         size: 0,
     }
 }
 
+// An argument at the start of a buffer, and its length; 0 where it is missing or longer.
+fn argument(rt: &HostRuntime, i: usize, buf: &mut [u8]) -> usize
+    ensures { result ≤ length buf.new }
+{
+    match rt.arg(i, buf) {
+        Ok(n) => n,
+        Err(_) => 0,
+    }
+}
+
+// Whether there is an argument of a number.
+fn is_given(rt: &HostRuntime, i: usize) -> bool {
+    let mut text = [0u8; 1];
+    match rt.arg(i, &mut text) {
+        Err(FillError::NotPresent) => false,
+        _ => true,
+    }
+}
+
 // The file that an argument names.
-fn read_file(i: usize, buf: &mut [u8]) -> Filled
+fn read_file(rt: &HostRuntime, i: usize, buf: &mut [u8]) -> Filled
     ensures { result.size ≤ length buf.new }
 {
     let mut path = io::buffer();
-    let k = os::arg(i, &mut path);
-    read_path(&path[..k], buf)
+    let k = argument(rt, i, &mut path);
+    read_path(rt, &path[..k], buf)
 }
 
 // A digit's value, 10 where it is none.
@@ -191,9 +232,9 @@ fn run_of(text: &[u8]) -> Run {
 }
 
 // The run that the second argument is.
-fn read_run() -> Run {
+fn read_run(rt: &HostRuntime) -> Run {
     let mut text = [0u8; 20];
-    let k = os::arg(2, &mut text);
+    let k = argument(rt, 2, &mut text);
     let r = run_of(&text[..k]);
     if !r.good {
         say(b"RUN is no number from 0 to 4294967295\n");
@@ -552,16 +593,16 @@ fn replay_files(text: &[u8], m: usize, run: u32, requests: &[u8], n: usize)
     replay(&text[0..m], run, &requests[0..n]);
 }
 
-fn main() {
-    if os::arg_count() != 4 {
+fn main(rt: HostRuntime) {
+    if !is_given(&rt, 3) | is_given(&rt, 4) {
         say_usage();
         return;
     }
-    let r = read_run();
+    let r = read_run(&rt);
     let mut text = io::large_buffer();
-    let t = read_file(1, &mut text);
+    let t = read_file(&rt, 1, &mut text);
     let mut requests = io::large_buffer();
-    let q = read_file(3, &mut requests);
+    let q = read_file(&rt, 3, &mut requests);
     if r.good & t.good & q.good {
         replay_files(&text, t.size, r.run, &requests, q.size);
     }
