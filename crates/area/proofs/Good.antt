@@ -1,31 +1,31 @@
 -- An area's part passes its tests just where it is the encoding of a store whose rows pass theirs. Assumes nothing.
 use mathlib.Core.Path.{◌≡◌, refl, sym, ap, ◌∙◌}
-use mathlib.Core.Bool.{Bool, true, false, ◌&&◌}
+use mathlib.Core.Bool.{true, ◌&&◌}
 use mathlib.Core.List.{List, [], ◌∷◌, ◌++◌, map, append_assoc}
-use Prim.Native.Nat.{ℕ, zero, suc, ◌+◌, ◌-◌, ◌*◌, ◌^◌, ◌≤◌, ◌<◌}
+use Prim.Native.Nat.{ℕ, zero, suc, ◌+◌, ◌-◌, ◌*◌, ◌≤◌}
 use native.Mathlib.Omega.{arith}
 use borrow.Author.Tests.{leb-true, le-leb}
 use lib.Dec.{eqb, leb}
-use lib.ListN.{length, get_or, take, drop, replicate, length-drop, length-append, length-replicate}
+use lib.ListN.{length, take, drop, replicate, length-drop, length-append, length-replicate}
 use lib.Seq.{drop-drop, take_at, drop_at, take_all, length-take-le}
-use Rattle.model.specs.Limits.{count_offset, rows_offset, store_bytes}
-use Rattle.model.specs.Octets.{big, value, part}
-use Rattle.model.specs.Base.{all, every, flat}
+use Rattle.model.specs.Limits.{rows_offset, store_bytes}
+use Rattle.model.specs.Octets.{part}
+use Rattle.model.specs.Base.{all, flat}
 use Rattle.model.specs.Schema.{Schema, columns_of}
 use Rattle.model.specs.Catalog as packed
 use Rattle.model.specs.Value.{zeros, canonical_for}
 use Rattle.model.specs.Rows.{Row}
 use Rattle.model.specs.Records.{cut}
-use Rattle.model.specs.Areas.{row_cells, row_from, rows_from, rows_bytes, Store, encode_store, entries_in, database_in, decode_store, ascends, distinct_ids, row_passes, rows_pass, head_tests}
+use Rattle.model.specs.Areas.{row_cells, row_from, rows_from, rows_bytes, Store, encode_store, entries_in, database_in, decode_store, ascends, distinct_ids, row_passes, rows_pass}
 use Rattle.inner.specs.Working.{working, table_in, TidyRow, Tidy}
 use Rattle.model.proofs.Tests.{and_l, and_r, whole, parts}
 use Rattle.model.proofs.Lists.{all_head, all_tail, all_take, all_drop, all_cons, all_same}
-use Rattle.model.proofs.Octets.{octet, value_big_fits}
+use Rattle.model.proofs.Octets.{octet}
 use Rattle.model.proofs.Accepted.{narrow}
 use Rattle.model.proofs.Lengths.{narrow_at}
 use Rattle.model.proofs.Areas.{Sized, AllSized, Fits, row_read, row_cut, row_length, rows_length, read_count, read_rest}
 use Rattle.area.specs.Layout.{rows_in, tidy_from, row_good, rows_good, row_count, rest_zero, part_good}
-use Rattle.area.proofs.Copies.{cut_length, rows_length as count_is}
+use Rattle.area.proofs.Copies.{rows_length as count_is}
 use Rattle.area.proofs.Tidied.{Cells, tidy_of, of_tidy}
 use Rattle.area.proofs.Whole.{rows_are, rows_count, store_back}
 

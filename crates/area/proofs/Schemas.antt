@@ -2,7 +2,7 @@
 use mathlib.Core.Path.{◌≡◌, refl, sym, ap, ◌∙◌}
 use mathlib.Core.Bool.{Bool, true, false, not, ◌&&◌}
 use mathlib.Core.List.{List, [], ◌∷◌, ◌++◌, map}
-use Prim.Native.Nat.{ℕ, zero, suc, ◌+◌, ◌-◌, ◌*◌, ◌^◌, ◌≤◌, ◌<◌}
+use Prim.Native.Nat.{ℕ, zero, suc, ◌+◌, ◌*◌, ◌^◌, ◌≤◌, ◌<◌}
 use native.Mathlib.Numerals.{add-one}
 use native.Mathlib.Omega.{arith}
 use borrow.Author.Tests.{lt-ltb, le-ltb, lt-leb, le-leb, leb-true}
@@ -11,11 +11,11 @@ use lib.ListN.{length, get_or, take, drop, length-map, drop_of_length-le}
 use lib.Seq.{drop-cons, drop-drop, get_or-drop, take_all, take_at}
 use Rattle.model.specs.Limits.{rows_offset}
 use Rattle.model.specs.Base.{all}
-use Rattle.model.specs.Schema.{Column, Schema, columns_of}
+use Rattle.model.specs.Schema.{Schema, columns_of}
 use Rattle.model.specs.Catalog.{column_from, table_from, tables_from, packed_tables}
-use Rattle.model.specs.Value.{Value, canonical_for}
+use Rattle.model.specs.Value.{canonical_for}
 use Rattle.model.specs.Records.{known}
-use Rattle.model.specs.Areas.{columns_from, row_from, values_pass, row_passes, ascends, distinct_ids}
+use Rattle.model.specs.Areas.{columns_from, row_from, values_pass, ascends, distinct_ids}
 use Rattle.inner.specs.Working.{working, table_in, id_in, value_in, Ordered}
 use Rattle.inner.proofs.Ordering.{sorted_ordered}
 use Rattle.model.proofs.Tests.{clash, and_l, and_r}

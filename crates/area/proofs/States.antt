@@ -2,14 +2,14 @@
 use mathlib.Core.Path.{◌≡◌, refl, sym, ap, ◌∙◌}
 use mathlib.Core.Bool.{Bool, true, false, not, ◌&&◌, ◌||◌}
 use mathlib.Core.List.{List, [], ◌∷◌, ◌++◌, append-nil}
-use mathlib.Core.Option.{Option, none, some}
-use Prim.Native.Nat.{ℕ, zero, suc, ◌+◌, ◌^◌, ◌≤◌, ◌<◌}
+use mathlib.Core.Option.{none}
+use Prim.Native.Nat.{ℕ, zero, suc, ◌^◌, ◌≤◌}
 use native.Mathlib.Omega.{arith}
 use borrow.Author.Tests.{leb-true, lt-ltb}
 use lib.Dec.{eqb, leb, ltb}
-use lib.ListN.{length, get_or, take, drop, length-take, length-drop, take-append-drop, drop_of_length-le}
-use lib.Seq.{drop_at, drop-drop, drop-cons, take_all, get_or-drop, length-take-le}
-use Rattle.model.specs.Limits.{count_offset, rows_offset, store_bytes, mirror_bytes}
+use lib.ListN.{length, get_or, take, drop, length-drop, take-append-drop, drop_of_length-le}
+use lib.Seq.{drop_at, drop-cons, take_all, get_or-drop, length-take-le}
+use Rattle.model.specs.Limits.{store_bytes, mirror_bytes}
 use Rattle.model.specs.Schema.{Database}
 use Rattle.model.specs.Octets.{big, value, part, eq_bytes}
 use Rattle.model.specs.Base.{all, every, eq_lists}
@@ -17,14 +17,14 @@ use Rattle.model.specs.Catalog as packed
 use Rattle.model.specs.Value.{canonical_for, meets}
 use Rattle.model.specs.Sane.{sane}
 use Rattle.model.specs.Commit.{lawful}
-use Rattle.model.specs.Areas.{Store, encode_store, entries_in, database_in, decode_store, MirrorState, store_part, encode_mirror, decode_mirror, rows_pass, head_tests, state_of, store_good, store_of, mirror_tests, mirror_good, mirror_of}
+use Rattle.model.specs.Areas.{Store, encode_store, entries_in, database_in, decode_store, store_part, encode_mirror, decode_mirror, rows_pass, head_tests, state_of, store_good, store_of, mirror_tests, mirror_good, mirror_of}
 use Rattle.model.specs.Catalog.{bit}
-use Rattle.model.proofs.Tests.{split, clash, and_l, and_r, parts, whole, bytes_self, bytes_same, lists_self, lists_same}
+use Rattle.model.proofs.Tests.{clash, and_l, and_r, parts, whole, bytes_self, bytes_same, lists_self, lists_same}
 use Rattle.model.proofs.Lists.{all_take, all_drop}
 use Rattle.model.proofs.Octets.{octet, part_lt, big_value}
 use Rattle.model.proofs.GoodOrder.{meets_pass}
 use Rattle.model.proofs.Accepted.{narrow, sane_kept}
-use Rattle.model.proofs.Areas.{Fits, pass_fits, read_catalog, store_length, mirror_length, store_of_encode, store_of_length}
+use Rattle.model.proofs.Areas.{Fits, pass_fits, read_catalog, store_length, store_of_encode, store_of_length}
 use Rattle.catalog.specs.Accepted.{is_accepted}
 use Rattle.area.specs.Layout.{part_good}
 use Rattle.area.specs.Writing.{top_in, number_in, tail_good, when}

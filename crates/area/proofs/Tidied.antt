@@ -1,14 +1,14 @@
 -- A row whose unused counts and cells are zero is the cells of the row that it stands for, and the other way round. Assumes nothing.
 use mathlib.Core.Path.{◌≡◌, refl, sym, ap, ◌∙◌}
-use mathlib.Core.Bool.{Bool, true, false, ◌&&◌}
+use mathlib.Core.Bool.{true}
 use mathlib.Core.List.{List, [], ◌∷◌, ◌++◌, map, append_assoc}
-use Prim.Native.Nat.{ℕ, zero, suc, ◌+◌, ◌-◌, ◌*◌, ◌≤◌, ◌<◌}
+use Prim.Native.Nat.{ℕ, zero, suc, ◌+◌, ◌-◌, ◌*◌, ◌≤◌}
 use native.Mathlib.Omega.{arith}
 use borrow.Author.Tests.{eqb-true}
 use lib.Dec.{eqb}
-use lib.ListN.{length, get_or, take, drop, replicate, length-append, length-drop, length-map, take-append-drop, drop_of_length-le}
+use lib.ListN.{length, get_or, take, drop, replicate, length-append, length-drop, take-append-drop}
 use lib.Seq.{drop-drop, drop-cons, take-add, drop_at, length-take-le}
-use Rattle.model.specs.Octets.{big, value, part}
+use Rattle.model.specs.Octets.{value, part}
 use Rattle.model.specs.Base.{all}
 use Rattle.model.specs.Schema.{Schema, columns_of}
 use Rattle.model.specs.Value.{Value, zeros, blank}

@@ -1,8 +1,8 @@
 -- Tests of all elements, one after another: zeros, blank cells, rows in order, ids all different. Assumes nothing.
-use mathlib.Core.Path.{◌≡◌, refl, sym, ap, ◌∙◌}
+use mathlib.Core.Path.{◌≡◌, refl, ap, ◌∙◌}
 use mathlib.Core.Bool.{Bool, true, false, not, ◌&&◌}
-use mathlib.Core.List.{List, [], ◌∷◌}
-use Prim.Native.Nat.{ℕ, zero, suc, ◌+◌, ◌-◌, ◌≤◌, ◌<◌}
+use mathlib.Core.List.{List, []}
+use Prim.Native.Nat.{ℕ, ◌+◌, ◌≤◌, ◌<◌}
 use native.Mathlib.Numerals.{add-one}
 use native.Mathlib.Omega.{arith}
 use borrow.Author.Tests.{ltb-true, ltb-false}
@@ -11,8 +11,8 @@ use lib.ListN.{length, take, drop, get_or, drop_of_length-le}
 use lib.Seq.{drop-cons, length-take-le, get_or-take}
 use Rattle.model.specs.Base.{all}
 use Rattle.model.specs.Schema.{Schema}
-use Rattle.model.specs.Rows.{Row, key, has_id}
-use Rattle.model.specs.Areas.{row_from, ascends_from, ascends, distinct_ids}
+use Rattle.model.specs.Rows.{Row, has_id}
+use Rattle.model.specs.Areas.{ascends, distinct_ids}
 use Rattle.inner.specs.Working.{working, key_in, id_in}
 use Rattle.model.proofs.Tests.{split}
 use Rattle.inner.proofs.Working.{row_key, row_id, working_on, working_end}

@@ -1,21 +1,21 @@
 -- What an area in good order holds, part by part: the store that is decoded of it is encoded as it lies there. Assumes nothing.
 use mathlib.Core.Path.{◌≡◌, refl, sym, ap, ◌∙◌}
-use mathlib.Core.Bool.{Bool, true, false, ◌&&◌}
-use mathlib.Core.List.{List, [], ◌∷◌, ◌++◌, map, append_assoc}
-use Prim.Native.Nat.{ℕ, zero, suc, ◌+◌, ◌-◌, ◌*◌, ◌^◌, ◌≤◌, ◌<◌}
+use mathlib.Core.Bool.{true}
+use mathlib.Core.List.{List, [], ◌∷◌, ◌++◌, map}
+use Prim.Native.Nat.{ℕ, zero, suc, ◌+◌, ◌-◌, ◌*◌, ◌≤◌}
 use native.Mathlib.Omega.{arith}
-use lib.ListN.{length, get_or, take, drop, replicate, length-drop, length-take, take-append-drop}
-use lib.Seq.{drop-drop, drop-cons, take-add, take-take, length-take-le}
+use lib.ListN.{length, get_or, take, drop, replicate, length-drop}
+use lib.Seq.{drop-drop, drop-cons, take-add, length-take-le}
 use Rattle.model.specs.Octets.{big, value, part}
 use Rattle.model.specs.Limits.{entry_bytes, entry_count, catalog_bytes, catalog_offset, count_offset, rows_offset, store_bytes}
 use Rattle.model.specs.Catalog.{catalog_of}
 use Rattle.model.specs.Base.{all, flat}
-use Rattle.model.specs.Schema.{Schema, columns_of}
+use Rattle.model.specs.Schema.{Schema}
 use Rattle.model.specs.Value.{zeros}
 use Rattle.model.specs.Rows.{Row}
 use Rattle.model.specs.Records.{cut}
-use Rattle.model.specs.Areas.{row_cells, row_from, rows_bytes, rows_from, Store, encode_store, entries_in, database_in, decode_store}
-use Rattle.inner.specs.Working.{working, TidyRow, Tidy}
+use Rattle.model.specs.Areas.{row_from, rows_bytes, rows_from, encode_store, entries_in, database_in, decode_store}
+use Rattle.inner.specs.Working.{TidyRow, Tidy}
 use Rattle.model.proofs.Lists.{all_take, all_drop}
 use Rattle.model.proofs.Octets.{octet, big_value}
 use Rattle.area.specs.Layout.{rows_in, bytes_of}

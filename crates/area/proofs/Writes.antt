@@ -1,13 +1,13 @@
 -- Bytes written to a place of an area, and what they make of the encoding of a state. Assumes nothing.
 use mathlib.Core.Path.{◌≡◌, refl, sym, ap, ◌∙◌}
-use mathlib.Core.Bool.{Bool, false}
+use mathlib.Core.Bool.{Bool}
 use mathlib.Core.List.{List, [], ◌∷◌, ◌++◌, map, append_assoc, append-nil}
-use Prim.Native.Nat.{ℕ, ◌+◌, ◌-◌, ◌*◌, ◌≤◌}
+use Prim.Native.Nat.{ℕ, ◌-◌, ◌*◌, ◌≤◌}
 use native.Mathlib.Omega.{arith}
 use borrow.Rule.Slice.PartMut.{mid_of, put_mid}
-use lib.ListN.{length, set, take, drop, replicate, length-append, length-map, length-replicate}
+use lib.ListN.{length, set, take, drop, replicate, length-map}
 use lib.Seq.{take_at, drop_at, drop-drop, length-take-le}
-use Rattle.model.specs.Limits.{count_offset, rows_offset, store_bytes, mirror_bytes}
+use Rattle.model.specs.Limits.{count_offset, store_bytes, mirror_bytes}
 use Rattle.model.specs.Base.{flat}
 use Rattle.model.specs.Catalog.{catalog_of}
 use Rattle.model.specs.Octets.{big}
@@ -19,7 +19,6 @@ use Rattle.inner.specs.Working.{working, Tidy}
 use Rattle.model.proofs.Catalogs.{catalog_bytes_lem}
 use Rattle.model.proofs.Areas.{Fits, store_length}
 use Rattle.octets.proofs.Rests.{mid_rest, put_rest}
-use Rattle.area.specs.Layout.{bytes_of}
 use Rattle.area.specs.Writing.{placed, rows_part, tail_bytes, store_in}
 use Rattle.area.proofs.Whole.{bytes_are}
 

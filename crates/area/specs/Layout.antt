@@ -1,5 +1,5 @@
 -- An area's rows as cells, and the tests of what an area leaves unused. Assumes nothing: these are definitions.
-use Rattle.std.specs.Prelude.{ℕ, zero, suc, ◌+◌, ◌-◌, ◌*◌, ◌≤◌, ◌<◌, ◌≡◌, Bool, true, cond, ◌&&◌, List, [], ◌∷◌, ◌++◌, map, leb, length, get_or, take, drop}
+use Rattle.std.specs.Prelude.{ℕ, zero, suc, ◌+◌, ◌-◌, ◌*◌, ◌≤◌, ◌≡◌, Bool, true, cond, ◌&&◌, List, [], ◌∷◌, ◌++◌, leb, length, get_or, take, drop}
 use Rattle.model.specs.Octets.{part}
 use Rattle.model.specs.Base.{all, flat}
 use Rattle.model.specs.Limits.{most_rows, most_elements, counts_offset, row_cell_count, row_bytes, count_offset, rows_offset}

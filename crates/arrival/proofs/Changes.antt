@@ -12,7 +12,7 @@ use Rattle.catalog.specs.Accepted.{Accepted}
 use lib.ListN.{length, get_or, take, drop, set, replicate, drop_of_length-le}
 use lib.Seq.{length-take-le, take-set-lt, get_or-take, get_or-drop, drop-drop}
 use Rattle.model.specs.Base.{nth, flat}
-use Rattle.model.specs.Schema.{Column, Schema, columns_of}
+use Rattle.model.specs.Schema.{Schema, columns_of}
 use Rattle.model.specs.Value.{Value}
 use Rattle.model.specs.Rows.{Row, key_of, key, find, set_column, change}
 use Rattle.model.specs.Records.{known, value_bytes}

@@ -1,22 +1,21 @@
 -- What an arrival that is welcome does to rows, by its kind. Assumes nothing.
-use mathlib.Core.Path.{◌≡◌, refl, sym, ap, ◌∙◌, subst}
-use mathlib.Core.Bool.{Bool, true, false, not, ◌&&◌}
+use mathlib.Core.Path.{◌≡◌, refl, sym, ap, ◌∙◌}
+use mathlib.Core.Bool.{true, false, not, ◌&&◌}
 use mathlib.Core.List.{List, [], ◌∷◌}
 use Prim.Native.Nat.{ℕ, ◌+◌, ◌≤◌, ◌<◌}
 use native.Mathlib.Omega.{arith}
 use borrow.Author.Tests.{ltb-true}
 use lib.Dec.{ltb}
-use lib.ListN.{length, get_or, take}
+use lib.ListN.{length, get_or}
 use Rattle.catalog.specs.Accepted.{Accepted}
 use Rattle.catalog.proofs.Laws.{few_tables, few_columns_lem}
 use Rattle.model.specs.Octets.{value}
 use Rattle.model.specs.Schema.{Schema, columns_of}
-use Rattle.model.specs.Value.{Value}
 use Rattle.model.specs.Rows.{Row, key_of, has, has_id}
-use Rattle.model.specs.Records.{act, known, allows, born, gone, column, end}
+use Rattle.model.specs.Records.{act, known, allows, born, gone, column}
 use Rattle.model.specs.Areas.{row_cells, row_from}
 use Rattle.model.specs.Catalog.{packed_tables}
-use Rattle.inner.specs.Working.{working, new_row, Tidy}
+use Rattle.inner.specs.Working.{working, new_row}
 use Rattle.model.proofs.Tests.{clash, and_l, and_r}
 use Rattle.inner.proofs.NewRows.{new_row_read, new_row_tidy}
 use Rattle.model.proofs.GoodOrder.{known_short, known_table}

@@ -15,7 +15,7 @@ use Rattle.model.specs.Octets.{value}
 use Rattle.model.specs.Base.{nth}
 use Rattle.model.specs.Schema.{Column, Schema, Table, columns_of}
 use Rattle.model.specs.Value.{canonical_for}
-use Rattle.model.specs.Records.{born, gone, column, allows, Record, numbered, mark}
+use Rattle.model.specs.Records.{column, Record, numbered, mark}
 use Rattle.model.specs.Rows.{key_of, has, has_id}
 use Rattle.inner.specs.Working.{working}
 use Rattle.inner.proofs.Working.{working_length}

@@ -1,5 +1,5 @@
 -- What the code asks of one number or one byte: of 64 bits in the order of integers, of a byte of UTF-8. Assumes nothing: these are definitions.
-use Rattle.std.specs.Prelude.{ℕ, zero, suc, ◌+◌, ◌-◌, ◌<◌, ◌≡◌, Bool, true, false, not, ◌&&◌, List, [], ◌∷◌, eqb, ltb, leb, length}
+use Rattle.std.specs.Prelude.{ℕ, zero, suc, ◌-◌, ◌<◌, ◌≡◌, Bool, true, false, not, ◌&&◌, List, [], ◌∷◌, eqb, ltb, leb, length}
 use Rattle.model.specs.Limits.{atom_bytes}
 use Rattle.model.specs.Base.{all}
 use Rattle.model.specs.Strings.{Range, ◌to◌}

@@ -18,7 +18,7 @@ use Rattle.model.proofs.Order.{Fine, AllFine}
 use Rattle.model.specs.Mirror.{Mirror, column_bytes, value_answer, row_answer, column_answer}
 use Rattle.model.specs.Areas.{MirrorState, mirror_of}
 use Rattle.model.specs.Limits.{mirror_bytes}
-use Rattle.model.specs.Calls.{asked, Presence, no_presence, presence_of, mirror_has_row, Contents, no_contents, contents_of, mirror_column}
+use Rattle.model.specs.Calls.{asked, no_presence, presence_of, mirror_has_row, Contents, no_contents, contents_of, mirror_column}
 use Rattle.model.specs.declared.Status.{Status}
 use Rattle.model.specs.declared.Status.TheVariants.{Accepted, Disordered, WrongLength}
 use Rattle.model.proofs.Tests.{split}

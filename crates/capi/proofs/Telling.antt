@@ -1,12 +1,12 @@
 -- What the exported questions return and leave, by what the mirror's calls promise. Assumes nothing.
 use mathlib.Core.Path.{◌≡◌, refl, sym, ◌∙◌, ap}
-use mathlib.Core.Bool.{Bool, true, false, not}
+use mathlib.Core.Bool.{not}
 use mathlib.Core.List.{List, [], ◌∷◌, ◌++◌}
 use Prim.Native.Nat.{ℕ, min}
 use native.Mathlib.Omega.{arith}
 use borrow.Author.Tests.{eq-eqb, ne_eqb}
 use lib.Dec.{eqb}
-use lib.ListN.{length, drop, set, replicate}
+use lib.ListN.{length, drop, set}
 use Rattle.model.specs.Octets.{big}
 use Rattle.model.specs.Refusals.{number_of}
 use Rattle.model.specs.Base.{is_some}

@@ -1,12 +1,12 @@
 -- What the exported functions return and leave: numbers for a status, and the answers to questions as bytes (the C header says the same). Assumes nothing: these are definitions.
-use Rattle.std.specs.Prelude.{ℕ, Bool, true, false, List, [], ◌∷◌, ◌++◌, eqb, length}
+use Rattle.std.specs.Prelude.{ℕ, true, false, List, [], ◌∷◌, ◌++◌, eqb, length}
 use Rattle.model.specs.declared.Status.{Status}
 use Rattle.model.specs.declared.Status.TheVariants.{WrongLength}
 use Rattle.model.specs.Octets.{big}
 use Rattle.model.specs.Refusals.{number_of}
 use Rattle.model.specs.Catalog.{bit}
 use Rattle.model.specs.FirstRefusal.{given, ask_conditions}
-use Rattle.model.specs.Calls.{zeroed, Progress, mirror_progress, Presence, mirror_has_row}
+use Rattle.model.specs.Calls.{zeroed, mirror_progress, mirror_has_row}
 
 -- a question's status as a number, and its output
 pub record Output : Type 0 where

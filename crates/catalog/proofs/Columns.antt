@@ -1,29 +1,29 @@
 -- The test of a column's entry is that the entry keeps the rules and has no other bytes. Assumes nothing.
 use mathlib.Core.Path.{◌≡◌, refl, sym, ap, ◌∙◌}
-use mathlib.Core.Bool.{Bool, true, false, not, ◌&&◌, ◌||◌}
+use mathlib.Core.Bool.{Bool, true, false, ◌&&◌, ◌||◌}
 use mathlib.Core.List.{List, [], ◌∷◌, ◌++◌}
 use Prim.Native.Nat.{ℕ, zero, suc, ◌+◌, ◌^◌, ◌≤◌, ◌<◌}
 use native.Mathlib.Omega.{arith}
-use borrow.Author.Tests.{eq-eqb, ne_eqb, eqb-true, leb-true, le-leb, lt-ltb, ltb-true}
+use borrow.Author.Tests.{eq-eqb, eqb-true, leb-true, le-leb}
 use lib.Dec.{eqb, leb, ltb}
 use lib.Signed.{le_z}
 use lib.ListN.{length, get_or, take, drop, take-append-drop, drop_of_length-le, length-drop}
 use lib.Seq.{drop-cons, drop-drop, take_at, length-take-le}
 use Rattle.model.specs.Octets.{big, value, twos, part, eq_bytes}
-use Rattle.model.specs.Base.{all, every}
+use Rattle.model.specs.Base.{all}
 use Rattle.model.specs.Schema.{Base, integer, boolean, text, uuid, Refers, plain, strong, weak}
-use Rattle.model.specs.SchemaText.{is_id, base_number, least, greatest}
+use Rattle.model.specs.SchemaText.{base_number, least, greatest}
 use Rattle.model.specs.Value.{from_twos}
 use Rattle.model.specs.Sane.{refers_below, refers_as, limits_as, column_sane, sane_column}
 use Rattle.model.specs.Catalog.{base_numbered, refers_from, how_refers, target, bit, entry_name, name_bytes, column_from, column_entry}
-use Rattle.model.proofs.Tests.{and_l, and_r, parts, whole, bytes_same, bytes_self, clash, split}
+use Rattle.model.proofs.Tests.{and_l, and_r, parts, whole, bytes_same, bytes_self}
 use Rattle.model.proofs.Lists.{all_take, all_drop}
 use Rattle.model.proofs.Octets.{octet, big_value, part_lt}
 use Rattle.model.proofs.Signed.{from_twos_fits}
 use Rattle.model.proofs.Catalogs.{id_short, name_length, byte_past}
 use Rattle.catalog.specs.Judging.{name_fine, refers_fine, counts_fine, limits_fine, column_test, is_column}
 use Rattle.catalog.proofs.Twos.{twos_back, least_is, greatest_is}
-use Rattle.catalog.proofs.Names.{name_to, name_from, name_short, name_sized}
+use Rattle.catalog.proofs.Names.{name_to, name_from}
 
 -- two tests that go together
 pub both : (a b : Bool) → (a ≡ true → b ≡ true) → (b ≡ true → a ≡ true) → a ≡ b

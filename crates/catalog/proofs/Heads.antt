@@ -1,19 +1,18 @@
 -- The tests of a table's entry, of the database's and of one that is not in use are that the entry keeps the rules and has no other bytes. Assumes nothing.
 use mathlib.Core.Path.{◌≡◌, refl, sym, ap, ◌∙◌}
-use mathlib.Core.Bool.{Bool, true, false, ◌&&◌}
+use mathlib.Core.Bool.{true, false}
 use mathlib.Core.List.{List, [], ◌∷◌, ◌++◌, map, append_assoc, append-nil}
 use mathlib.Core.Option.{Option, none, some}
-use Prim.Native.Nat.{ℕ, zero, suc, ◌+◌, ◌-◌, ◌*◌, ◌≤◌, ◌<◌}
+use Prim.Native.Nat.{ℕ, zero, suc, ◌+◌, ◌-◌, ◌*◌, ◌≤◌}
 use native.Mathlib.Omega.{arith}
 use borrow.Author.Tests.{eq-eqb, eqb-true, leb-true, le-leb}
 use lib.Dec.{eqb, leb, ltb}
 use lib.ListN.{length, get_or, take, drop, replicate, take-append-drop, length-append, length-replicate, length-drop}
 use lib.Seq.{take_at, drop_at}
 use Rattle.model.specs.Octets.{big, value, part, eq_bytes}
-use Rattle.model.specs.Base.{all, every, is_some, flat}
-use Rattle.model.specs.SchemaText.{is_id}
+use Rattle.model.specs.Base.{all, is_some, flat}
 use Rattle.model.specs.Sane.{max_rows_sane, index_sane, sane_index}
-use Rattle.model.specs.Catalog.{entry_name, name_bytes, bit, number_or0, index_bytes, index_from, indexes_from, max_rows_from}
+use Rattle.model.specs.Catalog.{entry_name, name_bytes, bit, number_or0, index_bytes, indexes_from, max_rows_from}
 use Rattle.model.proofs.Tests.{and_l, and_r, parts, whole, bytes_same, clash}
 use Rattle.model.proofs.Octets.{octet, value_big_fits}
 use Rattle.model.proofs.Catalogs.{id_short, name_length, byte_past, drop_past}

@@ -1,20 +1,20 @@
 -- What the judge looks at, entry by entry, is that a catalog is accepted. Assumes nothing.
 use mathlib.Core.Path.{◌≡◌, refl, sym, ap, ◌∙◌}
-use mathlib.Core.Bool.{Bool, true, false, ◌&&◌}
+use mathlib.Core.Bool.{Bool, true, ◌&&◌}
 use mathlib.Core.List.{List, [], ◌∷◌, ◌++◌, map}
 use Prim.Native.Nat.{ℕ, zero, suc, ◌+◌, ◌-◌, ◌*◌, ◌≤◌, ◌<◌}
 use native.Mathlib.Omega.{arith}
 use borrow.Author.Tests.{le-leb, leb-true, lt-ltb, le-ltb}
-use lib.Dec.{leb, ltb}
+use lib.Dec.{leb}
 use lib.ListN.{length, get_or, take, drop, replicate, take-append-drop, drop_of_length-le, length-drop, length-append, length-map, length-replicate}
-use lib.Seq.{drop-cons, drop-drop, take_at, drop_at, take-add, take-take, length-take-le}
-use Rattle.model.specs.Octets.{big, eq_bytes}
+use lib.Seq.{drop-cons, drop-drop, take_at, drop_at, take-add, length-take-le}
+use Rattle.model.specs.Octets.{big}
 use Rattle.model.specs.Base.{all, distinct, eq_lists, is_some, flat}
-use Rattle.model.specs.Schema.{Column, Table, Database}
+use Rattle.model.specs.Schema.{Column, Table}
 use Rattle.model.specs.SchemaText.{is_id}
 use Rattle.model.specs.Sane.{max_rows_sane, sane_column, sane_index, table_sane, sane_table, database_sane, sane}
-use Rattle.model.specs.Catalog.{column_place, table_count, column_count, entry_name, column_from, index_bytes, number_or0, indexes_from, max_rows_from, name_bytes, bit, is_set, table_from, tables_from, database_from, column_entry, table_entry, database_entry, blank_entry, in_room, column_entries, catalog_of}
-use Rattle.model.proofs.Tests.{Trues, and_l, and_r, parts, whole, bytes_same, bytes_self, lists_same, lists_self}
+use Rattle.model.specs.Catalog.{column_place, table_count, entry_name, column_from, index_bytes, number_or0, indexes_from, max_rows_from, name_bytes, bit, is_set, table_from, tables_from, database_from, column_entry, table_entry, database_entry, blank_entry, in_room, column_entries, catalog_of}
+use Rattle.model.proofs.Tests.{Trues, and_l, and_r, parts, whole, bytes_same, lists_same, lists_self}
 use Rattle.model.proofs.Lists.{all_head, all_tail, all_cons, all_same}
 use Rattle.model.proofs.Catalogs.{width_read, t_narrow}
 use Rattle.catalog.specs.Accepted.{is_accepted}

@@ -1,7 +1,7 @@
 -- What an accepted catalog is, and how far its counts go. Assumes nothing.
-use mathlib.Core.Path.{◌≡◌, refl, sym, ap, ◌∙◌}
-use mathlib.Core.Bool.{Bool, true, ◌&&◌}
-use mathlib.Core.List.{List, [], ◌∷◌, ◌++◌, map}
+use mathlib.Core.Path.{◌≡◌, refl, ap, ◌∙◌}
+use mathlib.Core.Bool.{Bool, true}
+use mathlib.Core.List.{List, [], map}
 use Prim.Native.Nat.{ℕ, zero, suc, ◌+◌, ◌-◌, ◌≤◌, ◌<◌}
 use native.Mathlib.Omega.{arith}
 use borrow.Author.Tests.{le-leb, leb-true}
@@ -10,7 +10,7 @@ use lib.ListN.{length, get_or, replicate, length-append, length-map, length-repl
 use Rattle.model.specs.Base.{all, eq_lists}
 use Rattle.model.specs.Limits.{most_tables, most_columns, entry_count}
 use Rattle.model.specs.Schema.{Table, Database}
-use Rattle.model.specs.Catalog.{table_count, column_count, table_from, tables_from, database_from, table_entry, blank_entry, in_room, column_entries, database_entry, catalog_of}
+use Rattle.model.specs.Catalog.{table_count, column_count, tables_from, database_from, table_entry, blank_entry, in_room, column_entries, catalog_of}
 use Rattle.model.specs.Sane.{database_sane, sane_table, sane}
 use Rattle.model.proofs.Tests.{and_l, and_r, parts, lists_same}
 use Rattle.model.proofs.Lists.{all_append, all_same, all_at}

@@ -1,5 +1,5 @@
 -- What follows the name in a column's entry written anew. Assumes nothing: these are definitions.
-use Rattle.std.specs.Prelude.{ℕ, ◌+◌, List, [], ◌∷◌, ◌++◌, get_or}
+use Rattle.std.specs.Prelude.{ℕ, List, [], ◌∷◌, ◌++◌, get_or}
 use Rattle.model.specs.Octets.{big, value, twos, part}
 use Rattle.model.specs.Value.{from_twos}
 use Rattle.model.specs.SchemaText.{base_number}

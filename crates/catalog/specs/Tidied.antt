@@ -1,5 +1,5 @@
 -- Entries written anew from what they say, so that no unused byte is left. Assumes nothing: these are definitions.
-use Rattle.std.specs.Prelude.{ℕ, ◌+◌, ◌-◌, ◌*◌, ◌≤◌, ◌<◌, ◌≡◌, true, List, [], ◌∷◌, ◌++◌, map, length, get_or, replicate}
+use Rattle.std.specs.Prelude.{ℕ, ◌+◌, ◌-◌, ◌*◌, ◌≤◌, ◌<◌, ◌≡◌, true, List, ◌∷◌, ◌++◌, map, length, get_or, replicate}
 use Rattle.model.specs.Octets.{big}
 use Rattle.model.specs.Limits.{most_tables, most_columns, most_indexes, most_index_columns, entry_count}
 use Rattle.model.specs.Base.{is_some, flat}

@@ -4,7 +4,7 @@ use mathlib.Core.Bool.{true, false}
 use mathlib.Core.List.{List, [], ◌∷◌}
 use Prim.Native.Nat.{ℕ, zero, suc, ◌+◌, ◌≤◌, ◌<◌}
 use native.Mathlib.Omega.{arith}
-use borrow.Author.Tests.{eq-eqb, ne_eqb, eqb-false, ltb-true, ltb-false, lt-ltb}
+use borrow.Author.Tests.{ne_eqb, ltb-true, ltb-false, lt-ltb}
 use lib.Dec.{eqb, ltb}
 use lib.ListN.{length, get_or, drop}
 use Rattle.model.specs.Schema.{Schema}
@@ -15,7 +15,6 @@ use Rattle.model.specs.Areas.{row_from}
 use Rattle.inner.specs.Working.{working, key_in, Ordered, place_from, place}
 use Rattle.inner.proofs.Working.{row_key, working_on, working_end, working_at, working_length}
 use Rattle.inner.proofs.Ordering.{ordered_sorted}
-use Rattle.model.specs.declared.Found.{Found}
 use Rattle.model.specs.declared.Found.TheVariants.{At, Nothing}
 use Rattle.changes.specs.Walk.{fore}
 

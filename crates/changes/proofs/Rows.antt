@@ -3,8 +3,7 @@ use mathlib.Core.Path.{◌≡◌, refl, sym, ap, subst, ◌∙◌}
 use mathlib.Core.Bool.{Bool, true, false}
 use mathlib.Core.List.{List, [], ◌∷◌, ◌++◌}
 use mathlib.Core.Option.{some}
-use Prim.Native.Nat.{ℕ, suc, ◌+◌, ◌*◌, ◌≤◌, ◌<◌, min}
-use native.Mathlib.Nat.{mul-suc, mul-le-mul_left}
+use Prim.Native.Nat.{ℕ, suc, ◌+◌, ◌≤◌, ◌<◌, min}
 use native.Mathlib.Numerals.{add-one}
 use native.Mathlib.Omega.{arith}
 use borrow.Author.Tests.{leb-true, leb-false}
@@ -15,11 +14,11 @@ use Rattle.model.specs.Schema.{Schema, columns_of}
 use Rattle.model.specs.Value.{Value, initial}
 use Rattle.model.specs.Limits.{most_rows, rows_offset, store_bytes}
 use Rattle.model.specs.Octets.{value}
-use Rattle.model.specs.Rows.{Row, key_of, key, find, has, initials}
+use Rattle.model.specs.Rows.{Row, key_of, find, has, initials}
 use Rattle.model.specs.Areas.{row_from}
 use Rattle.inner.specs.Positions.{is_nothing}
 use Rattle.inner.specs.Working.{working, table_in, id_in, key_in, value_in, place}
-use Rattle.model.specs.Records.{Change, born, gone, column, end, gones, writes, never, row_writes, walk, closed}
+use Rattle.model.specs.Records.{Change, born, gone, column, end, gones, writes, never, walk, closed}
 use Rattle.model.specs.declared.Found.{Found}
 use Rattle.model.specs.declared.Found.TheVariants.{At, Nothing}
 use Rattle.model.proofs.Tests.{split}

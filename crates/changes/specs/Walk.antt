@@ -1,5 +1,5 @@
 -- The records of a commit as they are written one after another into a buffer (document 01, "Records on the line"). Assumes nothing: these are definitions.
-use Rattle.std.specs.Prelude.{ℕ, suc, ◌+◌, ◌*◌, ◌≤◌, ◌<◌, ◌≡◌, Bool, true, false, List, [], ◌∷◌, ◌++◌, ltb, length}
+use Rattle.std.specs.Prelude.{ℕ, suc, ◌+◌, ◌*◌, ◌≤◌, ◌<◌, ◌≡◌, Bool, true, false, List, [], ◌∷◌, ltb, length}
 use Rattle.model.specs.Limits.{most_columns, most_rows, store_bytes, row_record_bytes, column_record_bytes, least_records}
 use Rattle.model.specs.Schema.{Schema}
 use Rattle.model.specs.Value.{Value, same_value}

@@ -1,26 +1,25 @@
 -- The elements of a condition as they are kept, and those that no column can have. Assumes nothing.
-use mathlib.Core.Path.{◌≡◌, refl, sym, ap, subst, ◌∙◌}
-use mathlib.Core.Bool.{Bool, true, false, not, ◌&&◌, ◌||◌}
-use mathlib.Core.List.{List, [], ◌∷◌, ◌++◌}
+use mathlib.Core.Path.{◌≡◌, refl, sym, ap, ◌∙◌}
+use mathlib.Core.Bool.{Bool, true, false, not, ◌&&◌}
+use mathlib.Core.List.{List, [], ◌∷◌}
 use mathlib.Core.Option.{Option, none, some}
-use Prim.Native.Nat.{ℕ, ◌+◌, ◌-◌, ◌≤◌, ◌<◌}
+use Prim.Native.Nat.{ℕ, ◌-◌}
 use native.Mathlib.Omega.{arith}
 use lib.Dec.{eqb, leb, ltb}
-use lib.ListN.{length, get_or, take, replicate, length-append, length-replicate}
+use lib.ListN.{length, take, replicate, length-append, length-replicate}
 use lib.Seq.{take-append_seam}
 use borrow.Author.Tests.{eqb-true, le-leb, ltb-true}
-use Rattle.model.specs.Limits.{most_elements, atom_bytes, most_text_bytes}
+use Rattle.model.specs.Limits.{atom_bytes, most_text_bytes}
 use Rattle.model.specs.Octets.{eq_bytes}
 use Rattle.model.specs.Base.{if◌then◌else◌, any, all, member, distinct, eq_lists}
 use Rattle.model.specs.Json.{Json}
 use Rattle.model.specs.Schema.{Base, integer, boolean, text, uuid, Column, scalar}
-use Rattle.model.specs.Value.{blank, pad, text_atom, less_atom, placed, sorted, value_of}
-use Rattle.model.specs.Faults.{is_fine, check}
-use Rattle.model.specs.Written.{Names, string_in, atom_in, elements_in, long_atom, set_count, test_fault, written}
-use Rattle.model.specs.Conditions.{orders, is_integer_base, allowed, compare}
+use Rattle.model.specs.Value.{blank, text_atom, less_atom, placed, sorted, value_of}
+use Rattle.model.specs.Faults.{is_fine}
+use Rattle.model.specs.Written.{Names, string_in, elements_in, long_atom, set_count, test_fault, written}
+use Rattle.model.specs.Conditions.{orders}
 use Rattle.model.specs.declared.Fault.TheVariants.{Fine, Constraint}
 use Rattle.model.specs.declared.Function.{Function}
-use Rattle.model.specs.declared.Function.TheVariants.{Less, AtMost, Equal, Unequal, AtLeast, Greater, Includes, Excludes}
 use Rattle.model.proofs.Tests.{split, clash, lists_same, bytes_self, and_l, and_r}
 use Rattle.model.proofs.Sets.{sorted_length}
 use Rattle.model.proofs.FaultLaws.{check_fine}
@@ -29,9 +28,9 @@ use Rattle.element_atoms.specs.Atoms.{cell_of, atom_as, atoms_of, Reads}
 use Rattle.element_atoms.proofs.Reading.{long_other}
 use Rattle.request_values.specs.Values.{atoms_as}
 use Rattle.request_values.proofs.Fits.{fine_judged}
-use Rattle.marks.specs.Marks.{every, met, kept_as, Sized}
+use Rattle.marks.specs.Marks.{every, met, Sized}
 use Rattle.marks.proofs.Meeting.{other_length}
-use Rattle.conditions.specs.Tests.{fits, KeptAs, storing}
+use Rattle.conditions.specs.Tests.{fits, storing}
 
 -- ── as they are kept ──
 module _ (n : ℕ) (l : List (List ℕ)) (m : n ≡ length l) where

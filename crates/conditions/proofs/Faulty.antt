@@ -4,21 +4,20 @@ use mathlib.Core.Bool.{true, false, not, ◌&&◌, ◌||◌}
 use mathlib.Core.List.{List, [], ◌∷◌, map}
 use mathlib.Core.Option.{Option, none, some}
 use Prim.Native.Nat.{ℕ, ◌<◌}
-use native.Mathlib.Omega.{arith}
-use lib.Dec.{eqb, leb}
+use lib.Dec.{eqb}
 use lib.ListN.{length, get_or}
 use Rattle.model.specs.declared.Found.{Found}
 use Rattle.model.specs.declared.Found.TheVariants.{At, Nothing}
 use Rattle.model.specs.declared.Fault.{Fault}
-use Rattle.model.specs.declared.Fault.TheVariants.{Fine, Syntax, Resources, Duplicate, Constraint, Domain, Range, Aborted, Integrity}
+use Rattle.model.specs.declared.Fault.TheVariants.{Fine, Syntax}
 use Rattle.model.specs.declared.Function.{Function}
 use Rattle.model.specs.Json.{Json}
 use Rattle.inner.specs.Positions.{tree_at, well_at, next_item}
 use Rattle.inner.specs.Positions as Text
 use Rattle.model.specs.Catalog.{base_numbered}
 use Rattle.model.specs.Schema.{Column, scalar}
-use Rattle.model.specs.Faults.{rank, earlier}
-use Rattle.model.specs.Written.{Names, string_in, test_fault, written}
+use Rattle.model.specs.Faults.{earlier}
+use Rattle.model.specs.Written.{Names, test_fault, written}
 use Rattle.model.specs.Conditions.{Subject, id_column, is_integer_base, orders, allowed, no_test, test_by, test_of, subject_named, function_named, read_tests}
 use Rattle.model.specs.Catalog.{column_from}
 use Rattle.model.proofs.Tests.{split}

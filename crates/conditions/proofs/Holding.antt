@@ -1,37 +1,28 @@
 -- What conditions without a fault say of a row. Assumes nothing.
 use mathlib.Core.Path.{◌≡◌, refl, sym, ap, subst, ◌∙◌}
 use mathlib.Core.Bool.{Bool, true, false, not, ◌&&◌, ◌||◌}
-use mathlib.Core.List.{List, [], ◌∷◌, ◌++◌, map}
+use mathlib.Core.List.{List, [], ◌∷◌, map}
 use mathlib.Core.Option.{none, some}
-use Prim.Native.Nat.{ℕ, ◌-◌, ◌<◌, ◌≤◌, min}
+use Prim.Native.Nat.{ℕ, ◌<◌}
 use native.Mathlib.Omega.{arith}
-use borrow.Author.Tests.{eq-eqb, ne_eqb}
-use lib.Dec.{eqb}
-use lib.ListN.{length, get_or, take, drop, replicate, length-map}
-use lib.Seq.{length-take-le}
-use Rattle.model.specs.declared.Found.{Found}
-use Rattle.model.specs.declared.Found.TheVariants.{At, Nothing}
+use lib.ListN.{length, get_or, length-map}
 use Rattle.model.specs.declared.Function.{Function}
-use Rattle.model.specs.Octets.{value}
-use Rattle.model.specs.Base.{if◌then◌else◌, all}
+use Rattle.model.specs.Base.{if◌then◌else◌}
 use Rattle.model.specs.Json.{Json}
-use Rattle.inner.specs.Positions.{next_item}
 use Rattle.model.specs.Schema.{Base, integer, boolean, text, uuid, Column, scalar, Schema, columns_of}
 use Rattle.model.specs.Catalog.{base_numbered}
-use Rattle.model.specs.Value.{uuid_atom, pad, elements, Value}
+use Rattle.model.specs.Value.{uuid_atom, elements}
 use Rattle.model.specs.Faults.{Judged, is_fine}
 use Rattle.model.specs.Written.{Names, test_fault, written}
-use Rattle.model.specs.Conditions.{Subject, id_column, is_integer_base, orders, allowed, Test, no_test, test_by, test_of, compare, holds, matches}
+use Rattle.model.specs.Conditions.{Subject, id_column, is_integer_base, orders, allowed, no_test, test_by, test_of, compare, holds}
 use Rattle.model.specs.Areas.{row_from}
 use Rattle.model.specs.Catalog.{column_from}
 use Rattle.inner.specs.Working.{table_in, id_in, value_in}
 use Rattle.model.proofs.Tests.{split, clash, and_l, and_r}
-use Rattle.model.proofs.Octets.{octet, big_value}
-use Rattle.model.proofs.FaultLaws.{earlier_fine}
 use Rattle.inner.proofs.Columns.{column_value_lem}
-use Rattle.inner.proofs.Working.{row_table, row_id}
+use Rattle.inner.proofs.Working.{row_id}
 use Rattle.request_values.specs.Values.{atoms_as}
-use Rattle.request_values.proofs.Fits.{fine_typed, fine_got}
+use Rattle.request_values.proofs.Fits.{fine_got}
 use Rattle.conditions.specs.declared.Named.{Named}
 use Rattle.conditions.specs.declared.Named.TheVariants as named
 use Rattle.conditions.specs.Tests.{About, subject_in, column_fault, test_as}

@@ -1,13 +1,13 @@
 -- The items of an array one after another: a name, a word and a value, or not. Assumes nothing.
 use mathlib.Core.Path.{◌≡◌, refl, sym, ap, subst, ◌∙◌}
-use mathlib.Core.List.{List, [], ◌∷◌}
-use mathlib.Core.Bool.{Bool, true, false, ◌&&◌}
+use mathlib.Core.List.{List, ◌∷◌}
+use mathlib.Core.Bool.{true, false}
 use mathlib.Core.Option.{Option, none, some}
 use Prim.Native.Nat.{ℕ}
 use Rattle.model.specs.declared.Found.TheVariants.{At, Nothing}
 use Rattle.model.specs.Json.{Json, null, bool, num, str, arr, obj}
 use Rattle.inner.specs.Positions.{well_at, tree_at, first_of, next_item, items_from, items_fine}
-use Rattle.model.specs.Nav.{list_of, items_in, kind_of, is_text}
+use Rattle.model.specs.Nav.{items_in, kind_of, is_text}
 use Rattle.inner.specs.Positions as Text
 use Rattle.model.specs.Written.{string_in}
 use Rattle.model.specs.Conditions.{triple_of, triple_items, triple_in}

@@ -1,6 +1,6 @@
 -- What conditions come to: their faults, and the marks that they leave. Assumes nothing.
 use mathlib.Core.Path.{◌≡◌, refl, sym, ap, subst, ◌∙◌}
-use mathlib.Core.Bool.{Bool, true, false, not, ◌&&◌}
+use mathlib.Core.Bool.{Bool, true, false, ◌&&◌}
 use mathlib.Core.List.{List, [], ◌∷◌, map}
 use mathlib.Core.Option.{some}
 use Prim.Native.Nat.{ℕ, zero, suc, ◌≤◌, ◌<◌}
@@ -9,25 +9,20 @@ use lib.Dec.{eqb}
 use lib.ListN.{length, get_or, take}
 use borrow.Author.Tests.{eqb-true}
 use Rattle.model.specs.declared.Fault.{Fault}
-use Rattle.model.specs.declared.Fault.TheVariants.{Fine, Syntax}
-use Rattle.model.specs.declared.Found.{Found}
-use Rattle.model.specs.declared.Found.TheVariants.{At, Nothing}
+use Rattle.model.specs.declared.Fault.TheVariants.{Syntax}
 use Rattle.model.specs.declared.Function.{Function}
 use Rattle.model.specs.declared.Function.TheVariants.{Less, AtMost, Equal, Unequal, AtLeast, Greater, Includes, Excludes}
 use Rattle.model.specs.Base.{all}
 use Rattle.model.specs.Json.{Json}
-use Rattle.inner.specs.Positions.{next_item}
 use Rattle.model.specs.Schema.{Base, Column, Schema, columns_of}
-use Rattle.model.specs.Faults.{Judged, is_fine, earlier}
-use Rattle.model.specs.Value.{value_of, sorted, elements}
-use Rattle.model.specs.Written.{Names, test_fault, written, fitting}
+use Rattle.model.specs.Faults.{Judged, is_fine}
+use Rattle.model.specs.Written.{Names, test_fault, written}
 use Rattle.model.specs.Areas.{row_from}
 use Rattle.model.specs.Catalog.{column_from}
-use Rattle.inner.specs.Working.{table_in, id_in}
+use Rattle.inner.specs.Working.{table_in}
 use Rattle.model.specs.Conditions.{id_column, orders, allowed, compare, Test, no_test, holds, matches}
 use Rattle.model.proofs.Tests.{split, clash, and_l}
 use Rattle.model.proofs.Sets.{sorted_length}
-use Rattle.model.proofs.FaultLaws.{earlier_fine}
 use Rattle.model.proofs.WrittenLaws.{fitting_parts}
 use Rattle.inner.proofs.Working.{row_table}
 use Rattle.request_values.specs.Values.{atoms_as, TestGiven}
@@ -39,8 +34,8 @@ use Rattle.marks.proofs.Atoms.{and_true}
 use Rattle.marks.proofs.Meeting.{three, narrowed_as, met_kept}
 use Rattle.conditions.specs.declared.Named.{Named}
 use Rattle.conditions.specs.declared.Named.TheVariants as named
-use Rattle.conditions.specs.Tests.{About, subject_in, column_fault, test_as, test_at, tests_at, fits, KeptAs, Beyond, ValueNarrowed, TestNarrowed, TestsNarrowed}
-use Rattle.conditions.proofs.Faulty.{fault_allowed, fault_not, column_judged, id_judged, got_on, tests_end}
+use Rattle.conditions.specs.Tests.{About, subject_in, column_fault, test_as, fits, KeptAs, Beyond, ValueNarrowed, TestNarrowed}
+use Rattle.conditions.proofs.Faulty.{fault_allowed, fault_not, column_judged, id_judged}
 use Rattle.conditions.proofs.Holding.{ordered, column_says, id_says}
 use Rattle.conditions.proofs.Beyond.{order_fits}
 

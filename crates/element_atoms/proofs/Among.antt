@@ -1,9 +1,8 @@
 -- A test of each element, from a place on. Assumes nothing.
-use mathlib.Core.Path.{◌≡◌, refl, sym, ap, ◌∙◌}
+use mathlib.Core.Path.{◌≡◌, refl, ap, ◌∙◌}
 use mathlib.Core.Bool.{Bool, true, false, ◌||◌}
-use mathlib.Core.List.{List, [], ◌∷◌, map}
-use mathlib.Core.Option.{none, some}
-use Prim.Native.Nat.{ℕ, suc, ◌<◌}
+use mathlib.Core.List.{List, [], ◌∷◌}
+use Prim.Native.Nat.{ℕ, ◌<◌}
 use native.Mathlib.Omega.{arith}
 use lib.ListN.{length, length-append}
 use Rattle.model.specs.declared.Found.{Found}
@@ -15,7 +14,7 @@ use Rattle.inner.specs.Positions.{tree_at}
 use Rattle.model.specs.Text.{is_word}
 use Rattle.model.specs.Schema.{Base, text}
 use Rattle.model.specs.Value.{blank, text_atom}
-use Rattle.model.specs.Written.{Names, atom_in}
+use Rattle.model.specs.Written.{Names}
 use Rattle.octets.proofs.Orders.{eq_length}
 use Rattle.elements.specs.Elements.{elements_from, next_element}
 use Rattle.elements.proofs.Walk.{walk_rest, walk_end}

@@ -1,25 +1,22 @@
 -- An element read as an atom, by its base type. Assumes nothing.
 use mathlib.Core.Path.{◌≡◌, refl, sym, ap, subst, ◌∙◌}
 use mathlib.Core.Bool.{Bool, true, false}
-use mathlib.Core.List.{List, [], ◌∷◌, ◌++◌}
+use mathlib.Core.List.{List, ◌∷◌}
 use mathlib.Core.Option.{Option, none, some}
-use Prim.Native.Nat.{ℕ, zero, suc, ◌+◌, ◌-◌, ◌<◌, ◌≤◌}
+use Prim.Native.Nat.{ℕ, zero, suc, ◌+◌, ◌-◌, ◌<◌}
 use native.Mathlib.Omega.{arith}
-use lib.Dec.{ltb}
-use lib.ListN.{length, get_or, drop, replicate, length-append, length-replicate}
+use lib.ListN.{length, drop, replicate, length-append, length-replicate}
 use borrow.Author.Tests.{le-ltb}
 use Rattle.model.specs.Octets.{big, twos, eq_bytes}
 use Rattle.model.specs.Json.{Json, null, bool, num, str, arr, obj}
 use Rattle.model.specs.Nav.{kind_of, is_text, is_truth}
 use Rattle.inner.specs.Positions.{is_true}
-use Rattle.model.specs.Text.{is_word}
 use Rattle.inner.specs.Positions.{word_in as string}
 use Rattle.model.specs.declared.Whole.{Whole}
 use Rattle.model.specs.Whole.{whole_of, is_whole, whole_int}
 use Rattle.model.specs.Schema.{Base, integer, boolean, text, uuid}
-use Rattle.model.specs.Catalog.{base_numbered}
 use Rattle.model.specs.Value.{pad, blank, int_atom, bool_atom, text_atom, text_of}
-use Rattle.model.specs.Written.{Names, string_in, bool_in, atom_in, long_atom}
+use Rattle.model.specs.Written.{Names, bool_in, atom_in, long_atom}
 use Rattle.model.proofs.Tests.{split, clash, bytes_same, bytes_self}
 use Rattle.model.proofs.Atoms.{text_of_text_atom}
 use Rattle.octets.proofs.Orders.{eq_length}

@@ -10,7 +10,7 @@ use lib.ListN.{length}
 use borrow.Author.Tests.{lt-ltb}
 use Rattle.model.specs.declared.Found.{Found}
 use Rattle.model.specs.declared.Found.TheVariants.{At, Nothing}
-use Rattle.model.specs.Base.{any, all, is_some, member, distinct}
+use Rattle.model.specs.Base.{any, is_some, member, distinct}
 use Rattle.model.specs.Json.{Json}
 use Rattle.inner.specs.Positions.{tree_at}
 use Rattle.model.specs.Text.{is_word, chars}

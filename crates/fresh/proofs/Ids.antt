@@ -1,7 +1,7 @@
 -- Fresh ids, one by one. Assumes nothing.
 use mathlib.Core.Path.{◌≡◌, refl, sym, ap, ◌∙◌}
 use mathlib.Core.List.{List, [], ◌∷◌, ◌++◌, append-nil}
-use mathlib.Core.Bool.{Bool, true, false, not, ◌&&◌, ◌||◌}
+use mathlib.Core.Bool.{Bool, true, false, not, ◌&&◌}
 use Prim.Native.Nat.{ℕ, zero, suc, ◌+◌, ◌*◌, ◌≤◌, ◌<◌}
 use native.Mathlib.Omega.{arith}
 use lib.Dec.{eqb}
@@ -11,7 +11,6 @@ use Rattle.model.specs.Octets.{value}
 use Rattle.model.specs.Base.{any}
 use Rattle.model.specs.Rows.{Row, has_id}
 use Rattle.model.specs.Transact.{ids_from, fresh_ids, ids_good}
-use Rattle.model.proofs.Tests.{split}
 use Rattle.fresh.specs.Fresh.{fresh_from, fresh_at, FreshId, id_good, fresh_good}
 
 ids_length : (n : ℕ) (b : List ℕ) → length (ids_from n b) ≡ n

@@ -1,8 +1,8 @@
 -- The first loose row, by its place and its key. Assumes nothing.
 use mathlib.Core.Path.{◌≡◌, refl, sym, ap, ◌∙◌}
 use mathlib.Core.Bool.{Bool, true, false}
-use mathlib.Core.List.{List, [], ◌∷◌}
-use mathlib.Core.Option.{Option, none, some}
+use mathlib.Core.List.{List, []}
+use mathlib.Core.Option.{none, some}
 use Prim.Native.Nat.{ℕ, zero, suc, ◌+◌, ◌-◌, ◌≤◌, ◌<◌}
 use native.Mathlib.Omega.{arith}
 use lib.ListN.{length, get_or, drop}
@@ -10,8 +10,7 @@ use Rattle.model.specs.Schema.{Schema}
 use Rattle.model.specs.Rows.{Row, remove}
 use Rattle.model.specs.Commit.{loose, first_loose, collect}
 use Rattle.model.specs.Areas.{row_from}
-use Rattle.inner.specs.Working.{working, key_in, Ordered, place}
-use Rattle.model.specs.declared.Found.{Found}
+use Rattle.inner.specs.Working.{working, key_in, Ordered}
 use Rattle.model.specs.declared.Found.TheVariants.{At, Nothing}
 use Rattle.inner.proofs.Working.{row_key, working_on, working_end, working_length}
 use Rattle.inner.proofs.Places.{place_at}

@@ -1,21 +1,18 @@
 -- Rows weakened one after another, where each looks only at keys, which stay. Assumes nothing.
 use mathlib.Core.Path.{◌≡◌, refl, sym, ap, ◌∙◌}
-use mathlib.Core.Bool.{Bool, true, false, ◌||◌}
-use mathlib.Core.List.{List, [], ◌∷◌, ◌++◌, map}
+use mathlib.Core.List.{List, [], ◌∷◌, map}
 use Prim.Native.Nat.{ℕ, zero, suc, ◌+◌, ◌≤◌, ◌<◌}
 use native.Mathlib.Numerals.{add-one}
 use native.Mathlib.Omega.{arith}
-use lib.Dec.{eqb}
-use lib.ListN.{length, get_or, take, drop, set, length-set}
+use lib.ListN.{length, get_or, take, set, length-set}
 use lib.Seq.{take-set-lt, length-take-le, get_or-take}
-use Rattle.model.specs.Base.{keep}
 use Rattle.model.specs.Schema.{Refers, plain, strong, weak, Column, Schema, columns_of}
 use Rattle.model.specs.Value.{Value, elements, value_of, uuid_of}
 use Rattle.model.specs.Rows.{Row, key_of, key, has}
-use Rattle.model.specs.Commit.{present, weaken_value, weaken_columns, weaken_row, weaken}
+use Rattle.model.specs.Commit.{present, weaken_value, weaken_columns, weaken_row}
 use Rattle.model.specs.Areas.{row_from}
-use Rattle.inner.specs.Working.{working, TidyRow, Tidy, Ordered}
-use Rattle.inner.proofs.Working.{working_at, working_on, working_length}
+use Rattle.inner.specs.Working.{working, Tidy, Ordered}
+use Rattle.inner.proofs.Working.{working_at, working_length}
 use Rattle.inner.proofs.Places.{working_set, tidy_set, tidy_at}
 use Rattle.inner.proofs.Ordering.{working_keys, keys_ordered}
 use Rattle.references.proofs.Keeping.{keep_alike}

@@ -1,13 +1,13 @@
 -- The row that goes next, by its place. Assumes nothing: these are definitions.
-use Rattle.std.specs.Prelude.{ℕ, zero, suc, ◌≤◌, ◌≡◌, Bool, true, false, not, ◌&&◌, List, [], ◌∷◌, eqb, length, take}
+use Rattle.std.specs.Prelude.{ℕ, ◌≤◌, ◌≡◌, Bool, not, ◌&&◌, List, eqb, take}
 use Rattle.model.specs.Base.{any}
 use Rattle.model.specs.Schema.{Schema}
 use Rattle.model.specs.Rows.{Row, key}
-use Rattle.model.specs.Commit.{strong_of, loose, first_loose, collect, weaken}
-use Rattle.inner.specs.Working.{working, key_in, place, Tidy, Ordered}
+use Rattle.model.specs.Commit.{strong_of, first_loose, collect}
+use Rattle.inner.specs.Working.{working, place, Tidy, Ordered}
 use Rattle.model.specs.declared.Found.{Found}
 use Rattle.model.specs.declared.Found.TheVariants.{At, Nothing}
-use Rattle.std.proofs.Math.Option.{Option, none, some}
+use Rattle.std.proofs.Math.Option.{none, some}
 
 -- "a strong reference from a different row": row q holds the row under a key
 unfoldable pub holds : Schema → ℕ → Row → Bool

@@ -2,7 +2,6 @@
 use mathlib.Core.Path.{◌≡◌, refl, sym, ap, ◌∙◌}
 use mathlib.Core.List.{List, [], ◌∷◌, ◌++◌, map, append_assoc}
 use Prim.Native.Nat.{ℕ, zero, suc, ◌+◌, ◌-◌, ◌*◌, ◌≤◌, ◌<◌}
-use native.Mathlib.Nat.{add_assoc, mul-suc, add_comm}
 use native.Mathlib.Omega.{arith}
 use lib.ListN.{length, get_or, take, drop, set, replicate, length-append, length-drop, length-set, length-map}
 use lib.Seq.{take_at, drop_at, take-add, drop-drop, drop-set-add, take-set-le, get_or-set_other, get_or-drop, length-take-le, take-append-le, drop-append-le, set-append_left}

@@ -10,7 +10,6 @@ use Rattle.model.specs.Octets.{value}
 use Rattle.model.specs.Base.{all}
 use Rattle.model.specs.Schema.{Column, Schema, columns_of}
 use Rattle.model.specs.Value.{Value, blank, initial}
-use Rattle.model.specs.Rows.{Row}
 use Rattle.model.specs.Areas.{head_cell, atom_cells, row_cells, row_from}
 use Rattle.inner.specs.Working.{minimums, born_count, new_row, TidyRow}
 use Rattle.model.proofs.Tests.{split}

@@ -1,11 +1,9 @@
 -- Working rows in order: their keys ascend just where the rows that they stand for are sorted. Assumes nothing.
 use mathlib.Core.Path.{◌≡◌, refl, sym, ap, ◌∙◌}
-use mathlib.Core.Bool.{true, false}
 use mathlib.Core.List.{List, [], ◌∷◌, map}
-use Prim.Native.Nat.{ℕ, zero, suc, ◌+◌, ◌-◌, ◌≤◌, ◌<◌}
+use Prim.Native.Nat.{ℕ, zero, suc, ◌+◌, ◌≤◌, ◌<◌}
 use native.Mathlib.Omega.{arith}
 use borrow.Author.Tests.{eq-eqb, ne_eqb}
-use lib.Dec.{eqb}
 use lib.ListN.{length, get_or, take, get_or-map, length-map}
 use lib.Seq.{get_or-take, length-take-le}
 use Rattle.model.specs.Schema.{Schema}
@@ -14,7 +12,6 @@ use Rattle.model.specs.Areas.{row_from}
 use Rattle.model.proofs.Order as rows
 use Rattle.model.proofs.Order.{Sorted}
 use Rattle.inner.specs.Working.{working, key_in, Above, Ascending, Ordered, place_from, place, removed}
-use Rattle.model.specs.declared.Found.{Found}
 use Rattle.model.specs.declared.Found.TheVariants.{At}
 use Rattle.inner.proofs.Working.{row_key, working_at, working_length}
 use Rattle.inner.proofs.Places.{map_removed}

@@ -1,28 +1,24 @@
 -- Working rows: their keys as bytes, the walk over them, and a row put in, taken out or changed at its place. Assumes nothing.
 use mathlib.Core.Path.{◌≡◌, refl, sym, ap, ◌∙◌}
 use mathlib.Core.Bool.{Bool, true, false, ◌&&◌, ◌||◌}
-use mathlib.Core.List.{List, [], ◌∷◌, ◌++◌, map, map-append}
-use mathlib.Core.Option.{some}
-use Prim.Native.Nat.{ℕ, zero, suc, ◌+◌, ◌-◌, ◌*◌, ◌^◌, ◌≤◌, ◌<◌}
-use native.Mathlib.Nat.{mul_comm, zero-add}
+use mathlib.Core.List.{List, [], ◌∷◌, map}
+use Prim.Native.Nat.{ℕ, zero, suc, ◌+◌, ◌*◌, ◌^◌, ◌≤◌, ◌<◌}
 use native.Mathlib.Numerals.{add-one}
 use native.Mathlib.Omega.{arith}
-use borrow.Author.Tests.{eq-eqb, ne_eqb, lt-ltb, le-ltb, eqb-true, eqb-false, ltb-true, ltb-false}
+use borrow.Author.Tests.{eq-eqb, lt-ltb, le-ltb, eqb-true, eqb-false, ltb-true, ltb-false}
 use lib.Arith.{digits_lt}
 use lib.Dec.{eqb, ltb}
-use lib.ListN.{length, get_or, take, drop, set, length-map, get_or-map, drop_of_length-le}
-use lib.Seq.{length-take-le, drop-cons, get_or-take, take-set-lt, take-set-le}
-use Rattle.model.specs.Octets.{big, value, part, eq_bytes, lt_bytes}
+use lib.ListN.{length, get_or, take, drop, length-map, get_or-map, drop_of_length-le}
+use lib.Seq.{length-take-le, drop-cons, get_or-take}
+use Rattle.model.specs.Octets.{value, part, eq_bytes, lt_bytes}
 use Rattle.model.specs.Base.{all}
 use Rattle.model.specs.Schema.{Schema}
-use Rattle.model.specs.Value.{Value}
-use Rattle.model.specs.Rows.{Row, key_of, key, find, has, has_id, add, remove, set_column, change}
-use Rattle.model.specs.Areas.{row_cells, row_from}
-use Rattle.inner.specs.Working.{working, table_in, id_in, key_in, TidyRow, Tidy, place_from, place, slot, inserted, removed}
-use Rattle.model.specs.declared.Found.{Found}
+use Rattle.model.specs.Rows.{Row, key_of, key, has_id}
+use Rattle.model.specs.Areas.{row_from}
+use Rattle.inner.specs.Working.{working, table_in, id_in, key_in, place_from, slot}
 use Rattle.model.specs.declared.Found.TheVariants.{At, Nothing}
-use Rattle.model.proofs.Tests.{split, clash, and_l, and_r, bytes_same, bytes_self}
-use Rattle.model.proofs.Lists.{all_head, all_tail, all_cons}
+use Rattle.model.proofs.Tests.{split, bytes_same, bytes_self}
+use Rattle.model.proofs.Lists.{all_tail, all_cons}
 use Rattle.model.proofs.Octets.{octet, value_lt, value_inj}
 
 -- ── bytes and the numbers that they stand for ──

@@ -1,5 +1,5 @@
 -- The working rows of a call: rows in cells, beside their count, and the rows that they stand for. No statement needs these: inner promises do. Assumes nothing: these are definitions.
-use Rattle.std.specs.Prelude.{◌≡◌, true, false, List, [], ◌∷◌, ◌++◌, map, ℕ, zero, suc, ◌+◌, ◌-◌, ◌*◌, ◌≤◌, ◌<◌, eqb, ltb, length, get_or, take, drop, set, replicate}
+use Rattle.std.specs.Prelude.{◌≡◌, true, false, List, [], ◌∷◌, ◌++◌, map, ℕ, suc, ◌+◌, ◌-◌, ◌*◌, ◌≤◌, ◌<◌, eqb, ltb, length, get_or, take, drop, set, replicate}
 use Rattle.model.specs.Octets.{value, part}
 use Rattle.model.specs.Limits.{most_columns, most_elements, id_bytes, id_offset, counts_offset}
 use Rattle.model.specs.Schema.{Column, Schema}

@@ -1,8 +1,8 @@
 -- What reads where so many levels may be opened reads the same where more may be. Assumes nothing.
-use mathlib.Core.Path.{◌≡◌, refl, sym, ap, subst, ◌∙◌}
-use mathlib.Core.List.{List, [], ◌∷◌, ◌++◌}
+use mathlib.Core.Path.{◌≡◌, refl, sym, ap, ◌∙◌}
+use mathlib.Core.List.{List, [], ◌∷◌}
 use mathlib.Core.Bool.{Bool, true, false}
-use Prim.Native.Nat.{ℕ, zero, suc, ◌+◌, ◌-◌, ◌<◌, ◌≤◌}
+use Prim.Native.Nat.{ℕ, zero, suc, ◌+◌}
 use native.Mathlib.Omega.{arith}
 use lib.ListN.{length}
 use lib.Dec.{eqb}
@@ -12,8 +12,8 @@ use Rattle.model.specs.declared.Next.{Next}
 use Rattle.model.specs.declared.Next.TheVariants.{More, Done}
 use Rattle.model.specs.declared.Open.{Open}
 use Rattle.model.specs.declared.Open.TheVariants.{Array, Object, Scalar}
-use Rattle.model.specs.Scan.{byte, Parsed, and_then, Turn, run, spaces_at}
-use Rattle.model.specs.Json.{Json, null, Named, key_at, after_item, item_turn, list_at, array_at, member_at, object_at, opens, dispatch, value_at, no_value}
+use Rattle.model.specs.Scan.{byte, Parsed, and_then, run, spaces_at}
+use Rattle.model.specs.Json.{Json, key_at, after_item, item_turn, list_at, array_at, member_at, object_at, opens, dispatch, value_at, no_value}
 
 -- q reads whatever p reads, and the same
 abbrev pub Below : {A : Type 0} → (ℕ → Parsed A) → (ℕ → Parsed A) → Type 0

@@ -1,13 +1,13 @@
 -- A text that was read to its end: its value is the one at 0, and can be walked. Assumes nothing.
-use mathlib.Core.Path.{◌≡◌, refl, sym, ap, ◌∙◌}
+use mathlib.Core.Path.{◌≡◌, refl}
 use mathlib.Core.List.{List}
-use mathlib.Core.Bool.{Bool, true, false}
+use mathlib.Core.Bool.{true, false}
 use Prim.Native.Nat.{ℕ}
 use native.Mathlib.Omega.{arith}
 use Rattle.model.specs.declared.Read.{Read}
 use Rattle.model.specs.declared.Read.TheVariants.{End, Stop, Deep}
 use Rattle.model.specs.Scan.{and_then}
-use Rattle.model.specs.Json.{Json, value_at, text_at}
+use Rattle.model.specs.Json.{value_at, text_at}
 use Rattle.model.specs.Nav.{is_read}
 use Rattle.inner.specs.Positions.{well_at, tree_at}
 

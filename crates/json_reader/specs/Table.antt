@@ -1,5 +1,5 @@
 -- A table of ends, filled as a text is read. Assumes nothing: these are definitions.
-use Rattle.std.specs.Prelude.{ℕ, List, Bool, true, false, set, ltb}
+use Rattle.std.specs.Prelude.{ℕ, List, true, false, set, ltb}
 use Rattle.model.specs.declared.Read.{Read}
 use Rattle.model.specs.declared.Read.TheVariants.{End, Stop, Deep}
 

@@ -1,18 +1,17 @@
 -- Rows of a table that are equal in an index: in cells, and as the rows that these stand for. Assumes nothing.
 use mathlib.Core.Path.{◌≡◌, refl, sym, ap, ◌∙◌}
-use mathlib.Core.Bool.{Bool, true, false, not, ◌&&◌, ◌||◌}
+use mathlib.Core.Bool.{true, false}
 use mathlib.Core.List.{List, [], ◌∷◌, map}
-use Prim.Native.Nat.{ℕ, ◌+◌, ◌≤◌, ◌<◌}
+use Prim.Native.Nat.{ℕ, ◌<◌}
 use borrow.Author.Tests.{ltb-true, eqb-true}
 use lib.Dec.{eqb, ltb}
-use lib.ListN.{length, get_or, take, drop, length-map}
+use lib.ListN.{length, take, length-map}
 use Rattle.model.specs.Base.{any, all, keep}
 use Rattle.model.specs.Schema.{Schema, columns_of}
-use Rattle.model.specs.Value.{same_value}
-use Rattle.model.specs.Rows.{Row, column_value, of_table}
+use Rattle.model.specs.Rows.{Row, of_table}
 use Rattle.model.specs.Commit.{same_at, unique}
 use Rattle.model.specs.Areas.{row_from}
-use Rattle.inner.specs.Working.{working, table_in, value_in}
+use Rattle.inner.specs.Working.{working, table_in}
 use Rattle.model.proofs.Tests.{split}
 use Rattle.model.proofs.Lists.{all_head, all_tail}
 use Rattle.inner.proofs.Working.{row_table}

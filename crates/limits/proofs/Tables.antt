@@ -8,7 +8,7 @@ use native.Mathlib.Omega.{arith}
 use lib.ListN.{length, get_or, take}
 use Rattle.model.specs.Base.{all, keep}
 use Rattle.model.specs.Schema.{Table}
-use Rattle.model.specs.Rows.{Row, of_table}
+use Rattle.model.specs.Rows.{of_table}
 use Rattle.model.specs.Commit.{unique, not_over, table_good, tables_good}
 use Rattle.model.specs.Catalog.{table_from, tables_from, packed_tables, index_from, max_rows_from, table_count, indexes_offset, first_index_offset, second_index_offset}
 use Rattle.inner.specs.Working.{working}

@@ -16,7 +16,7 @@ use Rattle.model.specs.Conditions.{Test, matches}
 use Rattle.model.specs.Areas.{row_from}
 use Rattle.inner.specs.Working.{working}
 use Rattle.model.proofs.Tests.{split, clash}
-use Rattle.marks.specs.Marks.{Narrowed, OfTable, MarkedRows, marked}
+use Rattle.marks.specs.Marks.{Narrowed, MarkedRows, marked}
 
 below : (j i : ℕ) → j ≤ i → (j ≡ i → ⊥) → j < i
 below j i l n = omega arith

@@ -1,5 +1,5 @@
 -- Words told apart, and the members of an object by them. Assumes nothing: these are definitions.
-use Rattle.std.specs.Prelude.{ℕ, zero, suc, ◌+◌, ◌<◌, ◌≡◌, List, [], ◌∷◌, Bool, true, false, not, eqb, leb, length, get_or, take, drop}
+use Rattle.std.specs.Prelude.{ℕ, zero, suc, ◌+◌, ◌<◌, ◌≡◌, List, [], ◌∷◌, true, false, not, eqb, leb, length, get_or, take, drop}
 use Rattle.model.specs.Json.{Json, null, Named}
 use Rattle.inner.specs.Positions.{tree_at, well_at}
 use Rattle.model.specs.Members.{has_member, member_value}

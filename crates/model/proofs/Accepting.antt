@@ -1,9 +1,9 @@
 -- What an accepted call leaves, and demand 1 of every call. Assumes nothing.
 use mathlib.Core.Path.{◌≡◌, refl, sym, ◌∙◌, ap, subst}
-use mathlib.Core.Bool.{Bool, true, false, not, ◌&&◌, ◌||◌}
+use mathlib.Core.Bool.{Bool, true, false, not, ◌&&◌}
 use mathlib.Core.List.{List, [], ◌∷◌, ◌++◌, map, append-nil}
 use mathlib.Core.Option.{Option, none, some}
-use Prim.Native.Nat.{ℕ, suc, ◌+◌, ◌-◌, ◌≤◌}
+use Prim.Native.Nat.{ℕ, ◌+◌, ◌-◌, ◌≤◌}
 use native.Mathlib.Omega.{arith}
 use borrow.Author.Tests.{leb-true, eqb-true}
 use lib.Dec.{eqb, leb}
@@ -12,7 +12,6 @@ use Rattle.model.specs.Octets.{filled, value, eq_bytes}
 use Rattle.model.specs.Limits.{fresh_bytes, least_records, least_answer, least_mark, last_number, store_bytes, mirror_bytes}
 use Rattle.model.specs.Base.{all, every, is_some, flat}
 use Rattle.model.specs.Schema.{Schema, Database}
-use Rattle.model.specs.SchemaText.{read_schema}
 use Rattle.model.specs.Sane.{sane}
 use Rattle.model.specs.Refusals.{number_of, is_refusal}
 use Rattle.model.specs.Rows.{Row}
@@ -24,12 +23,12 @@ use Rattle.model.specs.Mirror.{Mirror, column_bytes, column_answer}
 use Rattle.model.specs.Areas.{Store, store_good, encode_store, store_of, MirrorState, mirror_of}
 use Rattle.model.specs.Calls.{zeroed, lengths_good, reply_of, store_after, records_after, store_transact, transact_on, transact_replied, transact_refused, store_mark, mark_on, asked, no_progress, progress_of, no_presence, presence_of, no_contents, contents_of, Progress, mirror_progress, Presence, mirror_has_row, Contents, mirror_column}
 use Rattle.model.specs.Calls as Calls
-use Rattle.model.specs.Laid.{store_or, mirror_or, request_or, held, tables, succeeds, rows_laid, changes_laid, records_laid, text_laid, store_laid}
+use Rattle.model.specs.Laid.{store_or, mirror_or, request_or, held, rows_laid, changes_laid, records_laid, text_laid, store_laid}
 use Rattle.model.specs.FirstRefusal.{given, ask_conditions, ask_number, column_number}
-use Rattle.model.specs.Demands.{Ends, TransactEnds, MarkEnds, ProgressEnds, HasRowEnds, ColumnEnds, Demand1}
+use Rattle.model.specs.Demands.{TransactEnds, MarkEnds, ProgressEnds, HasRowEnds, ColumnEnds, Demand1}
 use Rattle.model.specs.declared.Status.{Status}
 use Rattle.model.specs.declared.Status.TheVariants.{Accepted, Disordered, WrongLength, BadRequest, OtherDatabase, BadFreshIds, AnswerTooLong, NumbersSpent}
-use Rattle.model.proofs.Tests.{split, clash, and_l, parts, Trues}
+use Rattle.model.proofs.Tests.{split, clash, parts, Trues}
 use Rattle.model.proofs.Octets.{octet}
 use Rattle.model.proofs.Accepted.{narrow, sane_kept}
 use Rattle.model.proofs.Areas.{store_of_is, mirror_of_is}
@@ -37,9 +36,9 @@ use Rattle.model.proofs.States.{StoreFine, store_parts, store_whole, mirror_part
 use Rattle.model.proofs.Lengths.{commit_length}
 use Rattle.model.proofs.Same.{diff_self}
 use Rattle.model.proofs.TransactKeeps.{InOrder, reply_keeps}
-use Rattle.model.proofs.Laid.{transaction, laid_rows, laid_changes, laid_text}
+use Rattle.model.proofs.Laid.{laid_rows, laid_changes, laid_text}
 use Rattle.model.proofs.Demand1.{look, store_start_ends, mirror_start_ends, transact_first, transact_refused_lem, mark_first, mark_refused, hear_ends}
-use Rattle.model.proofs.Replied.{Replied, reply_as, replied_laid, replied_diff, transact_stays}
+use Rattle.model.proofs.Replied.{reply_as, replied_laid, replied_diff, transact_stays}
 use Rattle.model.proofs.StoreCalls.{filled_is, transact_there}
 
 -- ── a store in good order ──

@@ -3,16 +3,16 @@ use mathlib.Core.Path.{◌≡◌, refl, sym, ◌∙◌, ap}
 use mathlib.Core.Bool.{Bool, true, false, ◌&&◌}
 use mathlib.Core.List.{List, [], ◌∷◌, ◌++◌, map, append_assoc, append-nil}
 use mathlib.Core.Option.{none, some}
-use Prim.Native.Nat.{ℕ, zero, suc, ◌+◌, ◌-◌, ◌*◌, ◌^◌, ◌≤◌, ◌<◌}
+use Prim.Native.Nat.{ℕ, ◌+◌, ◌-◌, ◌*◌, ◌^◌, ◌≤◌, ◌<◌}
 use native.Mathlib.Omega.{arith}
 use borrow.Author.Tests.{eq-eqb, ltb-true}
 use lib.Dec.{eqb}
 use lib.ListN.{length, get_or, take, drop, replicate, length-append, length-map, length-replicate}
-use lib.Seq.{take_at, drop_at, get_or_at}
-use Rattle.model.specs.Octets.{big, value, part, chunks, eq_bytes}
+use lib.Seq.{take_at, drop_at}
+use Rattle.model.specs.Octets.{big, value, chunks, eq_bytes}
 use Rattle.model.specs.Limits.{entry_bytes, entry_count, catalog_bytes, count_offset, rows_offset, store_bytes, mirror_bytes}
 use Rattle.model.specs.Base.{all, every, flat}
-use Rattle.model.specs.Schema.{Column, Schema, Database, columns_of}
+use Rattle.model.specs.Schema.{Column, Schema, columns_of}
 use Rattle.model.specs.Sane.{sane}
 use Rattle.model.specs.Value.{Value, blank, shaped, canonical_tests, canonical_for, meets}
 use Rattle.model.specs.Rows.{Row}

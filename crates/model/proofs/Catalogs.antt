@@ -3,21 +3,21 @@ use mathlib.Core.Path.{◌≡◌, refl, sym, ◌∙◌, ap}
 use mathlib.Core.Bool.{Bool, true, false, ◌&&◌}
 use mathlib.Core.List.{List, [], ◌∷◌, ◌++◌, map, append_assoc, append-nil}
 use mathlib.Core.Option.{Option, none, some}
-use Prim.Native.Nat.{ℕ, zero, suc, ◌+◌, ◌-◌, ◌*◌, ◌^◌, ◌≤◌, ◌<◌}
+use Prim.Native.Nat.{ℕ, zero, suc, ◌+◌, ◌-◌, ◌*◌, ◌≤◌}
 use native.Mathlib.Omega.{arith}
 use borrow.Author.Tests.{eq-eqb, leb-true}
 use lib.Dec.{eqb, leb}
 use lib.ListN.{length, get_or, take, drop, replicate, length-append, length-map, length-replicate}
 use lib.Seq.{take_at, drop_at, drop-drop, get_or-drop}
 use Rattle.model.specs.Octets.{big, value, twos, part}
-use Rattle.model.specs.Base.{all, every, is_some, flat}
-use Rattle.model.specs.Limits.{most_tables, most_columns, entry_bytes, entry_count, catalog_bytes}
+use Rattle.model.specs.Base.{all, is_some, flat}
+use Rattle.model.specs.Limits.{most_columns, entry_bytes, entry_count, catalog_bytes}
 use Rattle.model.specs.Schema.{Base, integer, boolean, text, uuid, Refers, plain, strong, weak, Column, Table, Schema, Database}
 use Rattle.model.specs.SchemaText.{is_letter, is_id_byte, is_id, base_number}
 use Rattle.model.specs.Value.{from_twos}
 use Rattle.model.specs.Sane.{column_sane, sane_column, sane_index, index_sane, max_rows_sane, table_sane, sane_table, database_sane, sane}
-use Rattle.model.specs.Catalog.{column_place, base_numbered, entry_name, is_set, refers_from, column_from, index_from, indexes_from, max_rows_from, table_from, tables_from, database_from, name_bytes, bit, how_refers, target, column_entry, index_bytes, number_or0, table_entry, database_entry, blank_entry, in_room, column_entries, catalog_of}
-use Rattle.model.proofs.Tests.{clash, and_l, and_r, parts}
+use Rattle.model.specs.Catalog.{column_place, base_numbered, entry_name, is_set, refers_from, column_from, indexes_from, max_rows_from, table_from, tables_from, database_from, name_bytes, bit, how_refers, target, column_entry, index_bytes, number_or0, table_entry, database_entry, blank_entry, in_room, column_entries, catalog_of}
+use Rattle.model.proofs.Tests.{and_l, and_r, parts}
 use Rattle.model.proofs.Lists.{all_append, all_cons, all_same}
 use Rattle.model.proofs.Octets.{value_big_fits}
 use Rattle.model.proofs.Signed.{twos_fits}

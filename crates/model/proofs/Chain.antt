@@ -3,7 +3,7 @@ use mathlib.Core.Path.{◌≡◌, refl}
 use mathlib.Core.Bool.{Bool, true, false}
 use mathlib.Core.List.{List, [], ◌∷◌, ◌++◌, map}
 use mathlib.Core.Option.{none, some}
-use Prim.Native.Nat.{ℕ, zero, suc, ◌+◌, ◌≤◌, ◌<◌}
+use Prim.Native.Nat.{ℕ, zero, suc, ◌≤◌, ◌<◌}
 use native.Mathlib.Omega.{arith}
 use borrow.Author.Tests.{lt-ltb}
 use lib.Dec.{eqb}
@@ -13,7 +13,7 @@ use Rattle.model.specs.Base.{keep}
 use Rattle.model.specs.Schema.{Column, Schema, columns_of}
 use Rattle.model.specs.Value.{Value, same_value, initial}
 use Rattle.model.specs.Rows.{Row, key_of, key, find, has, has_id, initials}
-use Rattle.model.specs.Records.{Change, gone, act, fits, known, allows, sound, gones, writes, row_writes, walk, never}
+use Rattle.model.specs.Records.{Change, act, fits, known, allows, sound, gones, writes, row_writes, walk, never}
 use Rattle.model.proofs.Order.{Above, Sorted, Distinct, Typed, AllFine}
 use Rattle.model.proofs.Tests.{split, or_l, or_r, eqb_flip, value_same}
 use Rattle.model.proofs.Seams.{Below, remove_at, change_at, has_at, add_at, below_at, sorted_drop, sorted_rest}

@@ -1,16 +1,15 @@
 -- Demand 1: every call ends with its answer or with the first refusal that applies, exactly when it applies; a refused call leaves its area and zeroes the rest. Assumes nothing.
-use mathlib.Core.Path.{◌≡◌, refl, sym, ◌∙◌, ap}
-use mathlib.Core.Bool.{Bool, true, false, not, ◌&&◌, ◌||◌}
-use mathlib.Core.List.{List, [], ◌∷◌, ◌++◌}
+use mathlib.Core.Path.{◌≡◌, refl, ◌∙◌, ap}
+use mathlib.Core.Bool.{Bool, true, false, not, ◌&&◌}
+use mathlib.Core.List.{List, [], ◌∷◌}
 use mathlib.Core.Option.{Option, none, some}
 use Prim.Native.Nat.{ℕ, suc, ◌+◌}
-use native.Mathlib.Omega.{arith}
 use lib.Dec.{eqb, leb}
 use lib.ListN.{length}
 use Rattle.model.specs.Sane.{sane}
-use Rattle.model.specs.Octets.{eq_bytes, value}
+use Rattle.model.specs.Octets.{eq_bytes}
 use Rattle.model.specs.Limits.{least_mark, last_number, store_bytes, mirror_bytes}
-use Rattle.model.specs.Base.{if◌then◌else◌, every, is_some}
+use Rattle.model.specs.Base.{every, is_some}
 use Rattle.model.specs.Schema.{Schema, Database}
 use Rattle.model.specs.SchemaText.{read_schema}
 use Rattle.model.specs.Rows.{Row}
@@ -19,17 +18,16 @@ use Rattle.model.specs.Refusals.{number_of, is_refusal}
 use Rattle.model.specs.Replies.{Reply, reply, changes_of, refused, reply_to, named, freshly, concluded}
 use Rattle.model.specs.Replies as Replies
 use Rattle.model.specs.Records.{Change, Record, numbered, mark, decode}
-use Rattle.model.specs.Mirror.{Mirror, bad, Step, on_read, step, column_bytes}
+use Rattle.model.specs.Mirror.{Mirror, bad, Step, on_read, step}
 use Rattle.model.specs.Value.{meets}
 use Rattle.model.specs.Commit.{lawful}
 use Rattle.model.specs.Areas.{rows_pass, Store, store_of, MirrorState, mirror_of, store_good, head_tests}
-use Rattle.model.specs.Calls.{Started, Transacted, transact_refused, Marked, Arrived, start_as, store_start, mirror_start, zeroed, lengths_good, reply_of, store_transact, transact_on, transact_replied, store_mark, mark_on, mirror_hear, hear_on, hear_step, mirror_progress, mirror_has_row, mirror_column}
-use Rattle.model.specs.Laid.{store_or, request_or, mirror_or, held, tables, asks, changes_laid, text_laid}
-use Rattle.model.specs.FirstRefusal.{Condition, given, start_conditions, store_start_number, mirror_start_number, transact_conditions, transact_number, mark_conditions, mark_number, bad_record, run_in, record_conditions, hear_conditions, heard_as, hear_number}
+use Rattle.model.specs.Calls.{Transacted, transact_refused, Marked, Arrived, start_as, store_start, mirror_start, zeroed, lengths_good, reply_of, store_transact, transact_on, transact_replied, store_mark, mark_on, mirror_hear, hear_on, hear_step}
+use Rattle.model.specs.Laid.{store_or, request_or, mirror_or}
+use Rattle.model.specs.FirstRefusal.{Condition, given, start_conditions, store_start_number, mirror_start_number, transact_conditions, transact_number, mark_conditions, mark_number, record_conditions, hear_conditions, heard_as, hear_number}
 use Rattle.model.specs.Demands.{StoreStartEnds, MirrorStartEnds, HearEnds}
-use Rattle.model.specs.declared.Status.{Status}
-use Rattle.model.specs.declared.Status.TheVariants.{Accepted, Disordered, WrongLength, BadSchema, BadRequest, OtherDatabase, BadFreshIds, AnswerTooLong, BadRecord, OtherRun, NumbersSpent, Repeat, Behind, Heard, Applied}
-use Rattle.model.proofs.Tests.{split, clash, and_l, and_r, parts}
+use Rattle.model.specs.declared.Status.TheVariants.{Accepted, WrongLength, OtherDatabase, BadFreshIds, AnswerTooLong, NumbersSpent}
+use Rattle.model.proofs.Tests.{split, clash, and_l, parts}
 use Rattle.model.proofs.Areas.{store_of_is}
 use Rattle.model.proofs.Laid.{laid_text, laid_changes}
 

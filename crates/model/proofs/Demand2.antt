@@ -2,24 +2,23 @@
 use mathlib.Core.Path.{◌≡◌, refl, sym, ◌∙◌, ap, subst}
 use mathlib.Core.Logic.{◌↔◌}
 use mathlib.Core.Bool.{Bool, true, false, not, ◌&&◌}
-use mathlib.Core.List.{List, [], ◌∷◌, ◌++◌, map}
+use mathlib.Core.List.{List, [], ◌∷◌, map}
 use mathlib.Core.Option.{Option, some}
-use Prim.Native.Nat.{ℕ, suc, ◌+◌, ◌-◌, ◌≤◌}
+use Prim.Native.Nat.{ℕ, suc, ◌+◌, ◌≤◌}
 use native.Mathlib.Nat.{add-zero}
 use native.Mathlib.Omega.{arith}
-use lib.ListN.{length, replicate}
+use lib.ListN.{length}
 use Rattle.model.specs.Octets.{filled}
 use Rattle.model.specs.Limits.{last_number}
 use Rattle.model.specs.Base.{all, flat}
-use Rattle.model.specs.Schema.{Schema}
 use Rattle.model.specs.Rows.{Row}
 use Rattle.model.specs.Refusals.{is_refusal}
-use Rattle.model.specs.Records.{Change, diff, numbered, number_from, encode, pieces}
+use Rattle.model.specs.Records.{Change, diff, number_from, encode, pieces}
 use Rattle.model.specs.Areas.{Store, encode_store, store_good, store_of}
 use Rattle.model.specs.Calls.{zeroed, reply_of, store_after, Transacted}
 use Rattle.model.specs.Laid.{store_or, held, tables, kept, succeeds, rows_laid, changes_laid, records_laid, text_laid, store_laid}
 use Rattle.model.specs.Demands.{call, commits, Transacts, Demand2}
-use Rattle.model.proofs.Tests.{split, clash, and_l, and_r}
+use Rattle.model.proofs.Tests.{split, clash, and_l}
 use Rattle.model.proofs.Order.{Good}
 use Rattle.model.proofs.Octets.{octet}
 use Rattle.model.proofs.Areas.{store_of_encode, store_of_is}

@@ -1,14 +1,13 @@
 -- Demand 3 from bytes to bytes: one claim about a whole history of calls on a store's area and a whole list of arrivals at a mirror's. Assumes nothing.
 use mathlib.Core.Path.{◌≡◌, refl, sym, ◌∙◌, ap, subst}
-use mathlib.Core.Bool.{Bool, true, false, ◌&&◌}
+use mathlib.Core.Bool.{true, false}
 use mathlib.Core.List.{List, [], ◌∷◌, map, Memᴰ}
 use mathlib.Core.Option.{Option, some}
 use Prim.Native.Nat.{ℕ, zero, suc, ◌^◌, ◌≤◌, ◌<◌}
 use native.Mathlib.Omega.{arith}
-use lib.Dec.{eqb}
 use lib.ListN.{length, get_or, take, length-map}
 use Rattle.model.specs.Sane.{sane}
-use Rattle.model.specs.Base.{all, is_some}
+use Rattle.model.specs.Base.{all}
 use Rattle.model.specs.Octets.{value}
 use Rattle.model.specs.Rows.{key_of, has}
 use Rattle.model.specs.Schema.{Schema, Database}
@@ -19,7 +18,7 @@ use Rattle.model.proofs.StateDemand.{through, heard_of}
 use Rattle.model.specs.Refusals.{number_of, is_refusal}
 use Rattle.model.specs.Areas.{Store, encode_store, store_of, encode_mirror, store_good}
 use Rattle.model.specs.Limits.{store_bytes, mirror_bytes}
-use Rattle.model.specs.Calls.{Started, start_as, store_start, mirror_start, mirror_hear, Progress, mirror_progress}
+use Rattle.model.specs.Calls.{start_as, store_start, mirror_start, mirror_hear, Progress, mirror_progress}
 use Rattle.model.specs.Histories.{StoreCall, of_bytes, area_after_all, records_of, sent_of, change_in, made, ends_commit, heard_all, Arrivals, heard_numbers}
 use Rattle.model.proofs.StateHistory.{State, empty, Call, finally, changes, records, written}
 use Rattle.model.proofs.StateDemand as OnStates
@@ -28,9 +27,7 @@ use Rattle.model.specs.Demands as claimed
 use Rattle.model.specs.Demands.{left_by, Follows, Keeps, Demand3}
 use Rattle.model.specs.declared.Status.{Status}
 use Rattle.model.specs.declared.Status.TheVariants.{Accepted, Applied}
-use Rattle.model.proofs.Tests.{clash}
 use Rattle.model.proofs.Lists.{all_take}
-use Rattle.model.proofs.TextUtf8.{by_test}
 use Rattle.model.proofs.Bytes.{Fits, Wide, decode_encode}
 use Rattle.model.proofs.Past.{past_chain, past_room, Issued, tell_mark, tell, issued, unmap}
 use Rattle.model.proofs.Commits.{last_is}

@@ -3,14 +3,13 @@ use mathlib.Core.Path.{◌≡◌, refl, sym, ap, ◌∙◌}
 use mathlib.Core.Bool.{Bool, true, false, not}
 use mathlib.Core.List.{List}
 use mathlib.Core.Logic.{◌⊎◌, inl, inr}
-use Prim.Native.Nat.{ℕ, zero, suc, ◌+◌, ◌-◌, ◌*◌, ◌≤◌, ◌<◌}
+use Prim.Native.Nat.{ℕ, ◌+◌, ◌-◌, ◌*◌, ◌≤◌, ◌<◌}
 use native.Mathlib.Omega.{arith}
 use borrow.Author.Tests.{ne_eqb, eq-eqb, eqb-true, eqb-false, not-true}
 use lib.Dec.{eqb}
-use Rattle.model.specs.declared.Read.{Read}
-use Rattle.model.specs.declared.Read.TheVariants.{End, Stop, Deep}
+use Rattle.model.specs.declared.Read.TheVariants.{End, Stop}
 use Rattle.model.specs.Scan.{byte, Parsed}
-use Rattle.model.specs.Strings.{◌to◌, in_range, is_second_half, hex_of, stopped_at, digit_by, digit_from, digit_at, tested_from, tested, no_digits, begins_second, unit_at, second_at}
+use Rattle.model.specs.Strings.{◌to◌, is_second_half, hex_of, stopped_at, digit_by, digit_from, digit_at, tested_from, tested, no_digits, begins_second, unit_at, second_at}
 use Rattle.model.specs.Characters.{Digits, digits_number, UnitDigits, SecondDigits}
 use Rattle.model.proofs.Tests.{split}
 use Rattle.model.proofs.Utf8.{in_range_lem, over_range, under_range, of_range}

@@ -5,14 +5,14 @@ use mathlib.Core.List.{List, [], ◌∷◌, ◌++◌, append-nil}
 use Prim.Native.Nat.{ℕ, suc}
 use lib.ListN.{length}
 use Rattle.model.specs.Base.{all, every}
-use Rattle.model.specs.Schema.{Table, Schema}
+use Rattle.model.specs.Schema.{Schema}
 use Rattle.model.specs.Rows.{Row, of_table}
 use Rattle.model.specs.Faults.{is_fine, check}
 use Rattle.model.specs.Answers.{bracketed, error_text}
 use Rattle.model.specs.Commit.{all_found, settled, all_enough, not_over, unique, tables_good, commit}
 use Rattle.model.specs.Transact.{fresh_ids, Ran, Transaction, transact_rows}
 use Rattle.model.specs.Replies.{changes_of}
-use Rattle.model.specs.Records.{Change, diff}
+use Rattle.model.specs.Records.{diff}
 use Rattle.model.specs.Laid.{limits_hold, indexes_hold, held, tables, asks, ran, succeeds, rows_laid, changes_laid, text_laid}
 use Rattle.model.specs.declared.Fault.TheVariants.{Fine, Constraint, Integrity}
 

@@ -9,7 +9,7 @@ use borrow.Author.Tests.{leb-true}
 use lib.Dec.{leb}
 use lib.ListN.{length, replicate, length-append}
 use Rattle.model.specs.Limits.{most_columns, last_number, least_records}
-use Rattle.model.specs.Base.{all, flat}
+use Rattle.model.specs.Base.{flat}
 use Rattle.model.specs.Schema.{Column, Schema, columns_of}
 use Rattle.model.specs.Value.{Value, same_value}
 use Rattle.model.specs.Rows.{Row, key, find, has, initials}

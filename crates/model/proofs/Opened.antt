@@ -4,7 +4,7 @@ use Rattle.model.specs.Scan.{and_then, run, passing, is_space, is_digit, within_
 use Rattle.model.specs.Strings.{in_range, is_character, utf8, rest_of, ranges_at, form_at, short_of, hex_of, digit_by, digit_from, digit_at, tested_from, tested, second_from, paired, escaped_from, going, escape_by, char_by, char_bytes, char_adds, string_at}
 use Rattle.model.specs.Numbers.{minus_at, sign_at, some_from, whole_at, frac_at, is_exp, exp_at}
 use Rattle.model.specs.Json.{items, members, scalar_by, key_at, comma_or, after_item, list_at, member_at, opens, dispatch, value_at, end_at, text_at}
-use Rattle.model.specs.Nav.{is_read, kind_of, list_of, items_in, text_in, is_text, is_array, is_object, is_truth}
+use Rattle.model.specs.Nav.{is_read, kind_of, list_of, items_in, text_in}
 use Rattle.model.specs.Members.{named_of, members_in, has_member, named_or, value_or, member_value, counting}
 use Rattle.model.specs.Whole.{sized, plus_of, minus_of, whole_text, whole_of, is_whole, whole_int}
 use Rattle.model.specs.Text.{is_word, begins, chars}

@@ -14,7 +14,7 @@ use Rattle.model.specs.Schema.{Schema}
 use Rattle.model.specs.Rows.{Row}
 use Rattle.model.specs.Records.{Change, end, act, acts, fits, sound, diff, Record, numbered, mark, encode, number_from}
 use Rattle.model.proofs.Order.{Good}
-use Rattle.model.proofs.StateHistory.{State, Call, transact, ask_mark, room, changes_of, rows_after, state_after, records_of, finally, changes, records, written}
+use Rattle.model.proofs.StateHistory.{State, Call, transact, ask_mark, room, changes_of, rows_after, state_after, records_of, finally, changes, records}
 use Rattle.model.proofs.StateDemand.{Keeps}
 use Rattle.model.proofs.Tests.{split}
 use Rattle.model.proofs.Chain.{Chain, chain_append}

@@ -1,44 +1,43 @@
 -- Document 01's starred readings, one claim over one table of calls on areas; and what the listed mistakes would get wrong. What the calls make of areas is carried to
 -- states by law, and computed there. Assumes nothing.
 use mathlib.Core.Path.{◌≡◌, refl, sym, ◌∙◌, ap, subst}
-use mathlib.Core.Bool.{Bool, true, false, ◌&&◌}
-use mathlib.Core.List.{List, [], ◌∷◌, ◌++◌, map}
+use mathlib.Core.Bool.{Bool, true, false}
+use mathlib.Core.List.{List, [], ◌∷◌, map}
 use mathlib.Core.Option.{Option, none, some}
-use Prim.Native.Nat.{ℕ, zero, suc, ◌+◌, ◌-◌, ◌*◌, ◌^◌, ◌≤◌, ◌<◌}
+use Prim.Native.Nat.{ℕ, zero, suc, ◌+◌, ◌*◌, ◌≤◌}
 use native.Mathlib.Nat.{add-zero}
 use native.Mathlib.Omega.{arith}
 use borrow.Author.Tests.{eq-eqb, ltb-true}
-use lib.Dec.{eqb, ltb}
+use lib.Dec.{ltb}
 use lib.ListN.{length, replicate, length-append, length-replicate}
 use Rattle.model.proofs.SchemaLaws.{read_sane}
 use Rattle.model.specs.Sane.{sane}
 use Rattle.model.specs.Octets.{big, filled}
-use Rattle.model.specs.Limits.{fresh_bytes, least_records, least_answer, last_number, store_bytes, mirror_bytes}
-use Rattle.model.specs.Base.{all, is_some, flat}
+use Rattle.model.specs.Limits.{fresh_bytes, least_records, last_number, store_bytes, mirror_bytes}
+use Rattle.model.specs.Base.{all, flat}
 use Rattle.model.specs.Schema.{Schema, Database}
 use Rattle.model.specs.SchemaText.{read_schema}
-use Rattle.model.specs.Refusals.{number_of, is_refusal}
+use Rattle.model.specs.Refusals.{number_of}
 use Rattle.model.specs.Transact.{Transaction}
 use Rattle.model.specs.Replies.{Reply, reply}
 use Rattle.model.specs.Records.{Change, diff, number_from, encode, decode, pieces}
 use Rattle.model.specs.Mirror.{Mirror, fresh, level, step, number_carried}
-use Rattle.model.specs.Areas.{Store, encode_store, store_good, store_of, MirrorState, encode_mirror, mirror_of}
-use Rattle.model.specs.Calls.{Started, start_as, store_start, mirror_start, lengths_good, reply_of, store_after, records_after, transact_replied, Transacted, store_transact, Progress, mirror_progress, mirror_hear, new_store}
+use Rattle.model.specs.Areas.{Store, encode_store, store_good, store_of, encode_mirror, mirror_of}
+use Rattle.model.specs.Calls.{start_as, store_start, mirror_start, lengths_good, reply_of, store_after, records_after, transact_replied, Transacted, store_transact, new_store}
 use Rattle.model.specs.Histories.{heard_all}
 use Rattle.model.specs.Laid.{mirror_or, no_database}
 use Rattle.model.specs.Readings.{Gave, Reading, ids_from, records_room, text_room, last_call, calls_of, picks, mirror_on, gave, got, padded, table, Readings, mistakes, Mistakes}
 use Rattle.model.specs.declared.Status.{Status}
 use Rattle.model.specs.declared.Status.TheVariants.{Accepted}
-use Rattle.model.proofs.Tests.{split, clash, and_l, and_r}
+use Rattle.model.proofs.Tests.{clash}
 use Rattle.model.proofs.Lists.{all_head, all_tail, all_append}
 use Rattle.model.proofs.Octets.{octet, big_octets, length_big}
 use Rattle.model.proofs.StateDemand.{through}
 use Rattle.model.proofs.Areas.{store_of_encode, store_of_length, mirror_of_encode}
-use Rattle.model.proofs.States.{StoreFine, store_parts, store_whole, start_fine, MirrorFine, mirror_whole, fresh_fine, step_fine, hear_area}
+use Rattle.model.proofs.States.{store_whole, start_fine, MirrorFine, mirror_whole, fresh_fine, step_fine, hear_area}
 use Rattle.model.proofs.StoreCalls.{no_bytes, none_there, transact_there, commit_filled}
 use Rattle.model.proofs.MirrorArrivals.{mirror_at, progress_is}
 use Rattle.model.proofs.Replied.{reply_as, Replied, refusing, making}
-use Rattle.model.proofs.Demand1.{look, store_start_ends, mirror_start_ends}
 use Rattle.model.proofs.Accepting.{fine_at, in_order, narrow_at, order_after, changes_between, reply_room, after_good}
 use Rattle.model.proofs.Opened.{opened}
 

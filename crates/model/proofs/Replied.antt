@@ -1,11 +1,10 @@
 -- A transact on a store's rows: what stays where it does not commit, and a reply as a refusal that leaves everything or as what the rules make. Assumes nothing.
-use mathlib.Core.Path.{◌≡◌, refl, sym, ◌∙◌, ap}
-use mathlib.Core.Bool.{Bool, true, false, not, ◌&&◌, ◌||◌}
-use mathlib.Core.List.{List, [], ◌∷◌, ◌++◌}
+use mathlib.Core.Path.{◌≡◌, refl, sym, ◌∙◌}
+use mathlib.Core.Bool.{true, false}
+use mathlib.Core.List.{List, []}
 use mathlib.Core.Option.{Option, none, some}
-use Prim.Native.Nat.{ℕ, suc, ◌+◌}
-use native.Mathlib.Omega.{arith}
-use lib.Dec.{eqb, leb}
+use Prim.Native.Nat.{ℕ, ◌+◌}
+use lib.Dec.{leb}
 use lib.ListN.{length}
 use Rattle.model.specs.Octets.{eq_bytes}
 use Rattle.model.specs.Limits.{last_number}

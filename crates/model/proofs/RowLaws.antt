@@ -4,17 +4,15 @@ use mathlib.Core.Bool.{Bool, false}
 use mathlib.Core.List.{List, [], ◌∷◌}
 use Prim.Native.Nat.{ℕ, suc, ◌<◌}
 use native.Mathlib.Omega.{arith}
-use borrow.Author.Tests.{ne_eqb, eqb-false, ltb-true, ltb-false}
 use lib.Dec.{eqb, ltb}
 use lib.ListN.{length}
 use Rattle.model.specs.Base.{keep}
 use Rattle.model.specs.Schema.{Column, Schema, columns_of}
 use Rattle.model.specs.Value.{Value}
-use Rattle.model.specs.Rows.{Row, key, has, has_id, add}
+use Rattle.model.specs.Rows.{Row, key, has_id, add}
 use Rattle.model.proofs.Order.{Above, Sorted, Distinct, Typed, Fine, AllFine, Good, Meets, AllMeet}
-use Rattle.model.proofs.Tests.{split, or_l, or_r, eqb_flip}
+use Rattle.model.proofs.Tests.{split, or_l, or_r}
 use Rattle.model.proofs.Lists.{length_keep}
-use Rattle.model.proofs.Seams.{above_trans}
 use Rattle.model.proofs.Canonical.{meets_parts}
 use Rattle.model.proofs.StepLaws.{Stays}
 use Rattle.model.proofs.Kept.{add_ids, add_good}

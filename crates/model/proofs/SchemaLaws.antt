@@ -5,24 +5,24 @@ use mathlib.Core.List.{List, [], ◌∷◌, map}
 use mathlib.Core.Option.{Option, none, some, none-ne-some}
 use Prim.Native.Nat.{ℕ, zero, suc, ◌≤◌, ◌<◌}
 use native.Mathlib.Omega.{arith}
-use borrow.Author.Tests.{ltb-true, leb-true, lt-ltb, le-leb}
+use borrow.Author.Tests.{leb-true, lt-ltb, le-leb}
 use lib.Dec.{ltb, leb}
 use lib.ListN.{length, length-map}
 use Rattle.model.specs.declared.Whole.{Whole}
 use Rattle.model.specs.declared.Whole.TheVariants.{Plus, Minus, Other}
-use Rattle.model.specs.Base.{any, all, every, member, distinct, place_of, nth, ascii}
+use Rattle.model.specs.Base.{all, member, distinct, place_of, nth, ascii}
 use Rattle.model.specs.Octets.{eq_bytes}
-use Rattle.model.specs.Limits.{most_elements, most_index_columns, most_indexes, most_columns, most_tables, most_schema_bytes}
+use Rattle.model.specs.Limits.{most_elements, most_indexes, most_columns, most_tables, most_schema_bytes}
 use Rattle.model.specs.Json.{Json, null, bool, num, str, arr, obj, Named, text_at}
-use Rattle.model.specs.Nav.{is_read, kind_of, is_array, items_in, text_in}
+use Rattle.model.specs.Nav.{is_read, items_in, text_in}
 use Rattle.model.specs.Members.{members_in, has_member, named_or, value_or, member_value, counting}
 use Rattle.model.specs.Whole.{whole_of}
 use Rattle.model.specs.Text.{is_word}
-use Rattle.model.specs.Schema.{Base, integer, boolean, text, uuid, Refers, plain, strong, weak, Column, Table, Schema, Database, columns_of}
-use Rattle.model.specs.SchemaText.{must, may, is_string_of, is_one_of, is_string, base_number, same_base, is_within, size_or, names, place_or, is_id, is_max, low_of, high_of, max_rows_of, key_tests, key_members, key_base, key_fits, refers_of, min_of, max_of, type_tests, type_members, type_fits, column_tests, column_fits, column_of, table_columns, parts_tests, columns_fit, is_indexed, index_tests, index_fits, indexes_tests, indexes_fit, table_tests, table_fits, index_of, table_of, tables_fit, schema_tests, schema_fits, schema_tables, database_of, schema_of, read_schema}
+use Rattle.model.specs.Schema.{Base, integer, boolean, text, uuid, plain, strong, weak, Column, Table, Schema, Database, columns_of}
+use Rattle.model.specs.SchemaText.{may, is_one_of, is_string, base_number, same_base, is_within, size_or, names, place_or, is_id, is_max, low_of, high_of, max_rows_of, key_tests, key_members, key_base, key_fits, refers_of, min_of, max_of, type_tests, type_members, type_fits, column_tests, column_fits, column_of, table_columns, parts_tests, columns_fit, is_indexed, index_tests, index_fits, indexes_tests, indexes_fit, table_tests, table_fits, index_of, table_of, tables_fit, schema_tests, schema_fits, schema_tables, database_of, schema_of, read_schema}
 use Rattle.model.specs.Sane.{refers_below, refers_as, limits_as, max_rows_sane, sane_column, index_sane, sane_index, column_sane, table_sane, sane_table, database_sane, sane}
 use Rattle.model.proofs.Wholes.{low_fits, high_fits}
-use Rattle.model.proofs.Tests.{split, clash, bytes_same, bytes_self, and_l, and_r, parts, whole}
+use Rattle.model.proofs.Tests.{split, clash, bytes_same, and_l, and_r, parts, whole}
 
 -- ── lists ──
 module _ {A B : Type 0} where

@@ -10,14 +10,14 @@ use lib.Dec.{eqb, eqb-suc-zero}
 use lib.ListN.{length}
 use Rattle.model.specs.Sane.{sane}
 use Rattle.model.specs.Octets.{value, part}
-use Rattle.model.specs.Base.{all, every, is_some, nth}
+use Rattle.model.specs.Base.{all, every, nth}
 use Rattle.model.specs.Schema.{Column, Schema, columns_of, Database}
 use Rattle.model.specs.Value.{Value, canonical_for, meets, canonical_tests}
 use Rattle.model.specs.Rows.{Row, key_of, key, find}
 use Rattle.model.specs.Commit.{unique, not_over, tables_good, lawful}
 use Rattle.model.specs.Records.{Change, sound, fits, is_end, Record, record_bytes, body_of, decode}
 use Rattle.model.proofs.Order.{Typed, AllFine, Good, AllMeet}
-use Rattle.model.specs.Mirror.{Mirror, fresh, Step, hears, applies, bad, step, number_carried, column_bytes, value_answer, row_answer, column_answer}
+use Rattle.model.specs.Mirror.{Mirror, Step, hears, applies, bad, step, number_carried, column_bytes, value_answer, row_answer, column_answer}
 use Rattle.model.specs.Areas.{Store, encode_mirror, MirrorState, store_part, rows_pass, head_tests, store_good, mirror_tests, mirror_good}
 use Rattle.model.specs.Limits.{mirror_bytes}
 use Rattle.model.specs.Calls.{Arrived, mirror_after, hear_step, mirror_hear, new_store, new_mirror}

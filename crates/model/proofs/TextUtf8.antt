@@ -10,7 +10,7 @@ use native.Mathlib.Numerals.{add-one}
 use native.Mathlib.Omega.{arith}
 use borrow.Author.Tests.{le-ltb, ne_eqb, le-leb, ltb-true, ltb-false, leb-true, eqb-true, eqb-false, not-true}
 use lib.Dec.{eqb, ltb, leb}
-use lib.ListN.{length, get_or, take, drop, get_or-eq_default, length-take, length-drop, take-append-drop}
+use lib.ListN.{length, drop, get_or-eq_default, length-take, length-drop, take-append-drop}
 use lib.Seq.{drop-cons}
 use Rattle.model.specs.declared.Read.{Read}
 use Rattle.model.specs.declared.Read.TheVariants.{End, Stop, Deep}
@@ -18,13 +18,13 @@ use Rattle.model.specs.declared.Next.{Next}
 use Rattle.model.specs.declared.Next.TheVariants.{More, Done}
 use Rattle.model.specs.Base.{all}
 use Rattle.model.specs.Scan.{byte, Parsed, and_then, Turn, run, within_at, between}
-use Rattle.model.specs.Strings.{Range, ◌to◌, in_range, is_first_half, is_character, utf8, forms, rest_of, ranges_at, form_at, plain_by, short_of, hex_of, digit_by, digit_from, digit_at, tested_from, tested, no_digits, unit_at, second_at, second_from, pair_of, paired, escaped_from, escaped_at, going, escape_by, is_unescaped, char_by, char_bytes, char_adds, char_turn, body_at, string_at}
+use Rattle.model.specs.Strings.{Range, ◌to◌, in_range, is_first_half, is_character, utf8, forms, rest_of, ranges_at, form_at, short_of, hex_of, digit_by, digit_from, digit_at, tested_from, tested, no_digits, unit_at, second_at, second_from, pair_of, paired, escaped_from, escaped_at, going, escape_by, is_unescaped, char_by, char_bytes, char_adds, char_turn, body_at, string_at}
 use Rattle.model.specs.Value.{is_utf8}
 use Rattle.model.specs.Characters.{is_textual, CharacterBytes, CharacterMeant}
 use Rattle.model.proofs.Tests.{split, clash, and_l, and_r}
 use Rattle.model.proofs.Octets.{octet}
 pub use Rattle.model.proofs.Utf8.{by_test}
-use Rattle.model.proofs.Utf8.{in_range_lem, of_range, is_character_lem, of_character, Lead, lead, rest_of_lem, Fits, done, next, Tails, lead_tails, lead_small, Formed, formed, utf8_formed, char_of, first_byte, is_textual_lem, utf8_none, utf8_append, utf8_code, row_one, utf8_octets}
+use Rattle.model.proofs.Utf8.{in_range_lem, of_range, is_character_lem, Lead, lead, rest_of_lem, Fits, done, next, Tails, lead_tails, lead_small, Formed, formed, utf8_formed, char_of, first_byte, is_textual_lem, utf8_none, utf8_append, utf8_code, row_one, utf8_octets}
 
 -- ── what a run adds ──
 -- what every turn adds, a run adds

@@ -20,8 +20,8 @@ use Rattle.model.specs.Faults.{is_fine}
 use Rattle.model.specs.Commit.{commit, lawful}
 use Rattle.model.specs.Answers.{bracketed, error_text}
 use Rattle.model.specs.Transact.{Request, read_request, fresh_ids, ids_good, names_of, Ran, run_all, Transaction, at_commit, transact_rows}
-use Rattle.model.specs.Replies.{Reply, refused, changes_of, concluded, freshly, named, reply, reply_to}
-use Rattle.model.specs.declared.Status.TheVariants.{BadRequest, BadFreshIds}
+use Rattle.model.specs.Replies.{Reply, refused, changes_of, concluded, freshly, reply, reply_to}
+use Rattle.model.specs.declared.Status.TheVariants.{BadFreshIds}
 use Rattle.model.proofs.Tests.{parts}
 use Rattle.model.proofs.Octets.{octet}
 use Rattle.model.proofs.SchemaLaws.{column_at_lem}

@@ -1,6 +1,5 @@
 -- The text of answers: "Answers have no spaces." Assumes nothing: these are definitions.
-use Rattle.std.specs.Prelude.{ℕ, zero, suc, ◌+◌, ◌/◌, ◌%◌, Bool, true, false, List, [], ◌∷◌, ◌++◌, map, eqb, ltb, ℤ, pos, negsuc, get_or}
-use Rattle.std.proofs.Math.Option.{Option, none, some}
+use Rattle.std.specs.Prelude.{ℕ, zero, suc, ◌+◌, ◌/◌, ◌%◌, true, false, List, [], ◌∷◌, ◌++◌, map, eqb, ltb, ℤ, pos, negsuc, get_or}
 use Rattle.model.specs.Octets.{big}
 use Rattle.model.specs.Base.{flat, ascii}
 use Rattle.model.specs.Schema.{Base, integer, boolean, text, uuid}

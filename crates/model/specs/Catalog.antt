@@ -1,6 +1,6 @@
 -- The catalog: a schema as read, in entries of 48 bytes, as an area keeps it (document 01, "the area keeps the schema"). Entry 0 is the database, entries 1 to 4 its tables, entry
 -- 5 + 6 t + c column c of table t. Assumes nothing: these are definitions.
-use Rattle.std.specs.Prelude.{ℕ, zero, suc, ◌+◌, ◌-◌, ◌*◌, Bool, true, false, List, [], ◌∷◌, ◌++◌, map, eqb, ℤ, length, get_or, take, drop, replicate}
+use Rattle.std.specs.Prelude.{ℕ, zero, suc, ◌+◌, ◌-◌, ◌*◌, Bool, true, false, List, [], ◌∷◌, ◌++◌, map, eqb, length, get_or, take, drop, replicate}
 use Rattle.std.proofs.Math.Option.{Option, none, some}
 use Rattle.model.specs.Octets.{big, value, twos, part}
 use Rattle.model.specs.Limits.{most_tables, most_columns, most_indexes, most_index_columns, most_text_bytes, atom_bytes, entry_bytes}

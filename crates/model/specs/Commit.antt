@@ -1,12 +1,11 @@
 -- What happens at the commit: four steps. Assumes nothing: these are definitions.
-use Rattle.std.specs.Prelude.{ℕ, zero, suc, Bool, true, false, not, ◌&&◌, ◌||◌, List, [], ◌∷◌, ◌++◌, map, eqb, leb, length}
+use Rattle.std.specs.Prelude.{ℕ, zero, suc, Bool, true, false, not, ◌&&◌, List, [], ◌∷◌, ◌++◌, map, eqb, leb, length}
 use Rattle.std.proofs.Math.Option.{Option, none, some}
-use Rattle.model.specs.Base.{if◌then◌else◌, any, all, keep, every}
+use Rattle.model.specs.Base.{any, all, keep, every}
 use Rattle.model.specs.Schema.{Refers, plain, strong, weak, Column, Table, Schema, columns_of, is_root}
 use Rattle.model.specs.Value.{Value, same_value, elements, value_of, uuid_of}
 use Rattle.model.specs.Rows.{Row, key_of, key, has, remove, column_value, of_table}
 use Rattle.model.specs.Faults.{check, Judged}
-use Rattle.model.specs.declared.Fault.{Fault}
 use Rattle.model.specs.declared.Fault.TheVariants.{Fine, Constraint, Integrity}
 
 -- the keys of the rows that the elements of a column refer to

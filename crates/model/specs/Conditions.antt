@@ -1,5 +1,5 @@
 -- Conditions: [column, function, value] (RFC 7047, 5.1), and the rows that meet them. Assumes nothing: these are definitions.
-use Rattle.std.specs.Prelude.{ℕ, zero, suc, Bool, true, false, not, ◌&&◌, ◌||◌, List, [], ◌∷◌, eqb, ℤ, pos, negsuc, get_or}
+use Rattle.std.specs.Prelude.{ℕ, Bool, true, false, not, ◌&&◌, ◌||◌, List, [], ◌∷◌, eqb, ℤ, pos, get_or}
 use Rattle.std.proofs.Math.Option.{Option, none, some}
 use Rattle.std.specs.Int.Signed.{lt_z, le_z}
 use Rattle.model.specs.Octets.{eq_bytes}
@@ -10,7 +10,6 @@ use Rattle.model.specs.Value.{Value, elements, blank, int_of, uuid_atom, sorted,
 use Rattle.model.specs.Rows.{Row, column_value}
 use Rattle.model.specs.Faults.{Judged, earlier}
 use Rattle.model.specs.Written.{Names, string_in, array_in, test_fault, written}
-use Rattle.model.specs.declared.Fault.{Fault}
 use Rattle.model.specs.declared.Fault.TheVariants.{Fine, Syntax}
 use Rattle.model.specs.declared.Function.{Function}
 use Rattle.model.specs.declared.Function.TheVariants.{Less, AtMost, Equal, Unequal, AtLeast, Greater, Includes, Excludes}

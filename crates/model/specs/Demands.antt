@@ -1,7 +1,7 @@
 -- The three demands, as statements about the calls, from the bytes of a call to the bytes it leaves. Assumes nothing: these are definitions.
-use Rattle.std.specs.Prelude.{ℕ, zero, suc, ◌+◌, ◌-◌, ◌^◌, ◌≤◌, ◌<◌, ◌≡◌, ◌↔◌, Bool, true, false, not, ◌&&◌, ◌||◌, eqb, length, get_or, take, replicate}
+use Rattle.std.specs.Prelude.{ℕ, suc, ◌-◌, ◌^◌, ◌≤◌, ◌<◌, ◌≡◌, ◌↔◌, Bool, true, false, not, ◌&&◌, ◌||◌, eqb, length, get_or, take, replicate}
 use mathlib.Core.List.{List, [], ◌∷◌, ◌++◌, map, Memᴰ}
-use Rattle.std.proofs.Math.Option.{Option, none, some}
+use Rattle.std.proofs.Math.Option.{Option, some}
 use Rattle.model.specs.Octets.{value}
 use Rattle.model.specs.Base.{all}
 use Rattle.model.specs.Schema.{Schema, Database}
@@ -10,8 +10,8 @@ use Rattle.model.specs.Rows.{Row, key_of, has}
 use Rattle.model.specs.Refusals.{number_of, is_refusal}
 use Rattle.model.specs.Records.{Record, mark, number_from, encode, decode}
 use Rattle.model.specs.Mirror.{Mirror, hears, applies, highest, something, number_carried, column_bytes, column_answer}
-use Rattle.model.specs.Areas.{Store, encode_store, store_of, MirrorState, encode_mirror, mirror_of}
-use Rattle.model.specs.Calls.{Started, zeroed, new_store, new_mirror, store_start, mirror_start, Transacted, store_transact, store_mark, Arrived, mirror_hear, Progress, mirror_progress, Presence, mirror_has_row, Contents, mirror_column}
+use Rattle.model.specs.Areas.{Store, encode_store, store_of, encode_mirror, mirror_of}
+use Rattle.model.specs.Calls.{zeroed, new_store, new_mirror, store_start, mirror_start, Transacted, store_transact, store_mark, mirror_hear, mirror_progress, mirror_has_row, mirror_column}
 use Rattle.model.specs.Laid.{store_or, mirror_or, succeeds, records_laid, text_laid, store_laid}
 use Rattle.model.specs.FirstRefusal.{store_start_number, mirror_start_number, transact_number, mark_number, record_conditions, heard_as, given, hear_number, ask_number, column_number}
 use Rattle.model.specs.Histories.{StoreCall, are_bytes, of_bytes, area_after_all, records_of, sent_of, change_of, change_in, made, ends_commit, heard_all, Arrivals, heard_numbers}

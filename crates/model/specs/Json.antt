@@ -1,5 +1,5 @@
 -- JSON values by RFC 4627, as trees. Assumes nothing: these are definitions.
-use Rattle.std.specs.Prelude.{ℕ, zero, suc, ◌+◌, List, [], ◌∷◌, Bool, true, false, length, get_or, eqb}
+use Rattle.std.specs.Prelude.{ℕ, zero, suc, ◌+◌, List, [], ◌∷◌, Bool, true, false, length, eqb}
 use Rattle.model.specs.declared.Read.{Read}
 use Rattle.model.specs.declared.Read.TheVariants.{End, Stop, Deep}
 use Rattle.model.specs.declared.Next.{Next}

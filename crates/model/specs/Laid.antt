@@ -2,7 +2,7 @@
 use Rattle.std.specs.Prelude.{ℕ, suc, ◌+◌, Bool, true, false, not, ◌&&◌, List, [], ◌∷◌, ◌++◌, map, length}
 use Rattle.std.proofs.Math.Option.{Option, none, some}
 use Rattle.model.specs.Base.{all, every, flat}
-use Rattle.model.specs.Schema.{Table, Schema, Database}
+use Rattle.model.specs.Schema.{Schema, Database}
 use Rattle.model.specs.Rows.{Row, of_table}
 use Rattle.model.specs.Faults.{is_fine}
 use Rattle.model.specs.Answers.{bracketed, error_text}

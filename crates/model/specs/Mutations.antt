@@ -1,17 +1,17 @@
 -- Mutations: [column, mutator, value] (RFC 7047, 5.1), and a step, which is one mutation on one row. Assumes nothing: these are definitions.
-use Rattle.std.specs.Prelude.{ℕ, zero, suc, Bool, true, false, not, ◌&&◌, ◌||◌, List, [], ◌∷◌, map, eqb, leb, ℤ, pos, negsuc, ◌+ℤ◌, ◌-ℤ◌, ◌*ℤ◌, length}
+use Rattle.std.specs.Prelude.{ℕ, Bool, true, false, not, ◌&&◌, List, [], ◌∷◌, map, eqb, leb, ℤ, pos, negsuc, ◌+ℤ◌, ◌-ℤ◌, ◌*ℤ◌, length}
 use Rattle.std.proofs.Math.Option.{Option, none, some}
 use Rattle.std.specs.Int.Signed.{le_z, quot_z, rem_z}
 use Rattle.model.specs.Octets.{eq_bytes}
 use Rattle.model.specs.Base.{if◌then◌else◌, all, ascii, nth, distinct}
 use Rattle.model.specs.Limits.{most_elements}
 use Rattle.model.specs.Json.{Json}
-use Rattle.model.specs.Schema.{Base, integer, uuid, plain, Column, scalar, column_named}
-use Rattle.model.specs.Value.{Value, elements, int_of, int_atom, sorted, value_of, union, without, all_in_limits}
+use Rattle.model.specs.Schema.{integer, Column, scalar, column_named}
+use Rattle.model.specs.Value.{elements, int_of, int_atom, sorted, value_of, union, without, all_in_limits}
 use Rattle.model.specs.Rows.{Row, column_value, set_column}
 use Rattle.model.specs.Faults.{Judged, is_fine, earlier, check}
 use Rattle.model.specs.Written.{Names, insert_fault, delete_fault, operand_fault, written}
-use Rattle.model.specs.Conditions.{Triple, triple_in, is_integer_base, first_int, id_column}
+use Rattle.model.specs.Conditions.{triple_in, is_integer_base, first_int, id_column}
 use Rattle.model.specs.declared.Fault.{Fault}
 use Rattle.model.specs.declared.Fault.TheVariants.{Fine, Syntax, Resources, Constraint, Domain, Range}
 use Rattle.model.specs.declared.Mutator.{Mutator}

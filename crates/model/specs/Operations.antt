@@ -1,15 +1,14 @@
 -- Operations, on working rows. Assumes nothing: these are definitions.
-use Rattle.std.specs.Prelude.{ℕ, zero, suc, ◌+◌, Bool, true, false, not, ◌&&◌, ◌||◌, List, [], ◌∷◌, ◌++◌, map, eqb, ltb, length, get_or}
+use Rattle.std.specs.Prelude.{ℕ, Bool, true, false, not, ◌&&◌, ◌||◌, List, [], ◌∷◌, ◌++◌, map, eqb, ltb, length}
 use Rattle.std.proofs.Math.Option.{Option, none, some}
 use Rattle.model.specs.Octets.{eq_bytes}
 use Rattle.model.specs.Base.{if◌then◌else◌, any, all, keep, count, member, distinct, is_some, ascii}
 use Rattle.model.specs.Limits.{most_rows}
 use Rattle.model.specs.Json.{Json, Named}
-use Rattle.model.specs.Text.{is_word}
 use Rattle.model.specs.Schema.{Column, Schema, columns_of, table_named, column_named}
 use Rattle.model.specs.SchemaText.{is_id, only}
 use Rattle.model.specs.Value.{Value, same_value, elements, all_in_limits, sorted, value_of, initial}
-use Rattle.model.specs.Rows.{Row, add, initials, column_value}
+use Rattle.model.specs.Rows.{Row, add}
 use Rattle.model.specs.Faults.{is_fine, earlier, worst, check, Judged}
 use Rattle.model.specs.Written.{Names, string_in, array_in, object_in, member_named, row_fault, written}
 use Rattle.model.specs.Conditions.{Test, read_tests, matches}

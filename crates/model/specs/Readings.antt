@@ -9,7 +9,7 @@ use Rattle.model.specs.Base.{ascii}
 use Rattle.model.specs.Records.{pieces}
 use Rattle.model.specs.Refusals.{number_of}
 use Rattle.model.specs.Areas.{mirror_of}
-use Rattle.model.specs.Calls.{Started, store_start, mirror_start, Transacted, store_transact, Progress, mirror_progress}
+use Rattle.model.specs.Calls.{store_start, mirror_start, Transacted, store_transact, mirror_progress}
 use Rattle.model.specs.Histories.{heard_all}
 use Rattle.model.specs.Laid.{mirror_or}
 

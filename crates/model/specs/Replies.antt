@@ -1,5 +1,5 @@
 -- A transact on a store's state: its refusals in order, and what it gives where it has none. Assumes nothing: these are definitions.
-use Rattle.std.specs.Prelude.{ℕ, zero, suc, ◌+◌, Bool, true, false, List, [], ◌∷◌, leb, length}
+use Rattle.std.specs.Prelude.{ℕ, ◌+◌, true, false, List, [], leb, length}
 use Rattle.std.proofs.Math.Option.{Option, none, some}
 use Rattle.model.specs.Octets.{eq_bytes}
 use Rattle.model.specs.Limits.{last_number}

@@ -1,8 +1,8 @@
 -- Rows, kept in the order of their tables and, in a table, of their ids. Assumes nothing: these are definitions.
-use Rattle.std.specs.Prelude.{ℕ, zero, suc, ◌+◌, ◌*◌, Bool, true, false, not, ◌&&◌, ◌||◌, List, [], ◌∷◌, map, eqb, ltb, length, get_or, set}
+use Rattle.std.specs.Prelude.{ℕ, ◌+◌, ◌*◌, Bool, false, ◌||◌, List, [], ◌∷◌, map, eqb, ltb, get_or, set}
 use Rattle.std.proofs.Math.Option.{Option, none, some}
-use Rattle.model.specs.Base.{if◌then◌else◌, all, keep}
-use Rattle.model.specs.Schema.{Column, Schema, columns_of}
+use Rattle.model.specs.Base.{if◌then◌else◌, keep}
+use Rattle.model.specs.Schema.{Schema, columns_of}
 use Rattle.model.specs.Value.{Value, value_of, initial}
 
 -- an id is its 16 bytes read as a number

@@ -1,10 +1,10 @@
 -- The rules of document 01 on schemas, of the database that a text is read as: all but those on what a database does not keep (the text's form and length, version, cksum, ephemeral). What is accepted keeps them (`read_sane`), and an area in good order holds such a database. Assumes nothing: these are definitions.
-use Rattle.std.specs.Prelude.{ℕ, Bool, true, false, not, ◌&&◌, ◌||◌, List, [], ◌∷◌, map, ltb, leb, ℤ, length}
+use Rattle.std.specs.Prelude.{ℕ, Bool, true, not, ◌&&◌, ◌||◌, List, [], ◌∷◌, map, ltb, leb, ℤ, length}
 use Rattle.std.proofs.Math.Option.{Option, none, some}
 use Rattle.std.specs.Int.Signed.{le_z}
 use Rattle.model.specs.Base.{all, every, distinct}
 use Rattle.model.specs.Limits.{most_tables, most_columns, most_elements, most_indexes, most_index_columns}
-use Rattle.model.specs.Schema.{Base, integer, boolean, text, uuid, Refers, plain, strong, weak, Column, Table, Database}
+use Rattle.model.specs.Schema.{Base, boolean, uuid, Refers, plain, strong, weak, Column, Table, Database}
 use Rattle.model.specs.SchemaText.{is_id, same_base, least, greatest}
 
 -- "a refTable the schema .. doesn't list": a reference goes to one of n tables

@@ -1,6 +1,6 @@
 -- Which texts are schemas, and what they say (document 01, "A schema needs name, version .. and tables"). Each level is a list of tests over the members of an
 -- object; what passes them all is read by total functions. A value that is no object has no members, so that a required one is missing. Assumes nothing: these are definitions.
-use Rattle.std.specs.Prelude.{ℕ, zero, suc, ◌-◌, Bool, true, false, not, ◌&&◌, ◌||◌, List, [], ◌∷◌, map, eqb, leb, ℤ, pos, negsuc, length}
+use Rattle.std.specs.Prelude.{ℕ, suc, ◌-◌, Bool, true, false, not, ◌&&◌, ◌||◌, List, [], ◌∷◌, map, eqb, leb, ℤ, pos, negsuc, length}
 use Rattle.std.proofs.Math.Option.{Option, none, some}
 use Rattle.std.specs.Int.Signed.{le_z}
 use Rattle.model.specs.declared.Whole.{Whole}
@@ -13,7 +13,7 @@ use Rattle.model.specs.Nav.{kind_of, is_text, is_array, is_object, is_truth, is_
 use Rattle.model.specs.Members.{members_in, has_member, member_value, counting}
 use Rattle.model.specs.Whole.{whole_of, is_whole, whole_int}
 use Rattle.model.specs.Text.{is_word}
-use Rattle.model.specs.Schema.{Base, integer, boolean, text, uuid, Refers, plain, strong, weak, Column, Table, Schema, Database}
+use Rattle.model.specs.Schema.{Base, integer, boolean, text, uuid, Refers, plain, strong, weak, Column, Table, Database}
 
 -- ── members and values ──
 -- what a value that is true or false says, d where it is neither

@@ -1,18 +1,17 @@
 -- A request run on a store's rows: operations in order, then the commit. Assumes nothing: these are definitions.
-use Rattle.std.specs.Prelude.{ℕ, zero, suc, ◌+◌, ◌*◌, Bool, true, false, not, ◌&&◌, ◌||◌, List, [], ◌∷◌, ◌++◌, map, eqb, leb, length, get_or, take, drop}
+use Rattle.std.specs.Prelude.{ℕ, zero, suc, Bool, true, false, not, ◌&&◌, List, [], ◌∷◌, ◌++◌, map, eqb, leb, length, get_or, take, drop}
 use Rattle.std.proofs.Math.Option.{Option, none, some}
 use Rattle.model.specs.Octets.{value, eq_bytes}
-use Rattle.model.specs.Base.{if◌then◌else◌, any, all, is_some, ascii}
+use Rattle.model.specs.Base.{if◌then◌else◌, any, ascii}
 use Rattle.model.specs.Limits.{most_request_bytes, most_operations}
 use Rattle.model.specs.Scan.{Parsed}
 use Rattle.model.specs.Json.{Json, Named, text_at}
 use Rattle.model.specs.Nav.{is_read}
-use Rattle.model.specs.Text.{is_word}
 use Rattle.model.specs.Schema.{Schema}
 use Rattle.model.specs.Rows.{Row, has_id}
 use Rattle.model.specs.Faults.{is_fine}
-use Rattle.model.specs.Written.{Names, string_in, array_in, object_in, member_named}
-use Rattle.model.specs.Operations.{member_as, Done, operate}
+use Rattle.model.specs.Written.{Names, string_in, array_in, object_in}
+use Rattle.model.specs.Operations.{member_as, operate}
 use Rattle.model.specs.Commit.{commit}
 use Rattle.model.specs.Answers.{bracketed, error_text}
 use Rattle.model.specs.declared.Fault.{Fault}

@@ -1,6 +1,6 @@
 -- Integers as written: "an optional minus and digits, no leading zero, from -2^63 to 2^63-1, -0 being 0; any other number is well formed but never an integer".
 -- A leading zero is ruled out by the grammar of numbers. Assumes nothing: these are definitions.
-use Rattle.std.specs.Prelude.{ℕ, zero, suc, ◌+◌, ◌-◌, ◌*◌, List, [], ◌∷◌, Bool, true, false, eqb, ltb, ℤ, pos, neg_ℤ}
+use Rattle.std.specs.Prelude.{ℕ, ◌+◌, ◌-◌, ◌*◌, List, [], ◌∷◌, Bool, true, false, eqb, ltb, ℤ, pos, neg_ℤ}
 use Rattle.model.specs.Scan.{is_digit}
 use Rattle.model.specs.Json.{Json, null, bool, num, str, arr, obj}
 use Rattle.model.specs.declared.Digits.{Digits}

@@ -1,7 +1,7 @@
 -- Values as written in a request: elements, atoms by type, and what is judged of them as they stand. Assumes nothing: these are definitions.
-use Rattle.std.specs.Prelude.{ℕ, zero, suc, ◌+◌, ◌*◌, Bool, true, false, not, ◌&&◌, ◌||◌, List, [], ◌∷◌, map, eqb, ltb, leb, length, get_or}
+use Rattle.std.specs.Prelude.{ℕ, suc, ◌+◌, ◌*◌, Bool, true, false, not, ◌&&◌, ◌||◌, List, [], ◌∷◌, eqb, ltb, leb, length, get_or}
 use Rattle.std.proofs.Math.Option.{Option, none, some}
-use Rattle.model.specs.Base.{if◌then◌else◌, any, all, member, distinct, ascii}
+use Rattle.model.specs.Base.{if◌then◌else◌, any, distinct, ascii}
 use Rattle.model.specs.Limits.{most_elements, most_text_bytes}
 use Rattle.model.specs.Strings.{hex_of}
 use Rattle.model.specs.Json.{Json, null, bool, num, str, arr, obj, Named}
@@ -13,7 +13,7 @@ use Rattle.model.specs.Schema.{Base, integer, boolean, text, uuid, Column, scala
 use Rattle.model.specs.Value.{int_atom, bool_atom, text_atom, uuid_atom, all_in_limits, count_in_limits}
 use Rattle.model.specs.Faults.{check, Judged}
 use Rattle.model.specs.declared.Fault.{Fault}
-use Rattle.model.specs.declared.Fault.TheVariants.{Fine, Syntax, Resources, Duplicate, Constraint}
+use Rattle.model.specs.declared.Fault.TheVariants.{Fine, Syntax, Resources, Constraint}
 use Rattle.model.specs.declared.Function.{Function}
 use Rattle.model.specs.declared.Function.TheVariants.{Less, AtMost, Equal, Unequal, AtLeast, Greater, Includes, Excludes}
 

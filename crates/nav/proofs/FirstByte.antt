@@ -1,30 +1,26 @@
 -- What a value is, by its first byte. Assumes nothing.
 use mathlib.Core.Path.{◌≡◌, refl, sym, ap, subst, ◌∙◌}
-use mathlib.Core.List.{List, [], ◌∷◌, ◌++◌}
+use mathlib.Core.List.{List, [], ◌∷◌}
 use mathlib.Core.Bool.{Bool, true, false}
-use Prim.Native.Nat.{ℕ, zero, suc, ◌+◌, ◌-◌, ◌<◌, ◌≤◌}
+use Prim.Native.Nat.{ℕ, suc, ◌≤◌}
 use native.Mathlib.Omega.{arith}
 use native.Mathlib.Nat.{sub_self}
 use lib.ListN.{length}
-use lib.Dec.{eqb, lit<}
-use borrow.Author.Tests.{eqb-true, eqb-false, eq-eqb}
+use lib.Dec.{eqb}
+use borrow.Author.Tests.{eqb-true, eqb-false}
 use Rattle.model.specs.declared.Read.{Read}
 use Rattle.model.specs.declared.Read.TheVariants.{End, Stop, Deep}
-use Rattle.model.specs.declared.Open.{Open}
 use Rattle.model.specs.declared.Open.TheVariants.{Scalar}
-use Rattle.model.specs.declared.Found.{Found}
-use Rattle.model.specs.declared.Found.TheVariants.{At, Nothing}
-use Rattle.model.specs.Scan.{byte, Parsed, spaces_at, between, end_or}
+use Rattle.model.specs.Scan.{byte, spaces_at, between, end_or}
 use Rattle.model.specs.Strings.{string_at}
 use Rattle.model.specs.Numbers.{number_at}
-use Rattle.model.specs.Json.{Json, null, bool, num, str, arr, obj, Items, none, item, items, scalar_by, opens, dispatch, value_at}
-use Rattle.model.specs.declared.Kind.{Kind}
+use Rattle.model.specs.Json.{Json, null, bool, num, str, arr, obj, Items, items, scalar_by, opens, dispatch, value_at}
 use Rattle.model.specs.declared.Kind.TheVariants.{Null, Truth, Number, Text, Array, Object}
-use Rattle.model.specs.Nav.{is_read, kind_of, list_of, items_in, text_in}
+use Rattle.model.specs.Nav.{is_read, kind_of, list_of, items_in}
 use Rattle.inner.specs.Positions.{well_at, tree_at, first_of, items_from, items_fine, kind_by, is_true}
 use Rattle.scan.proofs.Past.{Past}
 use Rattle.scan.proofs.Enough.{value_past}
-use Rattle.nav.proofs.Rest.{end_of, array_step, object_step, array_is, items_none}
+use Rattle.nav.proofs.Rest.{array_step, object_step, array_is}
 
 pub split : {P : Type 0} (b : Bool) → (b ≡ true → P) → (b ≡ false → P) → P
 split true f g = f refl

@@ -1,22 +1,20 @@
 -- Laws of integers as written. Assumes nothing.
-use mathlib.Core.Path.{◌≡◌, refl, sym, ap, subst, ◌∙◌}
-use mathlib.Core.List.{List, [], ◌∷◌, ◌++◌}
+use mathlib.Core.Path.{◌≡◌, refl}
+use mathlib.Core.List.{List, [], ◌∷◌}
 use mathlib.Core.Bool.{Bool, true, false}
-use Prim.Native.Nat.{ℕ, zero, suc, ◌+◌, ◌-◌, ◌*◌, ◌<◌, ◌≤◌}
+use Prim.Native.Nat.{ℕ, suc, ◌+◌, ◌-◌, ◌*◌, ◌<◌, ◌≤◌}
 use native.Mathlib.Omega.{arith}
-use lib.ListN.{length, take, drop, get_or}
+use lib.ListN.{length}
 use lib.Seq.{drop-cons}
 use borrow.Author.Tests.{lt-ltb, ne_eqb}
 use Rattle.model.specs.Scan.{byte, between, is_digit}
-use Rattle.model.specs.declared.Digits.{Digits}
-use Rattle.model.specs.declared.Digits.TheVariants.{Size, Bad}
+use Rattle.model.specs.declared.Digits.TheVariants.{Bad}
 use Rattle.model.specs.Json.{Json, null, bool, num, str, arr, obj}
 use Rattle.model.specs.declared.Kind.{Kind}
 use Rattle.model.specs.declared.Kind.TheVariants.{Null, Truth, Number, Text, Array, Object}
 use Rattle.model.specs.Nav.{kind_of}
 use Rattle.inner.specs.Positions.{is_number}
-use Rattle.model.specs.declared.Whole.{Whole}
-use Rattle.model.specs.declared.Whole.TheVariants.{Plus, Minus, Other}
+use Rattle.model.specs.declared.Whole.TheVariants.{Other}
 use Rattle.model.specs.Whole.{sized, plus_of, minus_of, whole_text, whole_of}
 
 -- bytes from one position up to another: the first and the rest

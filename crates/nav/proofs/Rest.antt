@@ -1,27 +1,26 @@
 -- The items of an array or object from a position on, and that they are the tree's. Assumes nothing.
 use mathlib.Core.Path.{◌≡◌, refl, sym, ap, subst, ◌∙◌}
-use mathlib.Core.List.{List, [], ◌∷◌, ◌++◌}
+use mathlib.Core.List.{List, [], ◌∷◌}
 use mathlib.Core.Bool.{Bool, true, false}
-use Prim.Native.Nat.{ℕ, zero, suc, ◌+◌, ◌-◌, ◌<◌, ◌≤◌}
+use Prim.Native.Nat.{ℕ, zero, suc, ◌+◌, ◌<◌, ◌≤◌}
 use native.Mathlib.Omega.{arith}
 use lib.ListN.{length}
 use lib.Dec.{eqb, lit<}
-use borrow.Author.Tests.{eqb-true, eq-eqb}
+use borrow.Author.Tests.{eq-eqb}
 use Rattle.model.specs.declared.Read.{Read}
 use Rattle.model.specs.declared.Read.TheVariants.{End, Stop, Deep}
 use Rattle.model.specs.declared.Next.{Next}
 use Rattle.model.specs.declared.Next.TheVariants.{More, Done}
-use Rattle.model.specs.declared.Open.{Open}
-use Rattle.model.specs.declared.Open.TheVariants.{Array, Object, Scalar}
+use Rattle.model.specs.declared.Open.TheVariants.{Object}
 use Rattle.model.specs.declared.Found.{Found}
 use Rattle.model.specs.declared.Found.TheVariants.{At, Nothing}
-use Rattle.model.specs.Scan.{byte, Parsed, and_then, Turn, run, spaces_at}
-use Rattle.model.specs.Json.{Json, null, arr, obj, items, members, Named, key_at, after_item, item_turn, list_at, array_at, member_at, object_at, opens, dispatch, value_at, no_value}
+use Rattle.model.specs.Scan.{byte, Parsed, and_then, run, spaces_at}
+use Rattle.model.specs.Json.{Json, arr, obj, items, members, key_at, after_item, item_turn, list_at, array_at, member_at, object_at, opens, dispatch, value_at}
 use Rattle.scan.proofs.Past.{Past, PastNext}
 use Rattle.scan.proofs.Enough.{enough, run_on, after_past, value_past, member_past, spaces_ge}
 use Rattle.model.specs.Nav.{is_read}
 use Rattle.inner.specs.Positions.{well_at, tree_at, found_of, first_from, first_of, next_of, next_item, next_member, rest_of, fine_of, items_from, items_fine, members_from, members_fine, left}
-use Rattle.json_reader.proofs.Mono.{Below, level_more, array_more, object_more}
+use Rattle.json_reader.proofs.Mono.{level_more, array_more, object_more}
 
 pub not_both : {b : Bool} → b ≡ true → b ≡ false → ⊥
 not_both t f = let z : ◌≡◌ {A = ℕ} 0 1 = cc in omega arith

@@ -1,20 +1,18 @@
 -- Members by places. Assumes nothing.
 use mathlib.Core.Path.{◌≡◌, refl, sym, ap, subst, ◌∙◌}
 use mathlib.Core.List.{List, [], ◌∷◌}
-use mathlib.Core.Bool.{Bool, true, false}
-use Prim.Native.Nat.{ℕ, zero, suc, ◌+◌, ◌-◌, ◌<◌, ◌≤◌}
+use mathlib.Core.Bool.{true}
+use Prim.Native.Nat.{ℕ, ◌<◌}
 use native.Mathlib.Omega.{arith}
-use lib.ListN.{length}
-use lib.Dec.{eqb, ltb, lit<}
+use lib.Dec.{eqb, ltb}
 use borrow.Author.Tests.{eqb-true, eqb-false, ltb-false, lt-ltb}
 use Rattle.model.specs.declared.Read.{Read}
 use Rattle.model.specs.declared.Read.TheVariants.{End, Stop, Deep}
 use Rattle.model.specs.declared.Found.{Found}
 use Rattle.model.specs.declared.Found.TheVariants.{At, Nothing}
-use Rattle.model.specs.Scan.{byte, Parsed, and_then, within_at, spaces_at, end_or}
+use Rattle.model.specs.Scan.{byte, and_then, within_at, spaces_at, end_or}
 use Rattle.model.specs.Strings.{string_at}
-use Rattle.model.specs.Json.{Json, null, bool, num, str, arr, obj, Members, members, Named, key_at, member_at, value_at}
-use Rattle.model.specs.declared.Kind.{Kind}
+use Rattle.model.specs.Json.{Json, null, bool, num, str, arr, obj, members, Named, key_at, member_at, value_at}
 use Rattle.model.specs.declared.Kind.TheVariants.{Null, Truth, Number, Text, Array, Object}
 use Rattle.model.specs.Nav.{is_read, kind_of}
 use Rattle.inner.specs.Positions.{well_at, tree_at, kind_by, first_of, next_item, items_from, items_fine, next_member, members_from, members_fine, left}

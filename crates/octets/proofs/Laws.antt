@@ -1,12 +1,12 @@
 -- The laws of loops that write and read numbers most significant byte first, and of those that write the first bytes of a list. Assumes nothing.
-use mathlib.Core.Path.{◌≡◌, sym, ap, ◌∙◌, subst}
+use mathlib.Core.Path.{◌≡◌, sym, ap, ◌∙◌}
 use mathlib.Core.List.{List, [], ◌∷◌, ◌++◌, append_assoc}
-use Prim.Native.Nat.{ℕ, suc, ◌+◌, ◌-◌, ◌*◌, ◌/◌, ◌%◌, ◌^◌, ◌≤◌, ◌<◌}
-use native.Mathlib.Nat.{pow-suc, div-div-eq-div-mul, add_assoc, mul_assoc, add-mul, mul_right_comm, lt_of_lt_of_le, pow-le-pow_right}
+use Prim.Native.Nat.{ℕ, suc, ◌+◌, ◌-◌, ◌*◌, ◌/◌, ◌%◌, ◌^◌, ◌<◌}
+use native.Mathlib.Nat.{pow-suc, div-div-eq-div-mul, add_assoc, mul_assoc, add-mul, lt_of_lt_of_le, pow-le-pow_right}
 use native.Mathlib.Numerals.{add-one}
 use native.Mathlib.Omega.{arith}
 use lib.Dec.{lit<}
-use lib.ListN.{length, take, drop, set, get_or, length-append, length-take}
+use lib.ListN.{length, take, drop, set, get_or, length-append}
 use lib.Seq.{take-suc, drop-cons, set_at, append_snoc, length-take-le}
 use Rattle.model.specs.Octets.{big, value}
 

@@ -5,9 +5,8 @@ use mathlib.Core.List.{List, [], ◌∷◌, map}
 use mathlib.Core.Option.{Option}
 use Prim.Native.Nat.{ℕ, suc}
 use native.Mathlib.Omega.{arith}
-use lib.Dec.{ltb}
 use borrow.Author.Tests.{ltb-false}
-use Rattle.model.specs.Base.{if◌then◌else◌, keep, count}
+use Rattle.model.specs.Base.{keep, count}
 use Rattle.model.specs.Value.{Value}
 use Rattle.model.specs.Rows.{Row}
 use Rattle.model.specs.Faults.{Judged}

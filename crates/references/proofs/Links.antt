@@ -1,29 +1,27 @@
 -- What the columns of a row refer to, one column after another. Assumes nothing.
 use mathlib.Core.Path.{◌≡◌, refl, sym, ap, ◌∙◌}
-use mathlib.Core.Bool.{Bool, true, false, not, ◌&&◌, ◌||◌}
-use mathlib.Core.List.{List, [], ◌∷◌, ◌++◌, map}
-use mathlib.Core.Option.{Option, none, some}
-use Prim.Native.Nat.{ℕ, zero, suc, ◌+◌, ◌*◌, ◌≤◌, ◌<◌, min}
+use mathlib.Core.Bool.{Bool, true, false, ◌&&◌, ◌||◌}
+use mathlib.Core.List.{List, [], ◌∷◌, ◌++◌}
+use mathlib.Core.Option.{Option}
+use Prim.Native.Nat.{ℕ, zero, suc, ◌+◌, ◌≤◌, ◌<◌, min}
 use native.Mathlib.Numerals.{add-one}
 use native.Mathlib.Omega.{arith}
-use borrow.Author.Tests.{ne_eqb, eq-eqb}
+use borrow.Author.Tests.{ne_eqb}
 use lib.Dec.{eqb}
 use lib.ListN.{length, get_or, take, drop, drop_of_length-le}
 use lib.Seq.{drop-cons}
 use Rattle.model.specs.Base.{any, all}
-use Rattle.model.specs.Schema.{Refers, plain, strong, weak, Column, Schema, columns_of}
+use Rattle.model.specs.Schema.{Refers, Schema, columns_of}
 use Rattle.model.specs.Value.{Value, elements, value_of}
-use Rattle.model.specs.Rows.{Row}
-use Rattle.model.specs.Commit.{strongly, weakly, keys_of, targets}
+use Rattle.model.specs.Commit.{keys_of, targets}
 use Rattle.model.specs.Areas.{columns_from, row_from}
-use Rattle.model.specs.Catalog.{refers_from, column_place, packed_tables}
+use Rattle.model.specs.Catalog.{refers_from, packed_tables}
 use Rattle.inner.specs.Working.{table_in, value_in}
 use Rattle.model.proofs.Tests.{split}
 use Rattle.inner.proofs.Working.{row_table}
 use Rattle.inner.proofs.Columns.{column_value_lem}
 use Rattle.references.specs.Links.{pick, target_table, refers_at}
 use Rattle.catalog.specs.Accepted.{Accepted}
-use Rattle.references.specs.declared.Target.{Target}
 use Rattle.references.specs.declared.Target.TheVariants.{Table, Nothing}
 use Rattle.references.proofs.Walks.{take_min}
 use Rattle.references.proofs.Packs.{columns_on}

@@ -7,11 +7,10 @@ use native.Mathlib.Numerals.{add-one}
 use native.Mathlib.Omega.{arith}
 use lib.ListN.{length, get_or, take, drop, length-map, length-take, length-drop, get_or-map}
 use lib.Seq.{drop-cons, get_or-take, get_or-drop}
-use Rattle.model.specs.Limits.{most_tables, most_columns}
-use Rattle.model.specs.Schema.{Column, Table, columns_of}
+use Rattle.model.specs.Limits.{most_columns}
+use Rattle.model.specs.Schema.{Column, columns_of}
 use Rattle.model.specs.Catalog.{column_from, column_place, table_from, tables_from, packed_tables, database_from, table_count, column_count}
-use Rattle.model.specs.Sane.{sane}
-use Rattle.model.proofs.Accepted.{narrow, Kept, sane_kept}
+use Rattle.model.proofs.Accepted.{Kept, sane_kept}
 use Rattle.model.proofs.Lengths.{narrow_at}
 use Rattle.catalog.specs.Accepted.{Accepted}
 use Rattle.catalog.proofs.Laws as laws

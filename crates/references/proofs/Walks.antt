@@ -1,7 +1,7 @@
 -- Tests over the first n elements of a list, one after another, with a way out at the first that decides. Assumes nothing.
 use mathlib.Core.Path.{◌≡◌, refl, sym, ap, ◌∙◌}
-use mathlib.Core.Bool.{Bool, true, false, not}
-use mathlib.Core.List.{List, [], ◌∷◌, map}
+use mathlib.Core.Bool.{Bool, true, false}
+use mathlib.Core.List.{List, [], ◌∷◌}
 use Prim.Native.Nat.{ℕ, zero, suc, ◌+◌, ◌≤◌, ◌<◌, min}
 use native.Mathlib.Numerals.{add-one}
 use native.Mathlib.Omega.{arith}
@@ -16,7 +16,7 @@ use Rattle.model.specs.Commit.{keys_of}
 use Rattle.model.proofs.Tests.{split, eqb_flip}
 use Rattle.model.proofs.Within.{any_map, all_map}
 use Rattle.model.specs.Schema.{Schema}
-use Rattle.model.specs.Rows.{Row, key_of, key}
+use Rattle.model.specs.Rows.{Row, key_of}
 use Rattle.model.specs.Areas.{row_from}
 use Rattle.inner.specs.Working.{working}
 use Rattle.inner.proofs.Working.{working_on, working_end}

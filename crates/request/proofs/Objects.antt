@@ -7,9 +7,7 @@ use Prim.Native.Nat.{ℕ, suc, ◌≤◌, ◌<◌}
 use borrow.Author.Tests.{lt-leb, le-leb, leb-true}
 use lib.Dec.{leb}
 use lib.ListN.{length, length-map}
-use Rattle.model.specs.declared.Read.{Read}
 use Rattle.model.specs.declared.Read.TheVariants.{End, Stop, Deep}
-use Rattle.model.specs.declared.Found.{Found}
 use Rattle.model.specs.declared.Found.TheVariants.{At, Nothing}
 use Rattle.model.specs.Base.{all, is_some}
 use Rattle.model.specs.Limits.{most_request_bytes}

@@ -4,7 +4,7 @@ use mathlib.Core.Bool.{Bool, true, false}
 use mathlib.Core.List.{List, [], ◌++◌}
 use Prim.Native.Nat.{ℕ, ◌+◌, ◌*◌, ◌≤◌, ◌<◌}
 use native.Mathlib.Omega.{arith}
-use lib.ListN.{length, get_or, take, drop, set, take-append-drop, length-drop}
+use lib.ListN.{length, get_or, take, drop, take-append-drop, length-drop}
 use lib.Seq.{take_at, drop_at, drop-drop, get_or-set_same, get_or-set_other, length-take-le, take-append-le, drop-append-le}
 use Rattle.model.specs.Value.{Value}
 use Rattle.inner.specs.Working.{value_in, with_value}

@@ -11,7 +11,7 @@ use Rattle.model.specs.Json.{Json, Named}
 use Rattle.inner.specs.Positions.{tree_at}
 use Rattle.model.specs.Members.{members_in}
 use Rattle.model.specs.Schema.{Column}
-use Rattle.model.specs.Written.{Names, member_named, written}
+use Rattle.model.specs.Written.{Names, member_named}
 use Rattle.model.specs.Operations.{value_written, column_written, columns_written}
 use Rattle.model.specs.Catalog.{column_from}
 use Rattle.uuids.specs.Named.{names_at}

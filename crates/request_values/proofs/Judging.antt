@@ -3,10 +3,8 @@ use mathlib.Core.Path.{◌≡◌, refl, sym, ap, ◌∙◌}
 use mathlib.Core.Bool.{Bool, true, false, not, ◌&&◌}
 use mathlib.Core.List.{List, [], ◌∷◌}
 use mathlib.Core.Option.{Option, none, some}
-use mathlib.Core.Logic.{◌⊎◌, ⊎_elim}
-use Prim.Native.Nat.{ℕ, suc, ◌-◌, ◌≤◌, ◌<◌}
+use Prim.Native.Nat.{ℕ, suc, ◌-◌, ◌≤◌}
 use native.Mathlib.Omega.{arith}
-use denote.Enum.Declared.{tag_of, declared}
 use lib.Dec.{eqb, leb}
 use lib.ListN.{length, take, replicate}
 use lib.Seq.{take-append_seam}
@@ -24,7 +22,6 @@ use Rattle.model.specs.Value.{blank, value_of, all_in_limits, count_in_limits}
 use Rattle.model.specs.Faults.{check, Judged}
 use Rattle.model.specs.Written.{Names, elements_in, atom_in, atoms_in, long_atom, row_fault, insert_fault, delete_fault, operand_fault, set_count, test_fault, written}
 use Rattle.model.specs.Mutations.{mutation_fault}
-use Rattle.model.specs.contracts.Mutator.{enum}
 use Rattle.model.proofs.Tests.{split, and_l, and_r}
 use Rattle.model.proofs.WrittenLaws.{fitting_parts}
 use Rattle.elements.specs.Elements.{elements_from, Begins}

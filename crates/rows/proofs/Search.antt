@@ -11,7 +11,7 @@ use lib.Arith.{digits_lt, digits_div, digits_mod}
 use lib.Pow.{pow-add}
 use lib.Dec.{eqb, ltb, leb}
 use lib.ListN.{length, take, drop, get_or, take-append-drop, length-append, length-drop}
-use lib.Seq.{take_all, length-take-le}
+use lib.Seq.{take_all}
 use Rattle.model.specs.Octets.{value}
 use Rattle.model.specs.Schema.{Schema}
 use Rattle.model.specs.Rows.{key_of, has_id}

@@ -1,5 +1,5 @@
 -- What the functions of this crate leave: parts of their promises by name. Assumes nothing: these are definitions.
-use Rattle.std.specs.Prelude.{◌≡◌, true, false, List, [], ℕ, suc, ◌+◌, ◌-◌, ◌*◌, ◌^◌, ◌≤◌, ◌<◌, eqb, length, get_or, take}
+use Rattle.std.specs.Prelude.{◌≡◌, true, false, List, [], ℕ, ◌+◌, ◌-◌, ◌*◌, ◌^◌, ◌≤◌, ◌<◌, eqb, length, get_or, take}
 use Rattle.model.specs.Limits.{atom_bytes, most_columns, id_offset, id_bytes, counts_offset}
 use Rattle.model.specs.Octets.{part}
 use Rattle.model.specs.Schema.{Schema, columns_of}

@@ -1,10 +1,6 @@
 -- What a `let Read::End(e) = r else { .. }` leaves in its `else`. Assumes nothing.
 use mathlib.Core.Path.{◌≡◌, refl}
-use mathlib.Core.Logic.{◌⊎◌, ⊎_elim}
 use Prim.Native.Nat.{ℕ}
-use native.Mathlib.Omega.{arith}
-use denote.Enum.Declared.{tag_of, declared}
-use Rattle.model.specs.contracts.Read.{enum}
 use Rattle.model.specs.declared.Read.{Read}
 use Rattle.model.specs.Scan.{Parsed, and_then, then_read}
 use Rattle.model.specs.declared.Read.TheVariants.{End, Stop, Deep}

@@ -1,12 +1,12 @@
 -- A value ends past where it begins, so the turns that `run` allows, as many as the text has bytes, are enough: more give the same. Assumes nothing.
-use mathlib.Core.Path.{◌≡◌, refl, sym, ap, subst, ◌∙◌}
-use mathlib.Core.List.{List, [], ◌∷◌, ◌++◌}
-use mathlib.Core.Bool.{Bool, true, false}
+use mathlib.Core.Path.{◌≡◌, refl, ap, subst}
+use mathlib.Core.List.{List, [], ◌++◌}
+use mathlib.Core.Bool.{Bool, false}
 use Prim.Native.Nat.{ℕ, zero, suc, ◌+◌, ◌-◌, ◌<◌, ◌≤◌}
 use native.Mathlib.Nat.{not-suc-le-zero, le_refl}
 use native.Mathlib.Omega.{arith}
 use lib.ListN.{length}
-use lib.Dec.{ltb, leb, eqb, lit<}
+use lib.Dec.{eqb, lit<}
 use borrow.Author.Tests.{eqb-true, eqb-false}
 use Rattle.model.specs.declared.Read.{Read}
 use Rattle.model.specs.declared.Read.TheVariants.{End, Stop, Deep}
@@ -17,8 +17,8 @@ use Rattle.model.specs.declared.Open.TheVariants.{Array, Object, Scalar}
 use Rattle.model.specs.Scan.{byte, Parsed, and_then, Turn, run, passing, is_space, is_digit, spaces_at, digits_at, within_at, word_at, then_read}
 use Rattle.model.specs.Strings.{char_turn, body_at, string_at}
 use Rattle.model.specs.Numbers.{minus_at, sign_at, some_from, some_at, whole_at, frac_at, is_exp, exp_at, number_at}
-use Rattle.model.specs.Json.{Json, null, Named, scalar_by, key_at, comma_or, after_item, item_turn, items_of, list_at, array_at, member_at, object_at, opens, dispatch, value_at, no_value}
-use Rattle.scan.proofs.Bytes.{inside, inside_byte, inside_test}
+use Rattle.model.specs.Json.{Json, null, scalar_by, key_at, comma_or, after_item, item_turn, items_of, list_at, array_at, member_at, object_at, opens, dispatch, value_at, no_value}
+use Rattle.scan.proofs.Bytes.{inside_byte, inside_test}
 use Rattle.scan.proofs.Past.{by_test, Past, PastNext, within_past, shorter, later, from_past, char_past}
 
 -- where each turn goes on, within the first N positions, more than N turns give what N do

@@ -3,11 +3,11 @@ use mathlib.Core.Path.{◌≡◌, refl}
 use mathlib.Core.List.{List, [], ◌∷◌, map}
 use mathlib.Core.Bool.{true, false}
 use Prim.Native.Nat.{ℕ}
-use Rattle.model.specs.declared.Read.TheVariants.{End, Stop, Deep}
-use Rattle.model.specs.Scan.{Parsed, and_then, run, passing, is_space, is_digit, within_at, word_at, then_read}
+use Rattle.model.specs.declared.Read.TheVariants.{End, Stop}
+use Rattle.model.specs.Scan.{and_then, run, passing, is_space, is_digit, within_at, word_at, then_read}
 use Rattle.model.specs.Strings.{in_range, is_character, utf8, rest_of, ranges_at, form_at, short_of, hex_of, digit_by, digit_from, digit_at, tested_from, tested, second_from, paired, escaped_from, going, escape_by, char_by, char_bytes, char_adds, string_at}
 use Rattle.model.specs.Numbers.{minus_at, sign_at, some_from, whole_at, frac_at, is_exp, exp_at}
-use Rattle.model.specs.Json.{Json, null, bool, num, str, arr, obj, Items, none, item, Members, empty, member, items, members, scalar_by, key_at, comma_or, after_item, list_at, member_at, opens, dispatch, value_at, end_at, text_at}
+use Rattle.model.specs.Json.{null, bool, num, str, arr, obj, none, item, empty, member, items, members, scalar_by, key_at, comma_or, after_item, list_at, member_at, opens, dispatch, value_at, end_at, text_at}
 
 small_text : List ℕ
 small_text = 91 ∷ 34 ∷ 98 ∷ 97 ∷ 116 ∷ 104 ∷ 34 ∷ 93 ∷ []

@@ -1,22 +1,20 @@
 -- The code's way with escapes and with characters of several bytes is that of the definitions. Assumes nothing.
 use mathlib.Core.Path.{◌≡◌, refl, sym, ap, subst, ◌∙◌}
-use mathlib.Core.List.{List, [], ◌∷◌}
+use mathlib.Core.List.{List, []}
 use mathlib.Core.Logic.{◌⊎◌, inl, inr}
 use mathlib.Core.Bool.{Bool, true, false, not}
-use Prim.Native.Nat.{ℕ, zero, suc, ◌+◌, ◌-◌, ◌*◌, ◌%◌, ◌<◌, ◌≤◌}
+use Prim.Native.Nat.{ℕ, ◌+◌, ◌*◌, ◌%◌, ◌<◌, ◌≤◌}
 use native.Mathlib.Omega.{arith}
-use lib.Dec.{ltb, leb, eqb}
-use borrow.Author.Tests.{ltb-true, ltb-false, eqb-false, eqb-true, eq-eqb, lt-ltb, le-ltb, ne_eqb}
+use lib.Dec.{ltb, eqb}
+use borrow.Author.Tests.{ltb-true, ltb-false, eqb-false, eqb-true, lt-ltb, le-ltb, ne_eqb}
 use Rattle.model.specs.declared.Read.{Read}
 use Rattle.model.specs.declared.Read.TheVariants.{End, Stop, Deep}
-use Rattle.model.specs.declared.Next.{Next}
-use Rattle.model.specs.declared.Next.TheVariants.{More, Done}
+use Rattle.model.specs.declared.Next.TheVariants.{More}
 use Rattle.scan.specs.declared.Hex.{Hex}
 use Rattle.scan.specs.declared.Hex.TheVariants.{Unit16, Bad}
-use Rattle.scan.specs.declared.Half.{Half}
-use Rattle.scan.specs.declared.Half.TheVariants.{Whole, High, Refused}
+use Rattle.scan.specs.declared.Half.TheVariants.{Whole, High}
 use Rattle.model.specs.Scan.{byte, Parsed, within_at}
-use Rattle.model.specs.Strings.{Range, ◌to◌, in_range, is_first_half, tail, forms, rest_of, ranges_at, form_at, plain_by, hex_of, stopped_at, digit_by, digit_from, digit_at, tested_from, tested, no_digits, unit_at, second_at, second_from, paired, escaped_from, escaped_at, going}
+use Rattle.model.specs.Strings.{Range, ◌to◌, in_range, is_first_half, ranges_at, form_at, plain_by, hex_of, stopped_at, digit_by, digit_from, digit_at, tested_from, tested, no_digits, unit_at, second_at, second_from, paired, escaped_from, escaped_at, going}
 use Rattle.scan.specs.Units.{hex_add, hex_step, outside, inside, hex_at, low_hex_at, half_of, low_from, low_at, pair_by, unit_by, wide_by}
 use Rattle.leaf.specs.Bytes.{second_low, second_high}
 use Rattle.model.proofs.Tests.{split}

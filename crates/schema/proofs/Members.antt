@@ -6,20 +6,19 @@ use Prim.Native.Nat.{ℕ, zero, suc, ◌+◌, ◌*◌, ◌<◌, ◌≤◌}
 use native.Mathlib.Omega.{arith}
 use borrow.Author.Tests.{le-leb, lt-leb}
 use lib.Dec.{eqb, leb}
-use lib.ListN.{length, get_or, set, drop, replicate}
+use lib.ListN.{length, get_or, set, replicate}
 use lib.Seq.{get_or-set_same, get_or-set_other, drop-set-lt, get_or_at}
 use Rattle.model.specs.Base.{ascii}
 use Rattle.model.specs.Json.{Json, null, bool, num, str, arr, obj, Named}
 use Rattle.inner.specs.Positions.{tree_at}
-use Rattle.model.specs.Nav.{kind_of, is_object, is_text, text_in}
+use Rattle.model.specs.Nav.{kind_of, is_text, text_in}
 use Rattle.model.specs.Members.{members_in, member_value, counting}
 use Rattle.inner.specs.Positions.{word_in}
 use Rattle.model.specs.Value.{text_of}
-use Rattle.model.specs.Schema.{Database, Table}
-use Rattle.model.specs.Catalog.{entry_name, table_from, tables_from, database_from}
-use Rattle.model.specs.SchemaText.{must, may, is_string, is_string_of, is_id, version_from, is_version, names, table_of, tables_fit, schema_fits, schema_tables, database_of}
-use Rattle.model.proofs.Tests.{split, clash, and_l, and_r}
-use Rattle.names.specs.Names.{short_cell, name_cell}
+use Rattle.model.specs.Catalog.{entry_name, table_from, tables_from}
+use Rattle.model.specs.SchemaText.{must, is_string, is_string_of, is_id, version_from, is_version, names, table_of, tables_fit, schema_fits, schema_tables, database_of}
+use Rattle.model.proofs.Tests.{clash, and_l, and_r}
+use Rattle.names.specs.Names.{name_cell}
 use Rattle.names.proofs.Cells.{name_none}
 use Rattle.members.specs.Fields.{slot_tree, Slots}
 use Rattle.members.proofs.Kept.{slot_none}

@@ -1,8 +1,8 @@
 -- A text that is a schema, and one that is none. Assumes nothing.
 use mathlib.Core.Path.{◌≡◌, refl, sym, ap, ◌∙◌}
-use mathlib.Core.List.{List, []}
+use mathlib.Core.List.{List}
 use mathlib.Core.Bool.{Bool, true, false}
-use mathlib.Core.Option.{Option, none, some}
+use mathlib.Core.Option.{none, some}
 use Prim.Native.Nat.{ℕ, ◌<◌, ◌≤◌}
 use borrow.Author.Tests.{le-leb, lt-leb}
 use lib.ListN.{length}
@@ -10,7 +10,6 @@ use Rattle.model.specs.Base.{is_some}
 use Rattle.model.specs.Json.{Json, text_at}
 use Rattle.model.specs.Nav.{is_read}
 use Rattle.inner.specs.Positions.{tree_at, well_at}
-use Rattle.model.specs.Catalog.{database_from}
 use Rattle.model.specs.SchemaText.{schema_fits, database_of, schema_of, read_schema}
 use Rattle.model.proofs.Tests.{split, clash}
 use Rattle.json_reader.proofs.Whole.{text_well}

@@ -13,7 +13,6 @@ use Rattle.model.specs.Sane.{sane}
 use Rattle.model.proofs.Tests.{clash}
 use Rattle.model.proofs.SchemaLaws.{read_sane}
 use Rattle.model.proofs.Catalogs.{catalog_length, catalog_read}
-use Rattle.catalog.specs.Accepted.{Accepted}
 use Rattle.catalog.specs.Tidied.{Readable}
 use Rattle.schema.specs.Schema.{EntriesRead, SchemaRead}
 use Rattle.schema.proofs.Members.{blanks}

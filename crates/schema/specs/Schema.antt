@@ -1,6 +1,6 @@
 -- A schema's text as the entries of a catalog. Assumes nothing: these are definitions.
-use Rattle.std.specs.Prelude.{ℕ, ◌+◌, ◌≤◌, ◌<◌, ◌≡◌, Bool, true, false, ◌||◌, List, [], ◌∷◌, eqb, length, get_or, replicate}
-use Rattle.std.proofs.Math.Option.{Option, none, some}
+use Rattle.std.specs.Prelude.{ℕ, ◌≤◌, ◌<◌, ◌≡◌, Bool, true, false, ◌||◌, List, [], ◌∷◌, eqb, length, get_or, replicate}
+use Rattle.std.proofs.Math.Option.{none, some}
 use Rattle.model.specs.Base.{every, is_some}
 use Rattle.model.specs.Json.{Json}
 use Rattle.model.specs.Catalog.{table_count, column_count, database_from, blank_entry}

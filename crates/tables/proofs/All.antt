@@ -2,12 +2,12 @@
 use mathlib.Core.Path.{◌≡◌, refl, sym, ap, ◌∙◌}
 use mathlib.Core.List.{List, [], ◌∷◌, ◌++◌, map, append-nil}
 use mathlib.Core.Bool.{Bool, true, false, ◌&&◌}
-use Prim.Native.Nat.{ℕ, zero, suc, ◌+◌, ◌-◌, ◌<◌, ◌≤◌}
+use Prim.Native.Nat.{ℕ, suc, ◌+◌, ◌-◌, ◌<◌, ◌≤◌}
 use native.Mathlib.Omega.{arith}
 use native.Mathlib.Numerals.{add-one}
 use borrow.Author.Tests.{le-leb, lt-leb, leb-true}
 use lib.Dec.{leb}
-use lib.ListN.{length, get_or, set, take, drop, replicate, length-append, length-replicate, length-map, length-set, get_or-append}
+use lib.ListN.{length, get_or, set, take, replicate, length-append, length-replicate, length-set, get_or-append}
 use lib.Seq.{length-take-le, take-suc, take-suc-set, get_or-take, get_or-append-add}
 use Rattle.model.specs.Base.{all}
 use Rattle.model.specs.Json.{Json, Named, member_at, value_at}
@@ -16,7 +16,6 @@ use Rattle.model.specs.Nav.{is_read, kind_of, is_object}
 use Rattle.model.specs.Members.{members_in, counting}
 use Rattle.inner.specs.Positions.{word_in}
 use Rattle.model.specs.Value.{text_of}
-use Rattle.model.specs.Schema.{Table}
 use Rattle.model.specs.Catalog.{entry_name, tables_from}
 use Rattle.model.specs.SchemaText.{names, is_id, table_fits, table_of, tables_fit}
 use Rattle.model.proofs.Tests.{split, clash, and_l, and_r}

@@ -10,9 +10,8 @@ use lib.ListN.{length, get_or, set, take, drop, length-append, length-set, lengt
 use lib.Seq.{length-take-le, drop-cons, get_or-set_same, get_or-set_other, get_or-take, drop-set-lt, drop-append-add, drop-drop, drop_at}
 use Rattle.model.specs.Base.{all}
 use Rattle.model.specs.Scan.{end_or}
-use Rattle.model.specs.Json.{Json, Named, key_at, member_at, value_at}
+use Rattle.model.specs.Json.{Named, key_at}
 use Rattle.inner.specs.Positions.{tree_at, well_at}
-use Rattle.model.specs.Nav.{is_read}
 use Rattle.model.specs.Schema.{Table}
 use Rattle.model.specs.Catalog.{entry_name, table_from, tables_from}
 use Rattle.model.specs.SchemaText.{table_fits, table_of}

@@ -2,24 +2,24 @@
 use mathlib.Core.Path.{◌≡◌, refl, sym, ap, subst, ◌∙◌}
 use mathlib.Core.List.{List, [], ◌∷◌, ◌++◌, map}
 use mathlib.Core.Bool.{Bool, true, false, not, ◌&&◌, ◌||◌}
-use mathlib.Core.Option.{Option, none, some}
+use mathlib.Core.Option.{none, some}
 use Prim.Native.Nat.{ℕ, ◌^◌, ◌<◌, ◌≤◌}
 use native.Mathlib.Omega.{arith}
 use borrow.Author.Tests.{eq-eqb, ne_eqb, le-leb, lt-leb}
 use lib.Dec.{eqb, leb}
-use lib.ListN.{length, get_or, take, drop}
+use lib.ListN.{get_or, take, drop}
 use Rattle.catalog.proofs.Lookups.{cells_names}
 use Rattle.model.specs.declared.Whole.{Whole}
 use Rattle.model.specs.Base.{all, ascii}
 use Rattle.model.specs.Json.{Json, null, Named}
 use Rattle.inner.specs.Positions.{tree_at, well_at}
-use Rattle.model.specs.Nav.{kind_of, is_object, is_truth, items_in}
+use Rattle.model.specs.Nav.{kind_of, is_truth, items_in}
 use Rattle.model.specs.Members.{members_in, has_member, member_value, counting}
 use Rattle.model.specs.Whole.{whole_of}
 use Rattle.model.specs.Schema.{Column}
 use Rattle.model.specs.Catalog.{entry_name, column_from, index_from, indexes_from, max_rows_from}
 use Rattle.model.specs.SchemaText.{only, must, may, is_bool, is_within, size_or, truth_or, names, is_id, columns_fit, column_of, index_of, indexes_fit, table_fits, table_of, table_columns, max_rows_of}
-use Rattle.model.proofs.Tests.{split, clash, and_l, and_r, or_l}
+use Rattle.model.proofs.Tests.{split, clash, and_l, and_r}
 use Rattle.model.proofs.SchemaLaws.{within_size}
 use Rattle.members.specs.Fields.{slot_tree, Slots}
 use Rattle.members.proofs.Kept.{slot_none}
@@ -28,7 +28,6 @@ use Rattle.column_types.proofs.Keys.{both}
 use Rattle.columns.specs.Columns.{ColumnsRead}
 use Rattle.indexes.specs.Indexes.{Stored}
 use Rattle.indexes.proofs.Shorts.{columns_ids}
-use Rattle.tables.specs.declared.Read.{Read}
 use Rattle.catalog.specs.Writing.{head_bytes}
 use Rattle.tables.specs.Tables.{rest_allowed, IndexesIn, NameOnly, table_with, TableRead}
 use Rattle.tables.proofs.Cells.{after_count, after_root, after_rows, after_name, before_index}

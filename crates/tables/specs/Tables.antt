@@ -1,5 +1,5 @@
 -- Tables as cells. Assumes nothing: these are definitions.
-use Rattle.std.specs.Prelude.{ℕ, ◌-◌, ◌≤◌, ◌<◌, ◌≡◌, Bool, true, false, ◌&&◌, ◌||◌, List, [], ◌∷◌, ◌++◌, map, eqb, leb, length, get_or, take, drop, replicate}
+use Rattle.std.specs.Prelude.{ℕ, ◌-◌, ◌≤◌, ◌<◌, ◌≡◌, Bool, true, ◌||◌, List, [], ◌∷◌, ◌++◌, map, eqb, leb, length, get_or, take, drop, replicate}
 use Rattle.model.specs.Limits.{most_tables, most_columns, most_text_bytes, atom_bytes, entry_bytes}
 use Rattle.model.specs.declared.Whole.{Whole}
 use Rattle.model.specs.Base.{all, every}

@@ -1,22 +1,21 @@
 -- How long characters are, and strings without escapes. Assumes nothing.
 use mathlib.Core.Path.{◌≡◌, refl, sym, ap, subst, ◌∙◌}
-use mathlib.Core.List.{List, [], ◌∷◌, ◌++◌}
+use mathlib.Core.List.{List, ◌++◌}
 use mathlib.Core.Bool.{Bool, true, false}
 use Prim.Native.Nat.{ℕ, zero, suc, ◌+◌, ◌-◌, ◌<◌, ◌≤◌}
 use native.Mathlib.Nat.{sub_self}
 use native.Mathlib.Omega.{arith}
-use lib.Dec.{eqb, ltb, lit<}
-use borrow.Author.Tests.{eqb-true, eqb-false, eq-eqb, ne_eqb}
+use lib.Dec.{eqb, ltb}
+use borrow.Author.Tests.{eqb-true, eq-eqb}
 use lib.ListN.{length, take, drop, length-append, length-take}
 use lib.Seq.{take-add, drop-drop}
 use Rattle.model.specs.declared.Read.{Read}
 use Rattle.model.specs.declared.Read.TheVariants.{End, Stop, Deep}
 use Rattle.model.specs.declared.Next.{Next}
 use Rattle.model.specs.declared.Next.TheVariants.{More, Done}
-use Rattle.model.specs.declared.Found.{Found}
 use Rattle.model.specs.declared.Found.TheVariants.{At, Nothing}
 use Rattle.model.specs.Scan.{byte, between, run}
-use Rattle.model.specs.Strings.{short_of, utf8, escaped_at, going, escape_by, char_by, char_bytes, char_adds, char_turn, body_at}
+use Rattle.model.specs.Strings.{short_of, utf8, escaped_at, going, escape_by, char_by, char_bytes, char_adds, char_turn}
 use Rattle.inner.specs.Positions.{quote_end, quote_from}
 use Rattle.scan.proofs.Past.{by_test, Past, PastNext, char_past, unit_far}
 use Rattle.nav.proofs.FirstByte.{split}

@@ -1,15 +1,13 @@
 -- The character that the code makes of a \u escape is the one that the definitions say. Assumes nothing.
 use mathlib.Core.Path.{◌≡◌, refl, sym, ap, subst, ◌∙◌}
-use mathlib.Core.Logic.{◌⊎◌, inl, inr}
-use mathlib.Core.List.{List, [], ◌∷◌}
-use mathlib.Core.Bool.{Bool, true, false}
-use Prim.Native.Nat.{ℕ, zero, suc, ◌+◌, ◌-◌, ◌*◌, ◌<◌, ◌≤◌}
+use mathlib.Core.List.{List}
+use Prim.Native.Nat.{ℕ, ◌<◌, ◌≤◌}
 use native.Mathlib.Omega.{arith}
 use Rattle.model.specs.declared.Read.TheVariants.{End}
 use Rattle.scan.specs.declared.Hex.{Hex}
 use Rattle.scan.specs.declared.Hex.TheVariants.{Unit16, Bad}
-use Rattle.model.specs.Scan.{Parsed, within_at}
-use Rattle.model.specs.Strings.{◌to◌, in_range, is_first_half, utf8, second_from, pair_of, paired, escaped_from, escaped_at}
+use Rattle.model.specs.Scan.{within_at}
+use Rattle.model.specs.Strings.{◌to◌, in_range, is_first_half, utf8, pair_of, paired, escaped_from, escaped_at}
 use Rattle.scan.specs.Units.{hex_at, low_at}
 use Rattle.text.specs.Units.{unit_or, unit_end, character_of, escape_bytes}
 use Rattle.model.proofs.Tests.{split}

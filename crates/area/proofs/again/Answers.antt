@@ -1,11 +1,7 @@
 -- `area::again` meets its contract.
-use mathlib.Core.Path.{◌≡◌, refl, sym, ◌∙◌}
-use Prim.Native.Nat.{◌-◌, ◌≤◌}
+use mathlib.Core.Path.{refl, sym, ◌∙◌}
 use native.Mathlib.Omega.{arith}
-use lib.ListN.{drop}
-use Rattle.model.specs.Schema.{Schema}
-use Rattle.model.specs.Rows.{has_id}
-use Rattle.inner.specs.Working.{working, id_in}
+use Rattle.inner.specs.Working.{id_in}
 use Rattle.inner.proofs.Working.{has_id_here, has_id_on, has_id_end}
 use Rattle.area.proofs.again.Goals as goal
 

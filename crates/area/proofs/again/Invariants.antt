@@ -1,12 +1,10 @@
 -- The loop of `area::again`.
-use mathlib.Core.Path.{◌≡◌, refl, sym, ◌∙◌}
+use mathlib.Core.Path.{◌≡◌}
 use Prim.Native.Nat.{◌-◌, ◌≤◌}
-use native.Mathlib.Omega.{arith}
 use lib.ListN.{drop}
 use Rattle.model.specs.Schema.{Schema}
 use Rattle.model.specs.Rows.{has_id}
 use Rattle.inner.specs.Working.{working, id_in}
-use Rattle.inner.proofs.Working.{has_id_here, has_id_on, has_id_end}
 use Rattle.area.proofs.again.Given as goal
 
 abbrev pub invariant-loop-i : goal.invariant-loop-i

@@ -1,12 +1,6 @@
 -- `area::ascending` meets its contract.
-use mathlib.Core.Path.{◌≡◌, refl, sym, ◌∙◌}
-use Prim.Native.Nat.{◌-◌, ◌≤◌}
+use mathlib.Core.Path.{refl, sym, ◌∙◌}
 use native.Mathlib.Omega.{arith}
-use borrow.Author.Tests.{not-true, not-false}
-use lib.ListN.{drop}
-use Rattle.model.specs.Schema.{Schema}
-use Rattle.model.specs.Areas.{ascends}
-use Rattle.inner.specs.Working.{working}
 use Rattle.area.proofs.Walks.{ascends_on, ascends_off, ascends_end}
 use Rattle.area.proofs.ascending.Goals as goal
 

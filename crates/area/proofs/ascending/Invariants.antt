@@ -1,13 +1,10 @@
 -- The loop of `area::ascending`.
-use mathlib.Core.Path.{◌≡◌, refl, sym, ◌∙◌}
+use mathlib.Core.Path.{◌≡◌}
 use Prim.Native.Nat.{◌-◌, ◌≤◌}
-use native.Mathlib.Omega.{arith}
-use borrow.Author.Tests.{not-true, not-false}
 use lib.ListN.{drop}
 use Rattle.model.specs.Schema.{Schema}
 use Rattle.model.specs.Areas.{ascends}
 use Rattle.inner.specs.Working.{working}
-use Rattle.area.proofs.Walks.{ascends_on, ascends_off, ascends_end}
 use Rattle.area.proofs.ascending.Given as goal
 
 abbrev pub invariant-loop-i : goal.invariant-loop-i

@@ -1,11 +1,7 @@
 -- `area::blank_cells` meets its contract.
-use mathlib.Core.Path.{◌≡◌, refl, sym, ◌∙◌}
+use mathlib.Core.Path.{refl, sym, ◌∙◌}
 use mathlib.Core.List.{[]}
-use Prim.Native.Nat.{◌-◌, ◌≤◌}
 use native.Mathlib.Omega.{arith}
-use borrow.Author.Tests.{not-true, not-false}
-use lib.ListN.{length, drop}
-use Rattle.model.specs.Base.{all}
 use Rattle.model.specs.Value.{zeros}
 use Rattle.area.proofs.Walks.{all_on, all_off, all_end}
 use Rattle.area.proofs.blank_cells.Goals as goal

@@ -1,13 +1,9 @@
 -- The loop of `area::blank_cells`.
-use mathlib.Core.Path.{◌≡◌, refl, sym, ◌∙◌}
-use mathlib.Core.List.{[]}
+use mathlib.Core.Path.{◌≡◌}
 use Prim.Native.Nat.{◌-◌, ◌≤◌}
-use native.Mathlib.Omega.{arith}
-use borrow.Author.Tests.{not-true, not-false}
 use lib.ListN.{length, drop}
 use Rattle.model.specs.Base.{all}
 use Rattle.model.specs.Value.{zeros}
-use Rattle.area.proofs.Walks.{all_on, all_off, all_end}
 use Rattle.area.proofs.blank_cells.Given as goal
 
 abbrev pub invariant-loop-i : goal.invariant-loop-i

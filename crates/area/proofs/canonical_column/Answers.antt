@@ -2,7 +2,6 @@
 use mathlib.Core.Path.{sym, ap, ◌∙◌}
 use Rattle.model.specs.Catalog.{base_numbered, column_from}
 use Rattle.model.specs.Value.{canonical_for}
-use borrow.Author.Rules.{rules}
 use Rattle.area.proofs.canonical_column.Goals as goal
 
 pub returns : goal.returns

@@ -1,10 +1,6 @@
 -- `area::canonical_row` meets its contract.
-use mathlib.Core.Path.{◌≡◌, refl, sym, ◌∙◌}
-use Prim.Native.Nat.{◌-◌, ◌≤◌}
+use mathlib.Core.Path.{refl, sym, ◌∙◌}
 use native.Mathlib.Omega.{arith}
-use borrow.Author.Tests.{not-true, not-false}
-use lib.ListN.{length, drop}
-use Rattle.area.specs.Layout.{canonical_from}
 use Rattle.area.proofs.Schemas.{canonical_on, canonical_off, canonical_end}
 use Rattle.area.proofs.canonical_row.Goals as goal
 

@@ -1,11 +1,8 @@
 -- The loop of `area::canonical_row`.
-use mathlib.Core.Path.{◌≡◌, refl, sym, ◌∙◌}
+use mathlib.Core.Path.{◌≡◌}
 use Prim.Native.Nat.{◌-◌, ◌≤◌}
-use native.Mathlib.Omega.{arith}
-use borrow.Author.Tests.{not-true, not-false}
 use lib.ListN.{length, drop}
 use Rattle.area.specs.Layout.{canonical_from}
-use Rattle.area.proofs.Schemas.{canonical_on, canonical_off, canonical_end}
 use Rattle.area.proofs.canonical_row.Given as goal
 
 abbrev pub invariant-loop-c : goal.invariant-loop-c

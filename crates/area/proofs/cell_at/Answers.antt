@@ -1,8 +1,7 @@
 -- `area::cell_at` meets its contract.
 use mathlib.Core.Path.{◌≡◌, refl, sym, ap, ◌∙◌}
-use Prim.Native.Nat.{◌-◌, ◌≤◌}
 use native.Mathlib.Omega.{arith}
-use lib.ListN.{length, set, replicate, length-set}
+use lib.ListN.{set, replicate, length-set}
 use Rattle.model.specs.Octets.{part}
 use Rattle.catalog.proofs.Copied.{copied, copied_more, copied_end}
 use Rattle.area.proofs.Copies.{byte_at, part_length}

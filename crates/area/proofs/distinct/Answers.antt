@@ -1,11 +1,6 @@
 -- `area::distinct` meets its contract.
-use mathlib.Core.Path.{◌≡◌, refl, sym, ◌∙◌}
-use Prim.Native.Nat.{◌-◌, ◌≤◌}
+use mathlib.Core.Path.{refl, sym, ◌∙◌}
 use native.Mathlib.Omega.{arith}
-use lib.ListN.{drop}
-use Rattle.model.specs.Schema.{Schema}
-use Rattle.model.specs.Areas.{distinct_ids}
-use Rattle.inner.specs.Working.{working}
 use Rattle.area.proofs.Walks.{distinct_on, distinct_off, distinct_end}
 use Rattle.area.proofs.distinct.Goals as goal
 

@@ -1,12 +1,10 @@
 -- The loop of `area::distinct`.
-use mathlib.Core.Path.{◌≡◌, refl, sym, ◌∙◌}
+use mathlib.Core.Path.{◌≡◌}
 use Prim.Native.Nat.{◌-◌, ◌≤◌}
-use native.Mathlib.Omega.{arith}
 use lib.ListN.{drop}
 use Rattle.model.specs.Schema.{Schema}
 use Rattle.model.specs.Areas.{distinct_ids}
 use Rattle.inner.specs.Working.{working}
-use Rattle.area.proofs.Walks.{distinct_on, distinct_off, distinct_end}
 use Rattle.area.proofs.distinct.Given as goal
 
 abbrev pub invariant-loop-i : goal.invariant-loop-i

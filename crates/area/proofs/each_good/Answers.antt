@@ -1,11 +1,7 @@
 -- `area::each_good` meets its contract.
-use mathlib.Core.Path.{◌≡◌, refl, sym, ◌∙◌}
+use mathlib.Core.Path.{refl, sym, ◌∙◌}
 use mathlib.Core.List.{[]}
-use Prim.Native.Nat.{◌-◌, ◌≤◌}
 use native.Mathlib.Omega.{arith}
-use borrow.Author.Tests.{not-true, not-false}
-use lib.ListN.{take, drop}
-use Rattle.model.specs.Base.{all}
 use Rattle.area.specs.Layout.{row_good}
 use Rattle.area.proofs.Walks.{front_on, front_off, front_end}
 use Rattle.area.proofs.each_good.Goals as goal

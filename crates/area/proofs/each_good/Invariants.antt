@@ -1,13 +1,9 @@
 -- The loop of `area::each_good`.
-use mathlib.Core.Path.{◌≡◌, refl, sym, ◌∙◌}
-use mathlib.Core.List.{[]}
+use mathlib.Core.Path.{◌≡◌}
 use Prim.Native.Nat.{◌-◌, ◌≤◌}
-use native.Mathlib.Omega.{arith}
-use borrow.Author.Tests.{not-true, not-false}
 use lib.ListN.{take, drop}
 use Rattle.model.specs.Base.{all}
 use Rattle.area.specs.Layout.{row_good}
-use Rattle.area.proofs.Walks.{front_on, front_off, front_end}
 use Rattle.area.proofs.each_good.Given as goal
 
 abbrev pub invariant-loop-i : goal.invariant-loop-i

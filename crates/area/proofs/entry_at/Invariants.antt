@@ -1,11 +1,9 @@
 -- The loop of `area::entry_at`.
-use mathlib.Core.Path.{◌≡◌, refl, sym, ap, ◌∙◌}
+use mathlib.Core.Path.{◌≡◌}
 use Prim.Native.Nat.{◌-◌, ◌≤◌}
-use native.Mathlib.Omega.{arith}
-use lib.ListN.{length, set, replicate, length-set}
+use lib.ListN.{length}
 use Rattle.model.specs.Octets.{part}
-use Rattle.catalog.proofs.Copied.{copied, copied_more, copied_end}
-use Rattle.area.proofs.Copies.{byte_in, part_size}
+use Rattle.catalog.proofs.Copied.{copied}
 use Rattle.area.proofs.entry_at.Given as goal
 
 abbrev pub invariant-loop-k : goal.invariant-loop-k

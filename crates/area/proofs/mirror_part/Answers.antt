@@ -1,11 +1,9 @@
 -- `area::mirror_part` meets its contract.
-use mathlib.Core.Path.{◌≡◌}
 use mathlib.Core.Bool.{not, ◌&&◌, ◌||◌}
 use lib.Dec.{eqb, leb}
 use lib.ListN.{get_or}
 use Rattle.model.specs.Limits.{heard_offset, whole_offset}
 use Rattle.area.specs.Writing.{tail_good}
-use borrow.Author.Rules.{rules}
 use Rattle.area.proofs.mirror_part.Goals as goal
 
 pub returns : goal.returns

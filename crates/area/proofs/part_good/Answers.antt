@@ -3,7 +3,6 @@ use mathlib.Core.Path.{◌≡◌, sym, ap, subst, ◌∙◌}
 use mathlib.Core.List.{List, ◌++◌}
 use Prim.Native.Nat.{ℕ, ◌+◌, ◌-◌, ◌*◌, ◌≤◌}
 use native.Mathlib.Omega.{arith}
-use borrow.Author.Tests.{not-true, not-false}
 use lib.ListN.{length, take, drop}
 use lib.Seq.{take_at}
 use Rattle.model.specs.Octets.{part}
@@ -13,7 +12,6 @@ use Rattle.inner.specs.Working.{Ordered}
 use Rattle.area.specs.Layout.{rows_in, rows_good, rest_zero, row_count}
 use Rattle.area.proofs.Copies.{rows_length}
 use Rattle.area.proofs.Schemas.{rows_same, rows_ordered, part_rows, read_many, read_rest, read_all}
-use borrow.Author.Rules.{rules}
 use Rattle.area.proofs.part_good.Goals as goal
 
 -- what the rows leave, by how many they are

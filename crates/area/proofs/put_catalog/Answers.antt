@@ -5,11 +5,10 @@ use Rattle.area.proofs.Copies.{flat_more, write_part, part_lent}
 use borrow.Rule.Slice.PartMut.{put_mid}
 use mathlib.Core.Path.{◌≡◌, refl, sym, ap, ◌∙◌}
 use mathlib.Core.List.{List, [], ◌++◌}
-use Prim.Native.Nat.{ℕ, ◌+◌, ◌-◌, ◌*◌, ◌≤◌, ◌<◌}
+use Prim.Native.Nat.{ℕ, ◌+◌, ◌-◌, ◌*◌, ◌<◌}
 use native.Mathlib.Omega.{arith}
 use lib.ListN.{length, take, drop, length-append, length-drop}
 use Rattle.model.specs.Base.{flat}
-use borrow.Author.Rules.{rules}
 use Rattle.area.proofs.put_catalog.Goals as goal
 
 pub loop-j-init : goal.loop-j-init

@@ -7,7 +7,6 @@ use lib.ListN.{length, take, drop, replicate}
 use Rattle.octets.proofs.Rests.{write_next}
 use Rattle.area.specs.Layout.{bytes_of}
 use Rattle.area.specs.Writing.{rows_part}
-use borrow.Author.Rules.{rules}
 use Rattle.area.proofs.put_counted.Goals as goal
 
 pub returns : goal.returns

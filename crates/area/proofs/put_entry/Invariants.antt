@@ -1,12 +1,8 @@
 -- The loop of `area::put_entry`.
-use mathlib.Core.Path.{◌≡◌, refl, ap, ◌∙◌}
-use mathlib.Core.List.{List}
-use Prim.Native.Nat.{ℕ, ◌-◌, ◌≤◌}
-use native.Mathlib.Omega.{arith}
-use lib.ListN.{length, set, get_or, length-set}
-use lib.Seq.{take_all}
-use Rattle.catalog.proofs.Copied.{copied, copied_more, copied_end}
-use Rattle.area.proofs.Copies.{part_size}
+use mathlib.Core.Path.{◌≡◌}
+use Prim.Native.Nat.{◌-◌, ◌≤◌}
+use lib.ListN.{length}
+use Rattle.catalog.proofs.Copied.{copied}
 use Rattle.area.proofs.put_entry.Given as goal
 
 abbrev pub invariant-loop-k : goal.invariant-loop-k

@@ -1,7 +1,7 @@
 -- `area::put_rows` meets its contract.
 use mathlib.Core.Path.{◌≡◌, refl, sym, ap, ◌∙◌}
 use mathlib.Core.List.{[], ◌++◌}
-use Prim.Native.Nat.{ℕ, ◌+◌, ◌-◌, ◌*◌, ◌≤◌, ◌<◌}
+use Prim.Native.Nat.{ℕ, ◌+◌, ◌-◌, ◌*◌, ◌<◌}
 use native.Mathlib.Omega.{arith}
 use lib.ListN.{length, get_or, take, drop, length-append, length-drop}
 use lib.Seq.{length-take-le}
@@ -9,7 +9,6 @@ use Rattle.model.specs.Base.{flat}
 use Rattle.octets.proofs.Rests.{write_next}
 use Rattle.area.specs.Layout.{bytes_of}
 use Rattle.area.proofs.Copies.{bytes_more}
-use borrow.Author.Rules.{rules}
 use borrow.Rule.Slice.PartMut.{put_mid}
 use Rattle.area.proofs.put_rows.Goals as goal
 

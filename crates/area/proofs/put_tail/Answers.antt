@@ -3,7 +3,6 @@ use mathlib.Core.Path.{refl}
 use mathlib.Core.List.{[], ◌∷◌, ◌++◌}
 use Rattle.model.specs.Octets.{big}
 use Rattle.octets.proofs.Rests.{write_next}
-use borrow.Author.Rules.{rules}
 use Rattle.area.proofs.put_tail.Goals as goal
 
 pub returns : goal.returns

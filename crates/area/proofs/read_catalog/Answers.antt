@@ -1,13 +1,11 @@
 -- `area::read_catalog` meets its contract.
 use mathlib.Core.Path.{◌≡◌, refl, sym, ap, ◌∙◌}
 use mathlib.Core.List.{[]}
-use Prim.Native.Nat.{◌-◌, ◌≤◌}
 use native.Mathlib.Omega.{arith}
-use lib.ListN.{length, set, drop, replicate, length-set}
+use lib.ListN.{set, drop, length-set}
 use Rattle.model.specs.Areas.{entries_in}
 use Rattle.catalog.proofs.Copied.{copied, copied_more, copied_end}
 use Rattle.area.proofs.Copies.{chunks_length, chunk_from}
-use borrow.Author.Rules.{rules}
 use Rattle.area.proofs.read_catalog.Goals as goal
 
 pub loop-j-init : goal.loop-j-init

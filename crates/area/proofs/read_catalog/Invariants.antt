@@ -1,13 +1,10 @@
 -- The loop of `area::read_catalog`.
-use mathlib.Core.Path.{◌≡◌, refl, sym, ap, ◌∙◌}
+use mathlib.Core.Path.{◌≡◌}
 use mathlib.Core.List.{[]}
 use Prim.Native.Nat.{◌-◌, ◌≤◌}
-use native.Mathlib.Omega.{arith}
-use lib.ListN.{length, set, drop, replicate, length-set}
+use lib.ListN.{length}
 use Rattle.model.specs.Areas.{entries_in}
-use Rattle.catalog.proofs.Copied.{copied, copied_more, copied_end}
-use Rattle.area.proofs.Copies.{chunks_length, chunk_from}
-use borrow.Author.Rules.{rules}
+use Rattle.catalog.proofs.Copied.{copied}
 use Rattle.area.proofs.read_catalog.Given as goal
 
 abbrev pub invariant-loop-j : goal.invariant-loop-j

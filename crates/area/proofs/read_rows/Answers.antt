@@ -1,9 +1,9 @@
 -- `area::read_rows` meets its contract.
 use mathlib.Core.Path.{◌≡◌, refl, sym, ap, ◌∙◌}
 use mathlib.Core.List.{List, [], ◌++◌}
-use Prim.Native.Nat.{ℕ, ◌+◌, ◌-◌, ◌≤◌}
+use Prim.Native.Nat.{ℕ}
 use native.Mathlib.Omega.{arith}
-use lib.ListN.{length, set, drop, length-set}
+use lib.ListN.{set, drop, length-set}
 use lib.Seq.{take_all}
 use Rattle.area.specs.Layout.{rows_in}
 use Rattle.catalog.proofs.Copied.{copied, copied_more}

@@ -1,13 +1,10 @@
 -- The loop of `area::read_rows`.
-use mathlib.Core.Path.{◌≡◌, refl, sym, ap, ◌∙◌}
-use mathlib.Core.List.{List, [], ◌++◌}
-use Prim.Native.Nat.{ℕ, ◌+◌, ◌-◌, ◌≤◌}
-use native.Mathlib.Omega.{arith}
-use lib.ListN.{length, set, drop, length-set}
-use lib.Seq.{take_all}
+use mathlib.Core.Path.{◌≡◌}
+use mathlib.Core.List.{[]}
+use Prim.Native.Nat.{◌-◌, ◌≤◌}
+use lib.ListN.{length, drop}
 use Rattle.area.specs.Layout.{rows_in}
-use Rattle.catalog.proofs.Copied.{copied, copied_more}
-use Rattle.area.proofs.Copies.{row_from, rows_length}
+use Rattle.catalog.proofs.Copied.{copied}
 use Rattle.area.proofs.read_rows.Given as goal
 
 abbrev pub invariant-loop-i : goal.invariant-loop-i

@@ -5,7 +5,6 @@ use native.Mathlib.Omega.{arith}
 use Rattle.model.specs.Octets.{part}
 use Rattle.model.specs.Limits.{rows_offset, store_bytes}
 use Rattle.model.specs.Value.{zeros}
-use borrow.Author.Rules.{rules}
 use Rattle.area.proofs.rest_blank.Goals as goal
 
 pub returns : goal.returns

@@ -1,9 +1,8 @@
 -- `area::row_at` meets its contract.
 use mathlib.Core.Path.{◌≡◌, refl, sym, ap, ◌∙◌}
 use mathlib.Core.List.{[]}
-use Prim.Native.Nat.{◌-◌, ◌≤◌}
 use native.Mathlib.Omega.{arith}
-use lib.ListN.{length, set, drop, replicate, length-set}
+use lib.ListN.{set, drop, replicate, length-set}
 use Rattle.model.specs.Records.{cut}
 use Rattle.catalog.proofs.Copied.{copied, copied_more, copied_end}
 use Rattle.area.proofs.Copies.{cell_from, cut_length}

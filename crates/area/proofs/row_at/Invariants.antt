@@ -1,12 +1,10 @@
 -- The loop of `area::row_at`.
-use mathlib.Core.Path.{◌≡◌, refl, sym, ap, ◌∙◌}
+use mathlib.Core.Path.{◌≡◌}
 use mathlib.Core.List.{[]}
 use Prim.Native.Nat.{◌-◌, ◌≤◌}
-use native.Mathlib.Omega.{arith}
-use lib.ListN.{length, set, drop, replicate, length-set}
+use lib.ListN.{length, drop}
 use Rattle.model.specs.Records.{cut}
-use Rattle.catalog.proofs.Copied.{copied, copied_more, copied_end}
-use Rattle.area.proofs.Copies.{cell_from, cut_length}
+use Rattle.catalog.proofs.Copied.{copied}
 use Rattle.area.proofs.row_at.Given as goal
 
 abbrev pub invariant-loop-j : goal.invariant-loop-j

@@ -3,14 +3,12 @@ use mathlib.Core.Path.{sym, ap, ◌∙◌}
 use mathlib.Core.List.{List, []}
 use Prim.Native.Nat.{ℕ, ◌<◌}
 use native.Mathlib.Omega.{arith}
-use borrow.Author.Tests.{not-true, not-false}
 use lib.ListN.{length, get_or}
 use Rattle.inner.specs.Working.{table_in}
 use Rattle.area.specs.Layout.{tidy_from, canonical_from}
 use Rattle.catalog.proofs.Laws.{few_tables, few_columns_lem}
 use Rattle.catalog.specs.Entries.{columns_at}
 use Rattle.area.proofs.Schemas.{no_table, no_id, not_tidy, all_good}
-use borrow.Author.Rules.{rules}
 use Rattle.area.proofs.row_good.Goals as goal
 
 pub returns-then-table_count-t : goal.returns-then-table_count-t

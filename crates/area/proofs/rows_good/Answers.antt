@@ -1,9 +1,7 @@
 -- `area::rows_good` meets its contract.
 use mathlib.Core.Path.{sym, ◌∙◌}
-use borrow.Author.Tests.{not-true, not-false}
 use Rattle.model.specs.Catalog.{packed_tables}
 use Rattle.area.proofs.Schemas.{rows_no, rows_apart, rows_all}
-use borrow.Author.Rules.{rules}
 use Rattle.area.proofs.rows_good.Goals as goal
 
 pub returns-then-not-each_good : goal.returns-then-not-each_good

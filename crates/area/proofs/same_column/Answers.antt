@@ -1,14 +1,11 @@
 -- `area::same_column` meets its contract.
-use mathlib.Core.Path.{◌≡◌, sym, ap, ◌∙◌}
-use mathlib.Core.List.{List}
-use Prim.Native.Nat.{ℕ}
+use mathlib.Core.Path.{sym, ap, ◌∙◌}
 use Rattle.model.specs.Base.{eq_lists}
 use Rattle.model.specs.Value.{Value}
 use Rattle.inner.specs.Working.{value_in}
 use Rattle.rows.proofs.Laws.{value_no, value_yes}
 use Rattle.area.specs.Layout.{row_at}
 use Rattle.area.proofs.Copies.{value_at_lem}
-use borrow.Author.Rules.{rules}
 use Rattle.area.proofs.same_column.Goals as goal
 
 pub returns-then-area-at : goal.returns-then-area-at

@@ -2,12 +2,10 @@
 use mathlib.Core.Path.{sym, ap, ◌∙◌}
 use mathlib.Core.Bool.{Bool, ◌&&◌}
 use Prim.Native.Nat.{◌+◌, ◌*◌}
-use borrow.Author.Tests.{not-true, not-false}
 use lib.ListN.{drop}
 use Rattle.model.specs.Base.{all}
 use Rattle.model.specs.Value.{zeros}
 use Rattle.area.specs.Layout.{tidy_from}
-use borrow.Author.Rules.{rules}
 use Rattle.area.proofs.tidy_row.Goals as goal
 
 pub returns-then-not-blank_from : goal.returns-then-not-blank_from

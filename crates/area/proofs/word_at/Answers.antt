@@ -6,7 +6,6 @@ use lib.ListN.{take}
 use Rattle.model.specs.Octets.{value, part}
 use Rattle.octets.proofs.Rests.{mid_rest}
 use Rattle.model.proofs.Octets.{octets, part_lt}
-use borrow.Author.Rules.{rules}
 use Rattle.area.proofs.word_at.Goals as goal
 
 pub overflow_cast-result : goal.overflow_cast-result

@@ -1,6 +1,5 @@
 -- `area::write_number` meets its contract.
 use Rattle.area.proofs.Writes.{place_rest}
-use borrow.Author.Rules.{rules}
 use Rattle.area.proofs.write_number.Goals as goal
 
 pub returns : goal.returns

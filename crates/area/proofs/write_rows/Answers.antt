@@ -1,7 +1,6 @@
 -- `area::write_rows` meets its contract.
 use Rattle.model.specs.Limits.{count_offset}
 use Rattle.area.proofs.Writes.{place_rest}
-use borrow.Author.Rules.{rules}
 use Rattle.area.proofs.write_rows.Goals as goal
 
 pub returns : goal.returns

@@ -1,6 +1,6 @@
 -- `area::write_store` meets its contract.
 use mathlib.Core.Path.{◌≡◌, refl, ap, ◌∙◌}
-use mathlib.Core.List.{List, [], ◌∷◌, ◌++◌}
+use mathlib.Core.List.{List, ◌++◌}
 use Prim.Native.Nat.{ℕ}
 use native.Mathlib.Omega.{arith}
 use lib.ListN.{length, drop}
@@ -10,7 +10,6 @@ use Rattle.model.specs.Base.{flat}
 use Rattle.octets.proofs.Rests.{write_next}
 use Rattle.area.specs.Writing.{rows_part}
 use Rattle.area.proofs.Writes.{store_are}
-use borrow.Author.Rules.{rules}
 use Rattle.area.proofs.write_store.Goals as goal
 
 pub returns : goal.returns

@@ -5,7 +5,6 @@ use Rattle.model.specs.Limits.{store_bytes}
 use Rattle.model.specs.Octets.{big}
 use Rattle.area.specs.Writing.{placed, tail_bytes}
 use Rattle.area.proofs.Writes.{place_rest}
-use borrow.Author.Rules.{rules}
 use Rattle.area.proofs.write_tail.Goals as goal
 
 pub returns : goal.returns

@@ -1,11 +1,8 @@
 -- `area::zeros_from` meets its contract.
-use mathlib.Core.Path.{◌≡◌, refl, sym, ◌∙◌}
-use mathlib.Core.Bool.{◌&&◌}
-use Prim.Native.Nat.{ℕ, ◌-◌}
+use mathlib.Core.Path.{refl, sym, ◌∙◌}
+use Prim.Native.Nat.{ℕ}
 use native.Mathlib.Omega.{arith}
 use lib.Dec.{eqb}
-use lib.ListN.{length, drop}
-use Rattle.model.specs.Value.{zeros}
 use Rattle.area.proofs.Walks.{so_far_on, so_far_end}
 use Rattle.area.proofs.zeros_from.Goals as goal
 

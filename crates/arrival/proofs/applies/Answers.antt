@@ -1,6 +1,5 @@
 -- `arrival::applies` meets its contract.
 use mathlib.Core.Bool.{true}
-use borrow.Author.Rules.{rules}
 use Rattle.arrival.specs.Steps.{applies_of}
 use Rattle.arrival.proofs.applies.Goals as goal
 

@@ -2,8 +2,6 @@
 use mathlib.Core.Bool.{not}
 use mathlib.Core.Path.{sym, ap, ◌∙◌}
 use Prim.Native.Nat.{◌-◌}
-use borrow.Author.Rules.{rules}
-use borrow.Author.Tests.{not-true, not-false}
 use Rattle.model.specs.Catalog.{packed_tables}
 use Rattle.inner.specs.Working.{working}
 use Rattle.record.specs.Reading.{arrival_record}

@@ -3,7 +3,6 @@ use mathlib.Core.Path.{sym, ap, ◌∙◌}
 use mathlib.Core.List.{List, map}
 use Prim.Native.Nat.{ℕ, ◌<◌}
 use native.Mathlib.Omega.{arith}
-use borrow.Author.Rules.{rules}
 use Rattle.catalog.proofs.Laws.{few_tables, few_columns_lem}
 use Rattle.model.specs.Limits.{most_tables}
 use Rattle.model.specs.Octets.{value}

@@ -1,6 +1,5 @@
 -- `arrival::canonical_by` meets its contract.
 use mathlib.Core.Path.{sym, ap}
-use borrow.Author.Rules.{rules}
 use Rattle.model.specs.Catalog.{column_from, base_numbered}
 use Rattle.arrival.proofs.canonical_by.Goals as goal
 

@@ -3,7 +3,6 @@ use mathlib.Core.List.{[], ◌∷◌}
 use mathlib.Core.Path.{◌∙◌}
 use lib.ListN.{take}
 use Rattle.model.specs.Catalog.{table_count}
-use borrow.Author.Rules.{rules}
 use Rattle.arrival.proofs.Records.{counts}
 use Rattle.arrival.proofs.counts_of.Goals as goal
 

@@ -2,7 +2,6 @@
 use mathlib.Core.List.{[]}
 use mathlib.Core.Path.{sym, ◌∙◌}
 use native.Mathlib.Omega.{arith}
-use borrow.Author.Rules.{rules}
 use Rattle.inner.proofs.Places.{place_at, place_none}
 use Rattle.model.proofs.Tests.{clash}
 use Rattle.inner.proofs.Working.{working_length}

@@ -2,7 +2,6 @@
 use mathlib.Core.Path.{◌∙◌}
 use Rattle.record.specs.Reading.{arrival_record}
 use Rattle.arrival.specs.Steps.{head_of}
-use borrow.Author.Rules.{rules}
 use Rattle.arrival.proofs.head_of.Goals as goal
 
 pub returns-in-Born : goal.returns-in-Born

@@ -1,7 +1,6 @@
 -- `arrival::heard` meets its contract.
 use borrow.Author.Tests.{eq-eqb, ne_eqb, le-leb, lt-leb}
 use Rattle.arrival.specs.Steps.{heard_of}
-use borrow.Author.Rules.{rules}
 use Rattle.arrival.proofs.heard.Goals as goal
 
 pub returns-then-head-run : goal.returns-then-head-run

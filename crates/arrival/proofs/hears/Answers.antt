@@ -1,6 +1,5 @@
 -- `arrival::hears` meets its contract.
 use mathlib.Core.Bool.{true}
-use borrow.Author.Rules.{rules}
 use Rattle.arrival.specs.Steps.{hears_of}
 use Rattle.arrival.proofs.hears.Goals as goal
 

@@ -1,6 +1,5 @@
 -- `arrival::id_of` meets its contract.
 use mathlib.Core.Path.{refl, ◌∙◌}
-use borrow.Author.Rules.{rules}
 use Rattle.record.proofs.Readings.{copied_part}
 use Rattle.arrival.proofs.id_of.Goals as goal
 

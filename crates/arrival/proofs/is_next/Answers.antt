@@ -1,7 +1,6 @@
 -- `arrival::is_next` meets its contract.
 use mathlib.Core.Path.{refl}
 use Rattle.arrival.specs.Steps.{is_next}
-use borrow.Author.Rules.{rules}
 use Rattle.arrival.proofs.is_next.Goals as goal
 
 pub returns : goal.returns

@@ -2,7 +2,6 @@
 use mathlib.Core.List.{◌∷◌}
 use mathlib.Core.Path.{◌≡◌, ap, ◌∙◌}
 use native.Mathlib.Omega.{arith}
-use borrow.Author.Rules.{rules}
 use lib.ListN.{length, set, length-set, length-drop}
 use Rattle.model.specs.Base.{flat}
 use Rattle.octets.proofs.Rests.{mid_rest}

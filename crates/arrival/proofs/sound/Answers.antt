@@ -1,7 +1,5 @@
 -- `arrival::sound` meets its contract.
 use mathlib.Core.Path.{sym, ◌∙◌}
-use borrow.Author.Rules.{rules}
-use borrow.Author.Tests.{not-true, not-false}
 use Rattle.model.specs.Catalog.{packed_tables}
 use Rattle.record.specs.Reading.{arrival_record}
 use Rattle.arrival.proofs.Records.{sound_not, sound_canonical}

@@ -1,13 +1,9 @@
 -- `atom::blank_from` meets its contract.
-use mathlib.Core.Path.{◌≡◌, refl, sym, ◌∙◌}
-use mathlib.Core.Bool.{true, ◌&&◌}
-use Prim.Native.Nat.{ℕ, ◌-◌, ◌<◌}
+use mathlib.Core.Path.{refl, sym, ◌∙◌}
+use Prim.Native.Nat.{ℕ}
 use native.Mathlib.Omega.{arith}
 use lib.Dec.{eqb}
-use lib.ListN.{drop}
-use Rattle.model.specs.Base.{all}
-use Rattle.model.specs.Value.{zeros}
-use Rattle.model.proofs.Octets.{octet, octets}
+use Rattle.model.proofs.Octets.{octets}
 use Rattle.atom.proofs.Cells.{all_on, all_end}
 use Rattle.atom.proofs.blank_from.Goals as goal
 

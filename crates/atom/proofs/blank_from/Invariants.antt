@@ -1,14 +1,11 @@
 -- The loop of `atom::blank_from`.
-use mathlib.Core.Path.{◌≡◌, refl, sym, ◌∙◌}
+use mathlib.Core.Path.{◌≡◌}
 use mathlib.Core.Bool.{true, ◌&&◌}
-use Prim.Native.Nat.{ℕ, ◌-◌, ◌<◌}
-use native.Mathlib.Omega.{arith}
-use lib.Dec.{eqb}
+use Prim.Native.Nat.{◌-◌, ◌<◌}
 use lib.ListN.{drop}
 use Rattle.model.specs.Base.{all}
 use Rattle.model.specs.Value.{zeros}
-use Rattle.model.proofs.Octets.{octet, octets}
-use Rattle.atom.proofs.Cells.{all_on, all_end}
+use Rattle.model.proofs.Octets.{octet}
 use Rattle.atom.proofs.blank_from.Given as goal
 
 abbrev pub invariant-loop-k : goal.invariant-loop-k

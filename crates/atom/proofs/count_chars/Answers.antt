@@ -1,8 +1,8 @@
 -- `atom::count_chars` meets its contract.
-use mathlib.Core.Path.{◌≡◌, sym, ap, ◌∙◌}
-use Prim.Native.Nat.{ℕ, ◌+◌, ◌-◌, ◌≤◌}
+use mathlib.Core.Path.{sym, ap, ◌∙◌}
+use Prim.Native.Nat.{ℕ, ◌+◌}
 use native.Mathlib.Omega.{arith}
-use lib.ListN.{length, drop, get_or}
+use lib.ListN.{drop, get_or}
 use Rattle.model.specs.Text.{chars}
 use Rattle.atom.proofs.Texts.{chars_on, chars_end, ones_small}
 use Rattle.atom.proofs.count_chars.Goals as goal

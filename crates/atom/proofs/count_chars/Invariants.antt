@@ -1,10 +1,8 @@
 -- The loop of `atom::count_chars`.
-use mathlib.Core.Path.{◌≡◌, sym, ap, ◌∙◌}
-use Prim.Native.Nat.{ℕ, ◌+◌, ◌-◌, ◌≤◌}
-use native.Mathlib.Omega.{arith}
-use lib.ListN.{length, drop, get_or}
+use mathlib.Core.Path.{◌≡◌}
+use Prim.Native.Nat.{◌+◌, ◌-◌, ◌≤◌}
+use lib.ListN.{length, drop}
 use Rattle.model.specs.Text.{chars}
-use Rattle.atom.proofs.Texts.{chars_on, chars_end, ones_small}
 use Rattle.atom.proofs.count_chars.Given as goal
 
 abbrev pub invariant-loop-i : goal.invariant-loop-i

@@ -5,7 +5,6 @@ use Prim.Native.Nat.{ℕ}
 use lib.Dec.{eqb}
 use borrow.Author.Tests.{ne_eqb, eq-eqb}
 use Rattle.atom.specs.Bytes.{fits_at}
-use borrow.Author.Rules.{rules}
 use Rattle.atom.proofs.fits.Goals as goal
 
 pub returns-then-due-eq0 : goal.returns-then-due-eq0

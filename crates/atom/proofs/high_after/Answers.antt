@@ -1,7 +1,6 @@
 -- `atom::high_after` meets its contract.
 use borrow.Author.Tests.{ne_eqb, eq-eqb}
 use Rattle.atom.specs.Bytes.{high_after}
-use borrow.Author.Rules.{rules}
 use Rattle.atom.proofs.high_after.Goals as goal
 
 pub returns-then-due-eq0 : goal.returns-then-due-eq0

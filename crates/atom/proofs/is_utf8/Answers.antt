@@ -1,10 +1,8 @@
 -- `atom::is_utf8` meets its contract.
-use mathlib.Core.Path.{◌≡◌, refl, sym, ap, ◌∙◌}
-use Prim.Native.Nat.{ℕ, ◌+◌, ◌-◌, ◌≤◌}
+use mathlib.Core.Path.{refl, sym, ap, ◌∙◌}
+use Prim.Native.Nat.{ℕ, ◌+◌}
 use native.Mathlib.Omega.{arith}
-use borrow.Author.Tests.{not-true, not-false}
-use mathlib.Core.List.{[]}
-use lib.ListN.{length, drop, get_or}
+use lib.ListN.{drop, get_or}
 use Rattle.model.specs.Value.{is_utf8, utf8_from}
 use Rattle.atom.specs.Bytes.{due_ranges, low_after, high_after}
 use Rattle.atom.proofs.Texts.{utf8_on, utf8_plain, utf8_off, utf8_end}

@@ -3,7 +3,6 @@ use Rattle.model.specs.Value.{text_of, less_atom}
 use mathlib.Core.Path.{sym, ap, ◌∙◌}
 use Rattle.model.specs.Octets.{lt_bytes}
 use Rattle.atom.proofs.Types.{base_integer, base_text, by_bytes}
-use borrow.Author.Rules.{rules}
 use Rattle.atom.proofs.less.Goals as goal
 
 pub returns-then-kind-eq0 : goal.returns-then-kind-eq0

@@ -7,7 +7,6 @@ use native.Mathlib.Omega.{arith}
 use Rattle.model.specs.Octets.{value}
 use Rattle.leaf.specs.Bytes.{halves}
 use Rattle.atom.proofs.Types.{halves_less}
-use borrow.Author.Rules.{rules}
 use Rattle.atom.proofs.less_integers.Goals as goal
 
 pub returns : goal.returns

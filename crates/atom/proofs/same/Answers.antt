@@ -1,10 +1,6 @@
 -- `atom::same` meets its contract.
-use mathlib.Core.Path.{◌≡◌, refl, sym, ◌∙◌}
-use mathlib.Core.Bool.{◌&&◌}
-use Prim.Native.Nat.{◌-◌, ◌≤◌}
+use mathlib.Core.Path.{refl, sym, ◌∙◌}
 use native.Mathlib.Omega.{arith}
-use lib.ListN.{drop}
-use Rattle.model.specs.Octets.{eq_bytes}
 use Rattle.atom.proofs.Cells.{same_on, same_end}
 use Rattle.atom.proofs.same.Goals as goal
 

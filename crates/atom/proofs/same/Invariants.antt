@@ -1,11 +1,9 @@
 -- The loop of `atom::same`.
-use mathlib.Core.Path.{◌≡◌, refl, sym, ◌∙◌}
+use mathlib.Core.Path.{◌≡◌}
 use mathlib.Core.Bool.{◌&&◌}
 use Prim.Native.Nat.{◌-◌, ◌≤◌}
-use native.Mathlib.Omega.{arith}
 use lib.ListN.{drop}
 use Rattle.model.specs.Octets.{eq_bytes}
-use Rattle.atom.proofs.Cells.{same_on, same_end}
 use Rattle.atom.proofs.same.Given as goal
 
 abbrev pub invariant-loop-k : goal.invariant-loop-k

@@ -4,7 +4,6 @@ use Prim.Native.Nat.{ℕ, ◌+◌, ◌-◌}
 use native.Mathlib.Omega.{arith}
 use lib.ListN.{length, take, drop, get_or, length-take, length-drop}
 use Rattle.atom.proofs.Cells.{take_found}
-use borrow.Author.Rules.{rules}
 use Rattle.atom.proofs.text_of.Goals as goal
 
 pub overflow_add-result : goal.overflow_add-result

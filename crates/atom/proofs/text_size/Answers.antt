@@ -1,7 +1,6 @@
 -- `atom::text_size` meets its contract.
 use native.Mathlib.Omega.{arith}
 use lib.ListN.{drop, get_or, length-take, length-drop}
-use borrow.Author.Rules.{rules}
 use Rattle.atom.proofs.text_size.Goals as goal
 
 pub returns-then-n-gt-TEXT : goal.returns-then-n-gt-TEXT

@@ -4,7 +4,6 @@ use Rattle.model.specs.Value.{well_atom}
 use Rattle.atom.proofs.Types.{base_integer, base_boolean, base_text, base_uuid}
 use native.Mathlib.Omega.{arith}
 use Rattle.atom.proofs.Typed.{typed_atom}
-use borrow.Author.Rules.{rules}
 use Rattle.atom.proofs.well_atom.Goals as goal
 
 pub returns-then-kind-eq0 : goal.returns-then-kind-eq0

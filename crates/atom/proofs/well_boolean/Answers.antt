@@ -5,7 +5,6 @@ use lib.Dec.{ltb}
 use lib.ListN.{get_or}
 use native.Mathlib.Omega.{arith}
 use Rattle.atom.proofs.Typed.{typed_atom}
-use borrow.Author.Rules.{rules}
 use Rattle.atom.proofs.well_boolean.Goals as goal
 
 pub returns : goal.returns

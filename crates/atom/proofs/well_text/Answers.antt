@@ -8,7 +8,6 @@ use lib.ListN.{drop, get_or}
 use Rattle.model.specs.Value.{text_of, is_utf8, zeros}
 use Rattle.model.proofs.Tests.{clash, and_l, and_r}
 use Rattle.atom.proofs.Typed.{text_atom_lem}
-use borrow.Author.Rules.{rules}
 use Rattle.atom.proofs.well_text.Goals as goal
 
 pub returns-then-n-gt-TEXT : goal.returns-then-n-gt-TEXT

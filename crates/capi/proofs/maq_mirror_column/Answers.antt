@@ -3,7 +3,6 @@ use mathlib.Core.Path.{sym, ap, ◌∙◌}
 use Rattle.model.specs.Refusals.{number_of}
 use Rattle.model.specs.Calls.{Contents}
 use Rattle.capi.proofs.Beyond.{column_by}
-use borrow.Author.Rules.{rules}
 use Rattle.capi.proofs.maq_mirror_column.Goals as goal
 
 pub returns : goal.returns

@@ -1,9 +1,8 @@
 -- `capi::maq_mirror_has_row` meets its contract.
 use mathlib.Core.Path.{ap, ◌∙◌}
-use mathlib.Core.List.{List, [], ◌∷◌}
+use mathlib.Core.List.{[], ◌∷◌}
 use Prim.Native.Nat.{ℕ}
 use Rattle.capi.proofs.Telling.{presence_numbered, only_byte, presence_other, presence_output}
-use borrow.Author.Rules.{rules}
 use Rattle.capi.proofs.maq_mirror_has_row.Goals as goal
 
 pub returns-then-out-ne1 : goal.returns-then-out-ne1

@@ -2,7 +2,6 @@
 use mathlib.Core.Path.{sym, ap, ◌∙◌}
 use Rattle.model.specs.Refusals.{number_of}
 use Rattle.model.specs.Calls.{Arrived}
-use borrow.Author.Rules.{rules}
 use Rattle.capi.proofs.maq_mirror_hear.Goals as goal
 
 pub returns : goal.returns

@@ -7,7 +7,6 @@ use lib.ListN.{length, length-set}
 use Rattle.model.specs.Octets.{big}
 use Rattle.model.specs.Catalog.{bit}
 use Rattle.capi.proofs.Telling.{progress_numbered, last_byte, progress_other, progress_output}
-use borrow.Author.Rules.{rules}
 use Rattle.capi.proofs.maq_mirror_progress.Goals as goal
 
 pub returns-then-out-ne5 : goal.returns-then-out-ne5

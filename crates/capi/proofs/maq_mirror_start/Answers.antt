@@ -2,7 +2,6 @@
 use mathlib.Core.Path.{sym, ap, ◌∙◌}
 use Rattle.model.specs.Refusals.{number_of}
 use Rattle.model.specs.Calls.{Started}
-use borrow.Author.Rules.{rules}
 use Rattle.capi.proofs.maq_mirror_start.Goals as goal
 
 pub returns : goal.returns

@@ -1,7 +1,6 @@
 -- `capi::maq_store_start` meets its contract.
 use mathlib.Core.Path.{ap, ◌∙◌}
 use Rattle.model.specs.Refusals.{number_of}
-use borrow.Author.Rules.{rules}
 use Rattle.capi.proofs.maq_store_start.Goals as goal
 
 pub returns : goal.returns

@@ -2,7 +2,6 @@
 use mathlib.Core.Path.{sym, ap, ◌∙◌}
 use Rattle.model.specs.Refusals.{number_of}
 use Rattle.model.specs.Calls.{Transacted}
-use borrow.Author.Rules.{rules}
 use Rattle.capi.proofs.maq_store_transact.Goals as goal
 
 pub returns : goal.returns

@@ -4,7 +4,6 @@ use Prim.Native.Nat.{ℕ, ◌+◌, ◌*◌, ◌-◌}
 use native.Mathlib.Omega.{arith}
 use lib.ListN.{take, drop}
 use Rattle.catalog.proofs.Minimums.{take_short}
-use borrow.Author.Rules.{rules}
 use Rattle.catalog.proofs.columns_of.Goals as goal
 
 pub returns : goal.returns

@@ -4,7 +4,6 @@ use mathlib.Core.Path.{◌≡◌, ap, ◌∙◌}
 use mathlib.Core.List.{List, ◌++◌}
 use lib.ListN.{length, set, drop, replicate}
 use lib.Seq.{set_at}
-use borrow.Author.Rules.{rules}
 use Rattle.catalog.proofs.database_entry.Goals as goal
 
 pub returns : goal.returns

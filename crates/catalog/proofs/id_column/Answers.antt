@@ -2,7 +2,6 @@
 use mathlib.Core.Path.{refl}
 use Rattle.model.specs.Catalog.{base_numbered}
 use Rattle.model.specs.Catalog.{refers_from}
-use borrow.Author.Rules.{rules}
 use Rattle.catalog.proofs.id_column.Goals as goal
 
 pub returns : goal.returns

@@ -1,6 +1,5 @@
 -- `catalog::is_found` meets its contract.
 use Rattle.catalog.specs.Entries.{is_found}
-use borrow.Author.Rules.{rules}
 use Rattle.catalog.proofs.is_found.Goals as goal
 
 pub returns-in-At : goal.returns-in-At

@@ -1,11 +1,7 @@
 -- `catalog::minimums_of` meets its contract.
-use borrow.Author.Rules.{rules}
-use mathlib.Core.Path.{◌≡◌, refl}
-use mathlib.Core.List.{◌++◌}
-use Prim.Native.Nat.{◌-◌, ◌≤◌}
+use mathlib.Core.Path.{refl}
 use native.Mathlib.Omega.{arith}
-use lib.ListN.{length, take, replicate}
-use Rattle.catalog.proofs.Minimums.{mins_of, mins_more, mins_end}
+use Rattle.catalog.proofs.Minimums.{mins_more, mins_end}
 use Rattle.catalog.proofs.minimums_of.Goals as goal
 
 pub loop-c-init : goal.loop-c-init

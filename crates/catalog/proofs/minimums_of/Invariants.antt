@@ -1,11 +1,9 @@
 -- The loop of `catalog::minimums_of`.
-use borrow.Author.Rules.{rules}
-use mathlib.Core.Path.{◌≡◌, refl}
+use mathlib.Core.Path.{◌≡◌}
 use mathlib.Core.List.{◌++◌}
 use Prim.Native.Nat.{◌-◌, ◌≤◌}
-use native.Mathlib.Omega.{arith}
 use lib.ListN.{length, take, replicate}
-use Rattle.catalog.proofs.Minimums.{mins_of, mins_more, mins_end}
+use Rattle.catalog.proofs.Minimums.{mins_of}
 use Rattle.catalog.proofs.minimums_of.Given as goal
 
 abbrev pub invariant-loop-c : goal.invariant-loop-c

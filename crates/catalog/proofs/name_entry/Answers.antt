@@ -3,7 +3,6 @@ use Prim.Native.Nat.{ℕ}
 use mathlib.Core.Path.{◌≡◌, ap, ◌∙◌}
 use mathlib.Core.List.{◌++◌}
 use lib.ListN.{length, drop, replicate}
-use borrow.Author.Rules.{rules}
 use Rattle.catalog.proofs.name_entry.Goals as goal
 
 pub returns : goal.returns

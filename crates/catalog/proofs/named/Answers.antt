@@ -1,12 +1,8 @@
 -- `catalog::named` meets its contract.
-use borrow.Author.Rules.{rules}
-use mathlib.Core.Path.{◌≡◌, sym, ap, ◌∙◌}
-use Prim.Native.Nat.{◌≤◌, ◌-◌}
+use mathlib.Core.Path.{sym, ap, ◌∙◌}
 use native.Mathlib.Omega.{arith}
-use lib.ListN.{length}
 use Rattle.model.specs.Octets.{eq_bytes}
-use Rattle.catalog.specs.Entries.{entry_named}
-use Rattle.catalog.proofs.Lookups.{found_from, left, named_start, named_end, named_here, named_next}
+use Rattle.catalog.proofs.Lookups.{named_start, named_end, named_here, named_next}
 use Rattle.catalog.proofs.named.Goals as goal
 
 pub loop-i-init : goal.loop-i-init

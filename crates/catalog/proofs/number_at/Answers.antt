@@ -5,7 +5,6 @@ use native.Mathlib.Omega.{arith}
 use lib.ListN.{take, drop}
 use lib.Seq.{take-take}
 use Rattle.model.specs.Octets.{value}
-use borrow.Author.Rules.{rules}
 use Rattle.catalog.proofs.number_at.Goals as goal
 
 pub returns : goal.returns

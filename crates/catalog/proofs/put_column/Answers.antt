@@ -5,7 +5,6 @@ use mathlib.Core.List.{◌++◌}
 use mathlib.Core.Path.{◌≡◌, ap, ◌∙◌}
 use Rattle.octets.proofs.Rests.{write_next}
 use Rattle.catalog.specs.Writing.{column_bytes}
-use borrow.Author.Rules.{rules}
 use Rattle.catalog.proofs.put_column.Goals as goal
 
 pub returns : goal.returns

@@ -9,7 +9,6 @@ use borrow.Rule.Slice.PartMut.{same_len_mid}
 use Rattle.model.specs.Octets.{big}
 use Rattle.octets.proofs.Rests.{mid_rest, write_next}
 use Rattle.catalog.specs.Writing.{head_bytes}
-use borrow.Author.Rules.{rules}
 use Rattle.catalog.proofs.put_head.Goals as goal
 
 pub bounds-out-26 : goal.bounds-out-26

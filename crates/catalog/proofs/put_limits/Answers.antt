@@ -5,11 +5,6 @@ use mathlib.Core.Path.{refl, ◌∙◌}
 use Rattle.model.specs.Octets.{big}
 use Rattle.octets.proofs.Rests.{write_next}
 use Rattle.catalog.specs.Writing.{limit_bytes}
-use borrow.Author.Rules.{rules}
-use Rattle.catalog.proofs.put_limits.Reads as reads
-use Rattle.catalog.proofs.put_limits.Lts as lts
-use Rattle.octets.proofs.bits.Reads as bits-reads
-use Rattle.octets.proofs.put_number.Reads as put-number-reads
 use Rattle.catalog.proofs.put_limits.Goals as goal
 
 pub returns : goal.returns

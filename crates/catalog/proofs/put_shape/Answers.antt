@@ -3,7 +3,6 @@ use mathlib.Core.Path.{refl}
 use mathlib.Core.List.{[], ◌∷◌}
 use Rattle.octets.proofs.Rests.{write_next}
 use Rattle.catalog.specs.Writing.{limit_bytes}
-use borrow.Author.Rules.{rules}
 use Rattle.catalog.proofs.put_shape.Goals as goal
 
 pub returns : goal.returns

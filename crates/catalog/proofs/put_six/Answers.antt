@@ -2,9 +2,6 @@
 use native.Mathlib.Omega.{arith}
 use lib.ListN.{length-set}
 use Rattle.catalog.proofs.Writing.{six}
-use borrow.Author.Rules.{rules}
-use Rattle.catalog.proofs.put_six.Reads as reads
-use Rattle.catalog.proofs.put_six.Lts as lts
 use Rattle.catalog.proofs.put_six.Goals as goal
 
 pub bounds-out-1 : goal.bounds-out-1

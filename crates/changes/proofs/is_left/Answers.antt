@@ -5,7 +5,6 @@ use Rattle.inner.specs.Working.{value_in}
 use Rattle.model.specs.declared.Found.{Found}
 use Rattle.changes.specs.Walk.{old_cells, skips}
 use Rattle.changes.proofs.Rows.{old_at}
-use borrow.Author.Rules.{rules}
 use Rattle.changes.proofs.is_left.Goals as goal
 
 pub same_column-requires : goal.same_column-requires

@@ -1,6 +1,5 @@
 -- `changes::next` meets its contract.
 use mathlib.Core.Path.{refl}
-use borrow.Author.Rules.{rules}
 use Rattle.changes.proofs.next.Goals as goal
 
 -- the number after those that were given out before the commit and in it

@@ -11,7 +11,6 @@ use Rattle.area.specs.Layout.{rows_at}
 use Rattle.area.proofs.Copies.{rows_are}
 use Rattle.changes.proofs.Rows.{key_value}
 use Rattle.changes.proofs.Fore.{place_there, place_nowhere}
-use borrow.Author.Rules.{rules}
 use Rattle.changes.proofs.old_place.Goals as goal
 
 pub returns-then-m-at : goal.returns-then-m-at

@@ -7,7 +7,6 @@ use Rattle.record.specs.Kinds.{born_record}
 use Rattle.record.specs.declared.Born.{Born}
 use Rattle.record.proofs.Laws.{wrote_as}
 use Rattle.changes.proofs.Writing.{recorded_one}
-use borrow.Author.Rules.{rules}
 use Rattle.changes.proofs.put_born.Goals as goal
 
 pub returns : goal.returns

@@ -8,7 +8,6 @@ use Rattle.record.specs.Kinds.{column_record}
 use Rattle.record.specs.declared.Column.{Column}
 use Rattle.record.proofs.Laws.{wrote_as}
 use Rattle.changes.proofs.Writing.{recorded_one}
-use borrow.Author.Rules.{rules}
 use Rattle.changes.proofs.put_column.Goals as goal
 
 pub returns : goal.returns

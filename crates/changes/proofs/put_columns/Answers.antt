@@ -1,10 +1,8 @@
 -- `changes::put_columns` meets its contract.
 use mathlib.Core.Path.{refl, sym, ◌∙◌}
 use mathlib.Core.Logic.{⊎_elim}
-use Prim.Native.Nat.{◌+◌, ◌*◌, ◌-◌, ◌≤◌, ◌<◌}
+use Prim.Native.Nat.{◌+◌, ◌*◌, ◌≤◌, ◌<◌}
 use native.Mathlib.Omega.{arith}
-use borrow.Author.Tests.{not-true, not-false}
-use borrow.Author.Rules.{rules}
 use lib.ListN.{length}
 use Rattle.model.specs.Schema.{columns_of}
 use Rattle.model.specs.Catalog.{packed_tables}
@@ -12,7 +10,7 @@ use Rattle.inner.specs.Positions.{is_nothing}
 use Rattle.inner.specs.Working.{table_in, id_in}
 use Rattle.references.proofs.Packs.{few_columns_lem}
 use Rattle.changes.specs.Walk.{old_cells, skips}
-use Rattle.changes.proofs.Writing.{Along, along_all, along_is, along_next, along_end}
+use Rattle.changes.proofs.Writing.{along_all, along_is, along_next, along_end}
 use Rattle.changes.proofs.Rows.{columns_left, columns_like, columns_other, columns_end}
 use Rattle.changes.proofs.put_columns.Goals as goal
 

@@ -1,19 +1,11 @@
 -- The loop of `changes::put_columns`.
-use mathlib.Core.Path.{refl, sym, ◌∙◌}
-use mathlib.Core.Logic.{⊎_elim}
-use Prim.Native.Nat.{◌+◌, ◌*◌, ◌-◌, ◌≤◌, ◌<◌}
-use native.Mathlib.Omega.{arith}
-use borrow.Author.Tests.{not-true, not-false}
-use borrow.Author.Rules.{rules}
-use lib.ListN.{length}
-use Rattle.model.specs.Schema.{columns_of}
+use Prim.Native.Nat.{◌*◌, ◌-◌, ◌≤◌}
 use Rattle.model.specs.Catalog.{packed_tables}
 use Rattle.inner.specs.Positions.{is_nothing}
 use Rattle.inner.specs.Working.{table_in, id_in}
-use Rattle.references.proofs.Packs.{few_columns_lem}
 use Rattle.changes.specs.Walk.{old_cells, skips}
-use Rattle.changes.proofs.Writing.{Along, along_all, along_is, along_next, along_end}
-use Rattle.changes.proofs.Rows.{columns_left, columns_like, columns_other, columns_end}
+use Rattle.changes.proofs.Writing.{Along}
+use Rattle.changes.proofs.Rows.{columns_left}
 use Rattle.changes.proofs.put_columns.Given as goal
 
 abbrev pub invariant-loop-c : goal.invariant-loop-c

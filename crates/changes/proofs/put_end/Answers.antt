@@ -4,7 +4,6 @@ use native.Mathlib.Omega.{arith}
 use Rattle.record.specs.Kinds.{end_record}
 use Rattle.record.proofs.Laws.{wrote_as}
 use Rattle.changes.proofs.Writing.{recorded_one}
-use borrow.Author.Rules.{rules}
 use Rattle.changes.proofs.put_end.Goals as goal
 
 pub returns : goal.returns

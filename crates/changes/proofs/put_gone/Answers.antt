@@ -7,7 +7,6 @@ use Rattle.record.specs.Kinds.{gone_record}
 use Rattle.record.specs.declared.Gone.{Gone}
 use Rattle.record.proofs.Laws.{wrote_as}
 use Rattle.changes.proofs.Writing.{recorded_one}
-use borrow.Author.Rules.{rules}
 use Rattle.changes.proofs.put_gone.Goals as goal
 
 pub returns : goal.returns

@@ -2,19 +2,17 @@
 use mathlib.Core.Path.{refl, sym, ap, ◌∙◌}
 use mathlib.Core.Logic.{⊎_elim}
 use mathlib.Core.List.{[], ◌∷◌}
-use Prim.Native.Nat.{ℕ, ◌+◌, ◌*◌, ◌-◌, ◌≤◌}
+use Prim.Native.Nat.{ℕ, ◌+◌, ◌*◌, ◌≤◌}
 use native.Mathlib.Omega.{arith}
 use borrow.Author.Rules.{rules}
-use borrow.Author.Tests.{not-true, not-false}
 use lib.ListN.{length, drop}
 use Rattle.model.specs.Limits.{rows_offset}
-use Rattle.model.specs.Schema.{Schema}
 use Rattle.model.specs.Rows.{has}
 use Rattle.model.specs.Records.{gone, gones}
 use Rattle.inner.specs.Working.{working, table_in, id_in, key_in}
 use Rattle.area.specs.Layout.{rows_at}
 use Rattle.area.proofs.Copies.{rows_length, rows_are}
-use Rattle.changes.proofs.Writing.{Along, recorded_is, along_all, along_is, along_next, along_end}
+use Rattle.changes.proofs.Writing.{recorded_is, along_all, along_is, along_next, along_end}
 use Rattle.changes.proofs.Rows.{gones_like, gones_other, gones_end, key_table, key_id, key_is}
 use Rattle.changes.proofs.put_gones.Goals as goal
 

@@ -10,7 +10,6 @@ use Rattle.inner.specs.Working.{table_in, id_in}
 use Rattle.changes.specs.Walk.{row_most}
 use Rattle.changes.proofs.Writing.{recorded_is, recorded_then}
 use Rattle.changes.proofs.Rows.{at_old, nothing_old, columns_over, row_new, old_within, row_changed}
-use borrow.Author.Rules.{rules}
 use Rattle.changes.proofs.put_row.Goals as goal
 
 pub put_columns-requires : goal.put_columns-requires

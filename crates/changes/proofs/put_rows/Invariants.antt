@@ -1,21 +1,14 @@
 -- The loop of `changes::put_rows`.
-use mathlib.Core.Path.{◌≡◌, refl, ap}
-use mathlib.Core.List.{List, []}
-use Prim.Native.Nat.{ℕ, suc, ◌+◌, ◌*◌, ◌-◌, ◌≤◌, ◌<◌}
-use native.Mathlib.Numerals.{add-one}
-use native.Mathlib.Omega.{arith}
+use mathlib.Core.List.{[]}
+use Prim.Native.Nat.{◌*◌, ◌-◌, ◌≤◌, ◌<◌}
 use lib.ListN.{get_or, drop}
 use Rattle.model.specs.Schema.{Schema}
-use Rattle.model.specs.Rows.{Row}
 use Rattle.model.specs.Records.{walk}
 use Rattle.model.specs.Catalog.{packed_tables}
 use Rattle.inner.specs.Working.{working, key_in}
-use Rattle.inner.proofs.Ordering.{ordered_next}
 use Rattle.area.specs.Layout.{rows_at}
 use Rattle.changes.specs.Walk.{fore}
-use Rattle.changes.proofs.Writing.{Along, along_all, along_is, along_next, along_end}
-use Rattle.changes.proofs.Rows.{walk_on, walk_end}
-use Rattle.changes.proofs.Fore.{fore_up}
+use Rattle.changes.proofs.Writing.{Along}
 use Rattle.changes.proofs.put_rows.Given as goal
 
 abbrev pub invariant-loop-i : goal.invariant-loop-i

@@ -4,7 +4,6 @@ use Rattle.inner.specs.Working.{table_in}
 use Rattle.model.specs.declared.Found.{Found}
 use Rattle.changes.specs.Walk.{old_cells}
 use Rattle.changes.proofs.Rows.{old_at, key_table}
-use borrow.Author.Rules.{rules}
 use Rattle.changes.proofs.table_of.Goals as goal
 
 pub key_at-key-requires : goal.key_at-key-requires

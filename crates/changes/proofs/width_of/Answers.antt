@@ -5,7 +5,6 @@ use native.Mathlib.Omega.{arith}
 use lib.ListN.{length}
 use Rattle.model.specs.Schema.{columns_of}
 use Rattle.model.specs.Catalog.{packed_tables}
-use borrow.Author.Rules.{rules}
 use Rattle.changes.proofs.width_of.Goals as goal
 
 pub returns-then-x-w : goal.returns-then-x-w

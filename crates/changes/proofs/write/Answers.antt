@@ -13,7 +13,6 @@ use Rattle.area.specs.Layout.{rows_at}
 use Rattle.changes.specs.Walk.{Recorded, row_most}
 use Rattle.changes.proofs.Writing.{recorded_is, recorded_then, finished_count, finished_bytes}
 use Rattle.changes.proofs.Rows.{closed_none, closed_some}
-use borrow.Author.Rules.{rules}
 use Rattle.changes.proofs.write.Goals as goal
 
 pub put_gones-to-requires : goal.put_gones-to-requires

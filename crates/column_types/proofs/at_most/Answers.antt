@@ -1,7 +1,6 @@
 -- `column_types::at_most` meets its contract.
 use mathlib.Core.Path.{◌∙◌}
 use Rattle.model.specs.Whole.{whole_int}
-use borrow.Author.Rules.{rules}
 use Rattle.column_types.proofs.at_most.Goals as goal
 
 pub returns-in-Plus : goal.returns-in-Plus

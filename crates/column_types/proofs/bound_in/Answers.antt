@@ -1,7 +1,6 @@
 -- `column_types::bound_in` meets its contract.
 use borrow.Author.Tests.{eq-eqb, ne_eqb}
 use Rattle.column_types.specs.Types.{bound_in}
-use borrow.Author.Rules.{rules}
 use Rattle.column_types.proofs.bound_in.Goals as goal
 
 pub returns-then-base-eq0 : goal.returns-then-base-eq0

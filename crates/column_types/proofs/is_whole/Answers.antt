@@ -1,6 +1,5 @@
 -- `column_types::is_whole` meets its contract.
 use Rattle.model.specs.Whole.{is_whole}
-use borrow.Author.Rules.{rules}
 use Rattle.column_types.proofs.is_whole.Goals as goal
 
 pub returns-in-Plus : goal.returns-in-Plus

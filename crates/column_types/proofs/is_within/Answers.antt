@@ -1,7 +1,6 @@
 -- `column_types::is_within` meets its contract.
 use borrow.Author.Tests.{le-leb, lt-leb}
 use Rattle.model.specs.SchemaText.{is_within}
-use borrow.Author.Rules.{rules}
 use Rattle.column_types.proofs.is_within.Goals as goal
 
 pub returns-then-m-low : goal.returns-then-m-low

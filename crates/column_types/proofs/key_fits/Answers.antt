@@ -1,6 +1,5 @@
 -- `column_types::key_fits` meets its contract.
 use Rattle.column_types.proofs.Keys.{key_allowed_lem}
-use borrow.Author.Rules.{rules}
 use Rattle.column_types.proofs.key_fits.Goals as goal
 
 pub returns : goal.returns

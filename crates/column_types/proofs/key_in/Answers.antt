@@ -8,11 +8,6 @@ use Rattle.model.specs.Json.{Json}
 use Rattle.model.specs.Catalog.{entry_name}
 use Rattle.members.proofs.Slotted.{at_some}
 use Rattle.column_types.specs.Types.{KeyRead}
-use borrow.Author.Rules.{rules}
-use Rattle.column_types.proofs.key_in.Reads as reads
-use Rattle.column_types.proofs.key_in.Lts as lts
-use Rattle.column_types.proofs.no_key.Reads as no-key-reads
-use Rattle.column_types.proofs.read_key.Reads as read-key-reads
 use Rattle.column_types.proofs.key_in.Goals as goal
 
 positive : (p : ℕ) → (p ≡ 0 → ⊥) → 0 < p

@@ -2,7 +2,6 @@
 use mathlib.Core.Path.{ap, ◌∙◌}
 use borrow.Author.Tests.{eq-eqb, ne_eqb}
 use Rattle.model.specs.Whole.{is_whole}
-use borrow.Author.Rules.{rules}
 use Rattle.column_types.proofs.limit_fits.Goals as goal
 
 pub returns-then-p-eq0 : goal.returns-then-p-eq0

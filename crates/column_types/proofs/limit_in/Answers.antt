@@ -1,7 +1,6 @@
 -- `column_types::limit_in` meets its contract.
 use borrow.Author.Tests.{eq-eqb, ne_eqb}
 use Rattle.column_types.specs.Types.{limit_in}
-use borrow.Author.Rules.{rules}
 use Rattle.column_types.proofs.limit_in.Goals as goal
 
 pub returns-then-p-eq0 : goal.returns-then-p-eq0

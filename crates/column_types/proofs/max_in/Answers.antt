@@ -1,10 +1,6 @@
 -- `column_types::max_in` meets its contract.
 use borrow.Author.Tests.{eq-eqb, ne_eqb}
 use Rattle.column_types.specs.Types.{max_in}
-use borrow.Author.Rules.{rules}
-use Rattle.column_types.proofs.max_in.Reads as reads
-use Rattle.column_types.proofs.max_in.Lts as lts
-use Rattle.column_types.proofs.size_or.Reads as size-or-reads
 use Rattle.column_types.proofs.max_in.Goals as goal
 
 pub returns-then-p-eq0 : goal.returns-then-p-eq0

@@ -1,6 +1,5 @@
 -- `column_types::minus_at_most` meets its contract.
 use Rattle.column_types.proofs.Signs.{minus_plus, minus_other, minus_minus}
-use borrow.Author.Rules.{rules}
 use Rattle.column_types.proofs.minus_at_most.Goals as goal
 
 pub returns-in-Plus : goal.returns-in-Plus

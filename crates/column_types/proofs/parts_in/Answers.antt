@@ -1,7 +1,6 @@
 -- `column_types::parts_in` meets its contract.
 use Rattle.members.specs.Fields.{words_from, words_of}
 use Rattle.column_types.specs.Types.{parts_in}
-use borrow.Author.Rules.{rules}
 use Rattle.column_types.proofs.parts_in.Goals as goal
 
 pub returns : goal.returns

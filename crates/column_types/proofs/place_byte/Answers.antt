@@ -1,7 +1,6 @@
 -- `column_types::place_byte` meets its contract.
 use borrow.Author.Tests.{lt-ltb, le-ltb}
 use Rattle.column_types.specs.Types.{place_byte}
-use borrow.Author.Rules.{rules}
 use Rattle.column_types.proofs.place_byte.Goals as goal
 
 pub returns-then-k-lt256 : goal.returns-then-k-lt256

@@ -1,6 +1,5 @@
 -- `column_types::plus_at_most` meets its contract.
 use Rattle.column_types.proofs.Signs.{plus_plus, plus_other, plus_none, plus_minus}
-use borrow.Author.Rules.{rules}
 use Rattle.column_types.proofs.plus_at_most.Goals as goal
 
 pub returns-then-n-eq0 : goal.returns-then-n-eq0

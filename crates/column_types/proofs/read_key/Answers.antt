@@ -3,7 +3,6 @@ use mathlib.Core.Path.{refl}
 use native.Mathlib.Omega.{arith}
 use Rattle.members.specs.Fields.{words_from, words_of}
 use Rattle.column_types.proofs.Keys.{key_read}
-use borrow.Author.Rules.{rules}
 use Rattle.column_types.proofs.read_key.Goals as goal
 
 pub fields_or-f-requires : goal.fields_or-f-requires

@@ -5,15 +5,6 @@ use mathlib.Core.Path.{refl}
 use native.Mathlib.Omega.{arith}
 use Rattle.members.specs.Fields.{words_from, words_of}
 use Rattle.column_types.proofs.Shapes.{type_read}
-use borrow.Author.Rules.{rules}
-use Rattle.column_types.proofs.read_type.Reads as reads
-use Rattle.column_types.proofs.read_type.Lts as lts
-use Rattle.members.proofs.fields_or.Reads as fields-or-reads
-use Rattle.members.proofs.whole_in.Reads as whole-in-reads
-use Rattle.column_types.proofs.key_in.Reads as key-in-reads
-use Rattle.column_types.proofs.max_in.Reads as max-in-reads
-use Rattle.column_types.proofs.size_or.Reads as size-or-reads
-use Rattle.column_types.proofs.type_fits.Reads as type-fits-reads
 use Rattle.column_types.proofs.read_type.Goals as goal
 
 pub fields_or-f-requires : goal.fields_or-f-requires

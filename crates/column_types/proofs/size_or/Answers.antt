@@ -1,6 +1,5 @@
 -- `column_types::size_or` meets its contract.
 use Rattle.model.specs.SchemaText.{size_or}
-use borrow.Author.Rules.{rules}
 use Rattle.column_types.proofs.size_or.Goals as goal
 
 pub returns-in-Plus : goal.returns-in-Plus

@@ -6,7 +6,6 @@ use Rattle.catalog.specs.Entries.{entry_named}
 use Rattle.model.specs.Value.{text_of}
 use Rattle.column_types.specs.Types.{table_in}
 use Rattle.members.proofs.Slotted.{at_some}
-use borrow.Author.Rules.{rules}
 use Rattle.column_types.proofs.table_in.Goals as goal
 
 pub returns-then-p-eq0 : goal.returns-then-p-eq0

@@ -1,13 +1,6 @@
 -- `column_types::type_fits` meets its contract.
 use Rattle.members.specs.Fields.{words_from, words_of}
 use Rattle.column_types.proofs.Shapes.{type_allowed_lem}
-use borrow.Author.Rules.{rules}
-use Rattle.column_types.proofs.type_fits.Reads as reads
-use Rattle.column_types.proofs.type_fits.Lts as lts
-use Rattle.members.proofs.choice_in.Reads as choice-in-reads
-use Rattle.column_types.proofs.is_within.Reads as is-within-reads
-use Rattle.column_types.proofs.max_in.Reads as max-in-reads
-use Rattle.column_types.proofs.size_or.Reads as size-or-reads
 use Rattle.column_types.proofs.type_fits.Goals as goal
 
 pub returns : goal.returns

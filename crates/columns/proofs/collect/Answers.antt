@@ -12,8 +12,7 @@ use Rattle.model.specs.SchemaText.{is_id}
 use Rattle.model.specs.Value.{text_of}
 use Rattle.nav.proofs.Walk.{pass_less}
 use Rattle.names.specs.Names.{name_cell}
-use borrow.Author.Rules.{rules}
-use Rattle.columns.proofs.Gathering.{Gathered, not_object, gather_start, gather_end, name_bad, same_places, too_many, in_six, gather_more}
+use Rattle.columns.proofs.Gathering.{not_object, gather_start, gather_end, name_bad, same_places, too_many, in_six, gather_more}
 use Rattle.columns.proofs.collect.Goals as goal
 
 pub loop-g-init : goal.loop-g-init

@@ -1,6 +1,5 @@
 -- `columns::column_fits` meets its contract.
 use Rattle.columns.proofs.Cells.{column_allowed_lem}
-use borrow.Author.Rules.{rules}
 use Rattle.columns.proofs.column_fits.Goals as goal
 
 pub returns : goal.returns

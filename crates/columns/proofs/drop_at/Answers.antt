@@ -1,9 +1,7 @@
 -- `columns::drop_at` meets its contract.
 use mathlib.Core.List.{[]}
-use Prim.Native.Nat.{◌-◌}
 use native.Mathlib.Omega.{arith}
-use borrow.Author.Rules.{rules}
-use Rattle.columns.proofs.Kept.{Moving, move_start, move_end, move_more}
+use Rattle.columns.proofs.Kept.{move_start, move_end, move_more}
 use Rattle.columns.proofs.drop_at.Goals as goal
 
 pub loop-k-init : goal.loop-k-init

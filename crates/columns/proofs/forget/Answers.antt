@@ -1,5 +1,4 @@
 -- `columns::forget` meets its contract.
-use borrow.Author.Rules.{rules}
 use Rattle.columns.proofs.Kept.{forgot, forgot_none}
 use Rattle.columns.proofs.forget.Goals as goal
 

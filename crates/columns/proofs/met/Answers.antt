@@ -1,10 +1,6 @@
 -- `columns::met` meets its contract.
-use mathlib.Core.Path.{◌≡◌, sym, ◌∙◌}
-use Prim.Native.Nat.{◌+◌, ◌-◌, ◌≤◌}
+use mathlib.Core.Path.{sym, ◌∙◌}
 use native.Mathlib.Omega.{arith}
-use lib.ListN.{take, drop}
-use borrow.Author.Rules.{rules}
-use Rattle.columns.specs.Parts.{met_at}
 use Rattle.columns.proofs.Kept.{met_end, met_here, met_next}
 use Rattle.columns.proofs.met.Goals as goal
 

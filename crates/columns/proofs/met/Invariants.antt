@@ -1,11 +1,8 @@
 -- The loop of `columns::met`.
-use mathlib.Core.Path.{◌≡◌, sym, ◌∙◌}
+use mathlib.Core.Path.{◌≡◌}
 use Prim.Native.Nat.{◌+◌, ◌-◌, ◌≤◌}
-use native.Mathlib.Omega.{arith}
 use lib.ListN.{take, drop}
-use borrow.Author.Rules.{rules}
 use Rattle.columns.specs.Parts.{met_at}
-use Rattle.columns.proofs.Kept.{met_end, met_here, met_next}
 use Rattle.columns.proofs.met.Given as goal
 
 abbrev pub invariant-loop-i : goal.invariant-loop-i

@@ -4,7 +4,6 @@ use mathlib.Core.List.{◌++◌}
 use lib.ListN.{drop}
 use Rattle.catalog.specs.Writing.{column_bytes}
 use Rattle.columns.specs.Columns.{shape_bytes}
-use borrow.Author.Rules.{rules}
 use Rattle.columns.proofs.put_column.Goals as goal
 
 pub returns : goal.returns

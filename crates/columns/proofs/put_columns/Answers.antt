@@ -1,9 +1,8 @@
 -- `columns::put_columns` meets its contract.
-use Prim.Native.Nat.{◌-◌}
 use mathlib.Core.List.{map}
 use native.Mathlib.Omega.{arith}
 use Rattle.model.specs.Catalog.{entry_name}
-use Rattle.columns.proofs.Listing.{Putting, put_start, put_more, put_end}
+use Rattle.columns.proofs.Listing.{put_start, put_more, put_end}
 use Rattle.columns.proofs.put_columns.Goals as goal
 
 pub loop-i-init : goal.loop-i-init

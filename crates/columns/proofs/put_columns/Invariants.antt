@@ -1,9 +1,8 @@
 -- The loop of `columns::put_columns`.
 use Prim.Native.Nat.{◌-◌}
 use mathlib.Core.List.{map}
-use native.Mathlib.Omega.{arith}
 use Rattle.model.specs.Catalog.{entry_name}
-use Rattle.columns.proofs.Listing.{Putting, put_start, put_more, put_end}
+use Rattle.columns.proofs.Listing.{Putting}
 use Rattle.columns.proofs.put_columns.Given as goal
 
 abbrev pub invariant-loop-i : goal.invariant-loop-i

@@ -15,7 +15,6 @@ use Rattle.members.specs.Fields.{words_from, words_of, slot_tree, Slots}
 use Rattle.columns.specs.Parts.{member_of}
 use Rattle.columns.specs.Columns.{shape_bytes, column_allowed, ColumnRead}
 use Rattle.columns.proofs.Cells.{column_words, member_value_lem, member_size, member_short, member_name, column_read}
-use borrow.Author.Rules.{rules}
 use Rattle.columns.proofs.read_column.Goals as goal
 
 pub fields-f-requires : goal.fields-f-requires

@@ -7,7 +7,6 @@ use borrow.Author.Tests.{le-leb}
 use Rattle.inner.specs.Positions.{tree_at}
 use Rattle.model.specs.Catalog.{entry_name}
 use Rattle.columns.proofs.Listing.{none_read, bad_read, all_read}
-use borrow.Author.Rules.{rules}
 use Rattle.columns.proofs.read_columns.Goals as goal
 
 pub put_columns-good-requires : goal.put_columns-good-requires

@@ -1,9 +1,6 @@
 -- `columns::small` meets its contract.
 use borrow.Author.Tests.{lt-ltb, le-ltb}
 use Rattle.columns.specs.Columns.{small}
-use borrow.Author.Rules.{rules}
-use Rattle.columns.proofs.small.Reads as reads
-use Rattle.columns.proofs.small.Lts as lts
 use Rattle.columns.proofs.small.Goals as goal
 
 pub returns-then-x-lt256 : goal.returns-then-x-lt256

@@ -3,7 +3,6 @@ use mathlib.Core.Path.{ap, ◌∙◌}
 use mathlib.Core.Bool.{Bool, ◌||◌}
 use lib.Dec.{eqb}
 use Rattle.model.specs.Nav.{is_truth}
-use borrow.Author.Rules.{rules}
 use Rattle.columns.proofs.truth_fits.Goals as goal
 
 pub returns : goal.returns

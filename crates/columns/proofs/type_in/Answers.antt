@@ -8,7 +8,6 @@ use Rattle.model.specs.Json.{Json}
 use Rattle.model.specs.Catalog.{entry_name}
 use Rattle.members.proofs.Slotted.{at_some}
 use Rattle.column_types.specs.Types.{TypeRead}
-use borrow.Author.Rules.{rules}
 use Rattle.columns.proofs.type_in.Goals as goal
 
 positive : (p : ℕ) → (p ≡ 0 → ⊥) → 0 < p

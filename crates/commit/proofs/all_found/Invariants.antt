@@ -1,14 +1,11 @@
 -- The loop of `commit::all_found`.
-use mathlib.Core.Path.{◌≡◌, refl, sym, ◌∙◌}
+use mathlib.Core.Path.{◌≡◌}
 use Prim.Native.Nat.{◌-◌, ◌≤◌}
-use native.Mathlib.Omega.{arith}
-use borrow.Author.Tests.{not-true, not-false}
 use lib.ListN.{drop}
 use Rattle.model.specs.Base.{all}
 use Rattle.model.specs.Catalog.{packed_tables}
 use Rattle.inner.specs.Working.{working}
 use Rattle.references.specs.Links.{referred}
-use Rattle.references.proofs.Walks.{all_row_here, all_row_on, all_row_end}
 use Rattle.commit.proofs.all_found.Given as goal
 
 abbrev pub invariant-loop-i : goal.invariant-loop-i

@@ -1,7 +1,5 @@
 -- `commit::commit` meets its contract.
 use mathlib.Core.Path.{sym, ◌∙◌}
-use borrow.Author.Rules.{rules}
-use borrow.Author.Tests.{not-true, not-false}
 use Rattle.model.specs.Catalog.{packed_tables}
 use Rattle.commit.proofs.Laws.{commit_missing, commit_few, commit_over, commit_fine}
 use Rattle.commit.proofs.commit.Goals as goal

@@ -1,7 +1,5 @@
 -- `commit::lawful` meets its contract.
 use mathlib.Core.Path.{sym, ◌∙◌}
-use borrow.Author.Rules.{rules}
-use borrow.Author.Tests.{not-true, not-false}
 use Rattle.model.specs.Catalog.{packed_tables}
 use Rattle.inner.specs.Working.{working}
 use Rattle.commit.proofs.Laws.{lawful_strong, lawful_loose, lawful_weak, lawful_few, lawful_rest}

@@ -3,7 +3,6 @@ use mathlib.Core.Path.{sym, ap, ◌∙◌}
 use Rattle.inner.specs.Positions.{tree_at}
 use Rattle.conditions.specs.Tests.{chosen, function_by}
 use Rattle.conditions.proofs.Naming.{function_words_lem}
-use borrow.Author.Rules.{rules}
 use Rattle.conditions.proofs.function_at.Goals as goal
 
 pub returns : goal.returns

@@ -5,7 +5,6 @@ use mathlib.Core.Bool.{Bool, ◌&&◌}
 use lib.Dec.{eqb}
 use lib.ListN.{get_or}
 use Rattle.conditions.proofs.Faulty.{allowed_order, allowed_other}
-use borrow.Author.Rules.{rules}
 use Rattle.conditions.proofs.is_allowed.Goals as goal
 
 pub returns-then-o : goal.returns-then-o

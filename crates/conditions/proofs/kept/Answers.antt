@@ -4,7 +4,6 @@ use Rattle.model.specs.Catalog.{base_numbered}
 use Rattle.marks.specs.Marks.{kept_as}
 use Rattle.conditions.specs.Tests.{KeptAs}
 use Rattle.conditions.proofs.Beyond.{kept_plain, kept_sorted}
-use borrow.Author.Rules.{rules}
 use Rattle.conditions.proofs.kept.Goals as goal
 
 pub returns-in-Less : goal.returns-in-Less

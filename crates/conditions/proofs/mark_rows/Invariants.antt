@@ -1,19 +1,14 @@
 -- The loop of `conditions::mark_rows`.
-use mathlib.Core.Path.{◌≡◌, refl, sym, ap, subst, ◌∙◌}
+use mathlib.Core.Path.{◌≡◌}
 use mathlib.Core.Bool.{true}
-use mathlib.Core.List.{List, [], ◌∷◌, map}
+use mathlib.Core.List.{map}
 use Prim.Native.Nat.{ℕ}
 use Rattle.inner.specs.Positions.{left, items_fine}
 use Rattle.model.specs.Faults.{is_fine, earlier}
 use Rattle.model.specs.Catalog.{column_from}
-use Rattle.model.specs.Conditions.{Test}
-use Rattle.model.proofs.FaultLaws.{earlier_first, earlier_fine}
-use Rattle.nav.proofs.Walk.{walk_fine, walk_less}
 use Rattle.marks.specs.Marks.{OfTable}
-use Rattle.conditions.specs.Tests.{test_at, tests_at}
-use Rattle.conditions.proofs.Faulty.{worst_on, worst_end, got_on, tests_end}
-use Rattle.conditions.proofs.Narrowing.{Going, going_none, going_on, going_end}
-use borrow.Author.Rules.{rules}
+use Rattle.conditions.specs.Tests.{tests_at}
+use Rattle.conditions.proofs.Narrowing.{Going}
 use Rattle.conditions.proofs.mark_rows.Given as goal
 
 abbrev pub invariant-loop-g : goal.invariant-loop-g

@@ -12,7 +12,6 @@ use Rattle.request_values.specs.Values.{atoms_as}
 use Rattle.marks.specs.Marks.{every, atoms_at}
 use Rattle.marks.proofs.Meeting.{narrowed_as}
 use Rattle.conditions.proofs.Beyond.{unequal}
-use borrow.Author.Rules.{rules}
 use Rattle.conditions.proofs.narrow_beyond.Goals as goal
 
 pub returns-in-Less : goal.returns-in-Less

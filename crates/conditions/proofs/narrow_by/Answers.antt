@@ -1,5 +1,5 @@
 -- `conditions::narrow_by` meets its contract.
-use mathlib.Core.Path.{refl, sym, ap, subst, ◌∙◌}
+use mathlib.Core.Path.{sym, ap, ◌∙◌}
 use mathlib.Core.List.{map}
 use native.Mathlib.Omega.{arith}
 use Rattle.inner.specs.Positions.{tree_at}
@@ -9,7 +9,6 @@ use Rattle.marks.specs.Marks.{InRow}
 use Rattle.conditions.specs.Tests.{chosen, test_as}
 use Rattle.conditions.proofs.Faulty.{test_triple, test_other, value_well, function_none, column_place_lem, subject_none}
 use Rattle.conditions.proofs.Narrowing.{narrowed_none, narrowed_column, narrowed_id}
-use borrow.Author.Rules.{rules}
 use Rattle.conditions.proofs.narrow_by.Goals as goal
 
 pub returns-in_default : goal.returns-in_default

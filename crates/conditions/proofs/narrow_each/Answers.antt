@@ -1,21 +1,16 @@
 -- `conditions::narrow_each` meets its contract.
-use mathlib.Core.Path.{◌≡◌, sym, ap, ◌∙◌}
-use mathlib.Core.Bool.{Bool, true}
-use mathlib.Core.List.{List, [], ◌∷◌}
+use mathlib.Core.Path.{sym, ap, ◌∙◌}
+use mathlib.Core.List.{List, []}
 use Prim.Native.Nat.{ℕ}
 use lib.ListN.{get_or}
-use Rattle.model.specs.Json.{Json}
-use Rattle.inner.specs.Positions.{left, tree_at}
 use Rattle.model.specs.Catalog.{base_numbered}
-use Rattle.elements.specs.Elements.{elements_from, elements_fine}
 use Rattle.elements.proofs.Walk.{walk_rest, walk_end, walk_less, walk_fine}
 use Rattle.uuids.specs.Named.{names_at}
-use Rattle.element_atoms.specs.Atoms.{atom_as, atoms_of}
+use Rattle.element_atoms.specs.Atoms.{atoms_of}
 use Rattle.request_values.specs.Values.{atoms_as}
 use Rattle.marks.specs.Marks.{every, atoms_at}
-use Rattle.marks.proofs.Meeting.{Left, left_none, left_on, left_end, narrowed_as}
+use Rattle.marks.proofs.Meeting.{left_none, left_on, left_end, narrowed_as}
 use Rattle.conditions.proofs.Beyond.{every_cons, every_none}
-use borrow.Author.Rules.{rules}
 use Rattle.conditions.proofs.narrow_each.Goals as goal
 
 pub elements_at-e-requires : goal.elements_at-e-requires

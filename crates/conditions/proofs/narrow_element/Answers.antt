@@ -10,7 +10,6 @@ use Rattle.element_atoms.proofs.Reading.{wrong_cell, fits_cell}
 use Rattle.marks.specs.Marks.{every, met, atoms_at}
 use Rattle.marks.proofs.Meeting.{narrowed_as}
 use Rattle.conditions.proofs.Beyond.{long_stored, stored_met}
-use borrow.Author.Rules.{rules}
 use Rattle.conditions.proofs.narrow_element.Goals as goal
 
 pub returns-in-Wrong : goal.returns-in-Wrong

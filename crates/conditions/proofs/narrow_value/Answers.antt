@@ -1,11 +1,9 @@
 -- `conditions::narrow_value` meets its contract.
-use mathlib.Core.Path.{sym, ap, ◌∙◌}
-use borrow.Author.Tests.{not-true, not-false}
+use mathlib.Core.Path.{sym, ◌∙◌}
 use Rattle.inner.specs.Positions.{tree_at}
 use Rattle.model.specs.Catalog.{base_numbered, column_from}
 use Rattle.uuids.specs.Named.{names_at}
 use Rattle.conditions.proofs.Narrowing.{narrowed_not, narrowed_fault, few, kept_count, kept_within, narrowed_fit, beyond, narrowed_beyond}
-use borrow.Author.Rules.{rules}
 use Rattle.conditions.proofs.narrow_value.Goals as goal
 
 pub returns-then-not-ok : goal.returns-then-not-ok

@@ -1,7 +1,6 @@
 -- `conditions::orders` meets its contract.
 use mathlib.Core.Path.{sym, ap}
 use Rattle.model.specs.Conditions.{orders}
-use borrow.Author.Rules.{rules}
 use Rattle.conditions.proofs.orders.Goals as goal
 
 pub returns-in-Less : goal.returns-in-Less

@@ -2,7 +2,6 @@
 use mathlib.Core.Path.{sym, ◌∙◌}
 use Rattle.inner.specs.Positions.{tree_at}
 use Rattle.conditions.proofs.Naming.{about_id, about_column, about_none}
-use borrow.Author.Rules.{rules}
 use Rattle.conditions.proofs.subject_at.Goals as goal
 
 pub returns-then-own : goal.returns-then-own

@@ -1,12 +1,11 @@
 -- `element_atoms::atom_at` meets its contract.
 use mathlib.Core.Path.{refl, sym, subst}
 use Rattle.inner.specs.Positions.{tree_at}
-use Rattle.model.specs.Schema.{integer, boolean, text, uuid}
+use Rattle.model.specs.Schema.{integer, boolean, uuid}
 use Rattle.uuids.specs.Named.{names_at}
 use Rattle.atom.proofs.Types.{base_integer, base_boolean, base_text, base_uuid}
 use Rattle.element_atoms.specs.Atoms.{integer_in, boolean_in, Reads}
 use Rattle.element_atoms.proofs.Reading.{reads_fits_if, reads_text}
-use borrow.Author.Rules.{rules}
 use Rattle.element_atoms.proofs.atom_at.Goals as goal
 
 pub returns-then-kind-eq0 : goal.returns-then-kind-eq0

@@ -6,7 +6,6 @@ use Rattle.model.specs.Nav.{is_truth}
 use Rattle.model.specs.Value.{bool_atom}
 use Rattle.uuids.proofs.Atoms.{atom_there, atom_none}
 use Rattle.element_atoms.proofs.Reading.{boolean_some, boolean_none}
-use borrow.Author.Rules.{rules}
 use Rattle.element_atoms.proofs.boolean_at.Goals as goal
 
 pub returns-then-t : goal.returns-then-t

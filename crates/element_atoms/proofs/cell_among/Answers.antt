@@ -1,17 +1,13 @@
 -- `element_atoms::cell_among` meets its contract.
-use mathlib.Core.Path.{◌≡◌, refl, sym, ap, ◌∙◌}
-use mathlib.Core.Bool.{Bool, true}
+use mathlib.Core.Path.{refl, sym, ◌∙◌}
+use mathlib.Core.Bool.{Bool}
 use Rattle.model.specs.Json.{Json}
-use Rattle.inner.specs.Positions.{left}
 use Rattle.model.specs.Octets.{eq_bytes}
-use Rattle.model.specs.Base.{any}
 use Rattle.model.specs.Catalog.{base_numbered}
-use Rattle.elements.specs.Elements.{elements_from, elements_fine}
 use Rattle.elements.proofs.Walk.{walk_less, walk_fine}
 use Rattle.uuids.specs.Named.{names_at}
 use Rattle.element_atoms.specs.Atoms.{atom_as}
 use Rattle.element_atoms.proofs.Among.{any_end, any_here, any_on, member_any}
-use borrow.Author.Rules.{rules}
 use Rattle.element_atoms.proofs.cell_among.Goals as goal
 
 pub loop-g-init : goal.loop-g-init

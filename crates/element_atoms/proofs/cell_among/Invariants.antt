@@ -1,17 +1,13 @@
 -- The loop of `element_atoms::cell_among`.
-use mathlib.Core.Path.{◌≡◌, refl, sym, ap, ◌∙◌}
-use mathlib.Core.Bool.{Bool, true}
-use Rattle.model.specs.Json.{Json}
+use mathlib.Core.Path.{◌≡◌}
+use mathlib.Core.Bool.{true}
 use Rattle.inner.specs.Positions.{left}
 use Rattle.model.specs.Octets.{eq_bytes}
 use Rattle.model.specs.Base.{any}
 use Rattle.model.specs.Catalog.{base_numbered}
 use Rattle.elements.specs.Elements.{elements_from, elements_fine}
-use Rattle.elements.proofs.Walk.{walk_less, walk_fine}
 use Rattle.uuids.specs.Named.{names_at}
 use Rattle.element_atoms.specs.Atoms.{atom_as}
-use Rattle.element_atoms.proofs.Among.{any_end, any_here, any_on, member_any}
-use borrow.Author.Rules.{rules}
 use Rattle.element_atoms.proofs.cell_among.Given as goal
 
 abbrev pub invariant-loop-g : goal.invariant-loop-g

@@ -4,7 +4,6 @@ use mathlib.Core.Option.{some}
 use Rattle.inner.specs.Positions.{tree_at}
 use Rattle.uuids.proofs.Atoms.{atom_there, atom_none}
 use Rattle.element_atoms.proofs.Reading.{integer_some, integer_none}
-use borrow.Author.Rules.{rules}
 use Rattle.element_atoms.proofs.integer_at.Goals as goal
 
 pub returns-then-ok : goal.returns-then-ok

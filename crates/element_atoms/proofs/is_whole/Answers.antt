@@ -1,6 +1,5 @@
 -- `element_atoms::is_whole` meets its contract.
 use Rattle.model.specs.Whole.{is_whole}
-use borrow.Author.Rules.{rules}
 use Rattle.element_atoms.proofs.is_whole.Goals as goal
 
 pub returns-in-Plus : goal.returns-in-Plus

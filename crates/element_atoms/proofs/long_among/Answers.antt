@@ -1,12 +1,11 @@
 -- `element_atoms::long_among` meets its contract.
-use mathlib.Core.Path.{◌≡◌, refl, sym, ap, ◌∙◌}
-use Rattle.inner.specs.Positions.{left, tree_at, word_in}
+use mathlib.Core.Path.{refl, sym, ap, ◌∙◌}
+use Rattle.inner.specs.Positions.{tree_at, word_in}
 use Rattle.model.specs.Base.{any}
 use Rattle.model.specs.Text.{is_word}
 use Rattle.elements.specs.Elements.{elements_from}
 use Rattle.elements.proofs.Walk.{walk_less}
 use Rattle.element_atoms.proofs.Among.{any_end, any_here, any_on}
-use borrow.Author.Rules.{rules}
 use Rattle.element_atoms.proofs.long_among.Goals as goal
 
 pub loop-g-init : goal.loop-g-init

@@ -1,12 +1,9 @@
 -- The loop of `element_atoms::long_among`.
-use mathlib.Core.Path.{◌≡◌, refl, sym, ap, ◌∙◌}
+use mathlib.Core.Path.{◌≡◌}
 use Rattle.inner.specs.Positions.{left, tree_at, word_in}
 use Rattle.model.specs.Base.{any}
 use Rattle.model.specs.Text.{is_word}
 use Rattle.elements.specs.Elements.{elements_from}
-use Rattle.elements.proofs.Walk.{walk_less}
-use Rattle.element_atoms.proofs.Among.{any_end, any_here, any_on}
-use borrow.Author.Rules.{rules}
 use Rattle.element_atoms.proofs.long_among.Given as goal
 
 abbrev pub invariant-loop-g : goal.invariant-loop-g

@@ -1,11 +1,10 @@
 -- `element_atoms::put_boolean` meets its contract.
-use mathlib.Core.Path.{◌≡◌, sym, ap, ◌∙◌}
+use mathlib.Core.Path.{sym, ap, ◌∙◌}
 use mathlib.Core.List.{List}
 use Prim.Native.Nat.{ℕ}
 use native.Mathlib.Omega.{arith}
 use lib.ListN.{length, set, replicate, length-replicate}
 use Rattle.model.specs.Value.{bool_atom}
-use borrow.Author.Rules.{rules}
 use Rattle.element_atoms.proofs.put_boolean.Goals as goal
 
 pub bounds-out-0 : goal.bounds-out-0

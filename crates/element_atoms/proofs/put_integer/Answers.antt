@@ -4,7 +4,6 @@ use mathlib.Core.List.{List, ◌++◌}
 use Prim.Native.Nat.{ℕ}
 use lib.ListN.{drop, replicate}
 use Rattle.model.specs.Octets.{big}
-use borrow.Author.Rules.{rules}
 use Rattle.element_atoms.proofs.put_integer.Goals as goal
 
 pub returns : goal.returns

@@ -6,7 +6,6 @@ use native.Mathlib.Omega.{arith}
 use lib.ListN.{length, drop, replicate}
 use Rattle.octets.proofs.Rests.{write_next}
 use Rattle.element_atoms.proofs.Reading.{zeros_from}
-use borrow.Author.Rules.{rules}
 use Rattle.element_atoms.proofs.put_text.Goals as goal
 
 pub returns : goal.returns

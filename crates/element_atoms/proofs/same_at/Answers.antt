@@ -11,7 +11,6 @@ use Rattle.model.proofs.Tests.{clash}
 use Rattle.uuids.specs.Named.{names_at}
 use Rattle.element_atoms.specs.Atoms.{Reads}
 use Rattle.element_atoms.proofs.Reading.{wrong_cell, fits_cell, wrong_short, fits_short, long_other}
-use borrow.Author.Rules.{rules}
 use Rattle.element_atoms.proofs.same_at.Goals as goal
 
 pub atom_at-a-requires : goal.atom_at-a-requires

@@ -8,7 +8,6 @@ use Rattle.uuids.specs.Named.{names_at}
 use Rattle.element_atoms.specs.Atoms.{Reads, atoms_of}
 use Rattle.element_atoms.proofs.Reading.{wrong_cell, fits_cell}
 use Rattle.element_sets.proofs.Tallying.{again_long}
-use borrow.Author.Rules.{rules}
 use Rattle.element_sets.proofs.again.Goals as goal
 
 pub atom_at-a-requires : goal.atom_at-a-requires

@@ -4,7 +4,6 @@ use mathlib.Core.Bool.{not}
 use lib.Dec.{ltb}
 use Rattle.leaf.specs.Bytes.{halves}
 use Rattle.element_sets.proofs.Limiting.{at_most_is}
-use borrow.Author.Rules.{rules}
 use Rattle.element_sets.proofs.at_most.Goals as goal
 
 pub returns : goal.returns

@@ -1,13 +1,12 @@
 -- `element_sets::count_in_limits` meets its contract.
 use mathlib.Core.Path.{ap, ◌∙◌}
-use mathlib.Core.Bool.{◌&&◌, ◌||◌}
+use mathlib.Core.Bool.{◌&&◌}
 use lib.Dec.{ltb, leb}
 use lib.IntN.{pos}
 use lib.Signed.{le_z}
 use Rattle.model.specs.Value.{from_twos}
 use Rattle.model.specs.Catalog.{column_from}
 use Rattle.element_sets.proofs.Limiting.{above_is, below_is}
-use borrow.Author.Rules.{rules}
 use Rattle.element_sets.proofs.count_in_limits.Goals as goal
 
 pub returns : goal.returns

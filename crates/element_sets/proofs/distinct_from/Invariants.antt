@@ -1,15 +1,12 @@
 -- The loop of `element_sets::distinct_from`.
-use mathlib.Core.Path.{◌≡◌, refl, sym, ap, ◌∙◌}
-use mathlib.Core.Bool.{true, not, ◌&&◌}
-use Rattle.model.specs.Base.{member, distinct}
-use Rattle.inner.specs.Positions.{left, tree_at}
+use mathlib.Core.Path.{◌≡◌}
+use mathlib.Core.Bool.{true}
+use Rattle.model.specs.Base.{distinct}
+use Rattle.inner.specs.Positions.{left}
 use Rattle.model.specs.Catalog.{base_numbered}
 use Rattle.elements.specs.Elements.{elements_from, elements_fine}
-use Rattle.elements.proofs.Walk.{walk_fine, walk_less}
 use Rattle.uuids.specs.Named.{names_at}
-use Rattle.element_atoms.specs.Atoms.{atom_as, atoms_of}
-use Rattle.element_sets.proofs.Tallying.{distinct_by, distinct_end}
-use borrow.Author.Rules.{rules}
+use Rattle.element_atoms.specs.Atoms.{atoms_of}
 use Rattle.element_sets.proofs.distinct_from.Given as goal
 
 abbrev pub invariant-loop-g : goal.invariant-loop-g

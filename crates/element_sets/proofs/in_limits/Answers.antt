@@ -4,7 +4,6 @@ use mathlib.Core.Bool.{◌&&◌}
 use lib.Signed.{le_z}
 use Rattle.model.specs.Value.{from_twos}
 use Rattle.model.specs.Catalog.{column_from}
-use borrow.Author.Rules.{rules}
 use Rattle.element_sets.proofs.in_limits.Goals as goal
 
 pub returns : goal.returns

@@ -1,7 +1,6 @@
 -- `element_sets::put_atom` meets its contract.
 use mathlib.Core.Path.{sym}
 use Rattle.element_sets.proofs.Gathering.{put_room, put_past}
-use borrow.Author.Rules.{rules}
 use Rattle.element_sets.proofs.put_atom.Goals as goal
 
 pub returns-then-i-lt-ELEMENTS : goal.returns-then-i-lt-ELEMENTS

@@ -6,7 +6,6 @@ use Rattle.model.specs.Catalog.{base_numbered, column_from}
 use Rattle.uuids.specs.Named.{names_at}
 use Rattle.element_atoms.specs.Atoms.{Reads}
 use Rattle.element_sets.proofs.Tallying.{sees_wrong, sees_fits, sees_long}
-use borrow.Author.Rules.{rules}
 use Rattle.element_sets.proofs.see.Goals as goal
 
 pub returns-in-Wrong : goal.returns-in-Wrong

@@ -1,16 +1,12 @@
 -- `element_sets::tally_from` meets its contract.
-use Prim.Native.Nat.{◌+◌, ◌≤◌}
-use mathlib.Core.Path.{◌≡◌, refl}
-use mathlib.Core.Bool.{true}
+use mathlib.Core.Path.{refl}
 use native.Mathlib.Omega.{arith}
-use Rattle.inner.specs.Positions.{left}
 use Rattle.model.specs.Catalog.{column_from}
-use Rattle.elements.specs.Elements.{elements_from, elements_fine}
+use Rattle.elements.specs.Elements.{elements_from}
 use Rattle.elements.proofs.Walk.{walk_rest, walk_end, walk_fine, walk_less, left_le}
 use Rattle.uuids.specs.Named.{names_at}
-use Rattle.element_sets.proofs.Tallying.{Counted, counted_start, counted_on, counted_end}
-use Rattle.element_sets.proofs.Gathering.{Kept, gathered_start, kept_on, kept_end}
-use borrow.Author.Rules.{rules}
+use Rattle.element_sets.proofs.Tallying.{counted_start, counted_on, counted_end}
+use Rattle.element_sets.proofs.Gathering.{gathered_start, kept_on, kept_end}
 use Rattle.element_sets.proofs.tally_from.Goals as goal
 
 pub loop-g-init : goal.loop-g-init

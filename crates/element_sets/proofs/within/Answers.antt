@@ -7,7 +7,6 @@ use Rattle.model.specs.Value.{from_twos, in_limits, atom_in_limits}
 use Rattle.model.specs.Catalog.{column_from}
 use Rattle.atom.proofs.Types.{base_integer, base_text}
 use Rattle.element_sets.proofs.Limiting.{unlimited}
-use borrow.Author.Rules.{rules}
 use Rattle.element_sets.proofs.within.Goals as goal
 
 pub returns-then-kind-eq0 : goal.returns-then-kind-eq0

@@ -1,8 +1,7 @@
 -- `elements::elements_at` meets its contract.
-use mathlib.Core.Path.{sym, ap, ◌∙◌}
+use mathlib.Core.Path.{ap, ◌∙◌}
 use Rattle.model.specs.Nav.{is_array}
 use Rattle.elements.proofs.Walk.{begins_set, begins_one, begins_other}
-use borrow.Author.Rules.{rules}
 use Rattle.elements.proofs.elements_at.Goals as goal
 
 pub returns-then-w-l : goal.returns-then-w-l

@@ -1,6 +1,5 @@
 -- `elements::next_element` meets its contract.
 use Rattle.elements.specs.Elements.{next_element}
-use borrow.Author.Rules.{rules}
 use Rattle.elements.proofs.next_element.Goals as goal
 
 pub returns-then-set : goal.returns-then-set

@@ -1,7 +1,6 @@
 -- `elements::pair_at` meets its contract.
 use mathlib.Core.Path.{sym, ◌∙◌}
 use Rattle.elements.proofs.Walk.{no_first, no_second, no_third, some_third}
-use borrow.Author.Rules.{rules}
 use Rattle.elements.proofs.pair_at.Goals as goal
 
 pub returns-in_default : goal.returns-in_default

@@ -1,13 +1,9 @@
 -- `fresh::among` meets its contract.
-use Prim.Native.Nat.{◌-◌, ◌≤◌}
-use mathlib.Core.Path.{◌≡◌, refl, sym, ap, ◌∙◌}
+use mathlib.Core.Path.{refl, sym, ap, ◌∙◌}
 use native.Mathlib.Omega.{arith}
 use lib.Dec.{eqb}
 use Rattle.model.specs.Octets.{value}
-use Rattle.model.specs.Base.{any}
-use Rattle.fresh.specs.Fresh.{fresh_from, fresh_at}
 use Rattle.fresh.proofs.Ids.{among_here, among_on, among_end}
-use borrow.Author.Rules.{rules}
 use Rattle.fresh.proofs.among.Goals as goal
 
 pub loop-i-init : goal.loop-i-init

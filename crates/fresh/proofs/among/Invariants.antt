@@ -1,13 +1,10 @@
 -- The loop of `fresh::among`.
 use Prim.Native.Nat.{◌-◌, ◌≤◌}
-use mathlib.Core.Path.{◌≡◌, refl, sym, ap, ◌∙◌}
-use native.Mathlib.Omega.{arith}
+use mathlib.Core.Path.{◌≡◌}
 use lib.Dec.{eqb}
 use Rattle.model.specs.Octets.{value}
 use Rattle.model.specs.Base.{any}
-use Rattle.fresh.specs.Fresh.{fresh_from, fresh_at}
-use Rattle.fresh.proofs.Ids.{among_here, among_on, among_end}
-use borrow.Author.Rules.{rules}
+use Rattle.fresh.specs.Fresh.{fresh_from}
 use Rattle.fresh.proofs.among.Given as goal
 
 abbrev pub invariant-loop-i : goal.invariant-loop-i

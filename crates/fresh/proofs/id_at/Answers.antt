@@ -1,10 +1,9 @@
 -- `fresh::id_at` meets its contract.
-use Prim.Native.Nat.{ℕ, ◌+◌, ◌-◌, ◌*◌}
+use Prim.Native.Nat.{◌+◌, ◌-◌, ◌*◌}
 use mathlib.Core.Path.{◌≡◌, ap}
 use native.Mathlib.Omega.{arith}
 use lib.ListN.{take, drop}
 use Rattle.fresh.proofs.Ids.{fresh_id}
-use borrow.Author.Rules.{rules}
 use Rattle.fresh.proofs.id_at.Goals as goal
 
 pub returns : goal.returns

@@ -1,8 +1,7 @@
 -- `fresh::id_good` meets its contract.
-use Prim.Native.Nat.{ℕ, ◌+◌}
-use mathlib.Core.Path.{◌≡◌, refl, sym, ap, ◌∙◌}
+use Prim.Native.Nat.{◌+◌}
+use mathlib.Core.Path.{◌≡◌, refl, ap, ◌∙◌}
 use mathlib.Core.Bool.{not, ◌&&◌}
-use native.Mathlib.Omega.{arith}
 use lib.Dec.{eqb}
 use lib.ListN.{replicate}
 use Rattle.model.specs.Octets.{value}
@@ -11,7 +10,6 @@ use Rattle.model.specs.Rows.{has_id}
 use Rattle.inner.specs.Working.{working}
 use Rattle.fresh.specs.Fresh.{fresh_from, fresh_at}
 use Rattle.fresh.proofs.Ids.{blank_value, copied, good_is}
-use borrow.Author.Rules.{rules}
 use Rattle.fresh.proofs.id_good.Goals as goal
 
 pub returns : goal.returns

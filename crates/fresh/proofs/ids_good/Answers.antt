@@ -1,11 +1,8 @@
 -- `fresh::ids_good` meets its contract.
-use Prim.Native.Nat.{◌-◌, ◌≤◌}
-use mathlib.Core.Path.{◌≡◌, refl, sym, ap, ◌∙◌}
+use mathlib.Core.Path.{sym, ◌∙◌}
 use native.Mathlib.Omega.{arith}
-use Rattle.model.specs.Schema.{Schema}
 use Rattle.inner.specs.Working.{working}
-use Rattle.fresh.specs.Fresh.{fresh_good}
-use Rattle.fresh.proofs.Ids.{good_from, good_first, good_on, good_not, good_end}
+use Rattle.fresh.proofs.Ids.{good_first, good_on, good_not, good_end}
 use Rattle.fresh.proofs.ids_good.Goals as goal
 
 pub loop-k-init : goal.loop-k-init

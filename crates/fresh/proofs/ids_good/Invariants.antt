@@ -1,11 +1,10 @@
 -- The loop of `fresh::ids_good`.
 use Prim.Native.Nat.{◌-◌, ◌≤◌}
-use mathlib.Core.Path.{◌≡◌, refl, sym, ap, ◌∙◌}
-use native.Mathlib.Omega.{arith}
+use mathlib.Core.Path.{◌≡◌}
 use Rattle.model.specs.Schema.{Schema}
 use Rattle.inner.specs.Working.{working}
 use Rattle.fresh.specs.Fresh.{fresh_good}
-use Rattle.fresh.proofs.Ids.{good_from, good_first, good_on, good_not, good_end}
+use Rattle.fresh.proofs.Ids.{good_from}
 use Rattle.fresh.proofs.ids_good.Given as goal
 
 abbrev pub invariant-loop-k : goal.invariant-loop-k

@@ -3,7 +3,6 @@ use mathlib.Core.Path.{sym, ◌∙◌}
 use native.Mathlib.Omega.{arith}
 use Rattle.model.proofs.Octets.{octets}
 use Rattle.inner.proofs.Working.{eqb_value}
-use borrow.Author.Rules.{rules}
 use Rattle.fresh.proofs.same.Goals as goal
 
 pub returns : goal.returns

@@ -1,5 +1,5 @@
 -- `garbage::collect` meets its contract.
-use mathlib.Core.Path.{◌∙◌, subst}
+use mathlib.Core.Path.{subst}
 use native.Mathlib.Omega.{arith}
 use Rattle.model.specs.Catalog.{packed_tables}
 use Rattle.inner.specs.Working.{working}
@@ -8,7 +8,6 @@ use Rattle.model.specs.declared.Found.TheVariants.{At}
 use Rattle.model.specs.Schema.{Schema}
 use Rattle.garbage.specs.Loose.{LooseAt}
 use Rattle.garbage.proofs.Loosely.{collected_stop, collected_on, loose_within}
-use Prim.Native.Nat.{ℕ, ◌<◌}
 use Rattle.garbage.proofs.+collect.Goals as goal
 
 pub returns-in_default : goal.returns-in_default

@@ -1,9 +1,6 @@
 -- `garbage::first_loose` meets its contract.
-use mathlib.Core.Path.{◌≡◌, refl, sym, ◌∙◌}
-use Prim.Native.Nat.{◌-◌, ◌≤◌}
+use mathlib.Core.Path.{refl, sym, ◌∙◌}
 use native.Mathlib.Omega.{arith}
-use lib.ListN.{drop}
-use Rattle.model.specs.Commit.{first_loose}
 use Rattle.model.specs.Catalog.{packed_tables}
 use Rattle.inner.specs.Working.{working}
 use Rattle.garbage.proofs.Loosely.{loose_on, loose_here_lem, loose_end, loose_found, loose_nothing}

@@ -1,12 +1,10 @@
 -- The loop of `garbage::first_loose`.
-use mathlib.Core.Path.{◌≡◌, refl, sym, ◌∙◌}
+use mathlib.Core.Path.{◌≡◌}
 use Prim.Native.Nat.{◌-◌, ◌≤◌}
-use native.Mathlib.Omega.{arith}
 use lib.ListN.{drop}
 use Rattle.model.specs.Commit.{first_loose}
 use Rattle.model.specs.Catalog.{packed_tables}
 use Rattle.inner.specs.Working.{working}
-use Rattle.garbage.proofs.Loosely.{loose_on, loose_here_lem, loose_end, loose_found, loose_nothing}
 use Rattle.garbage.proofs.first_loose.Given as goal
 
 abbrev pub invariant-loop-i : goal.invariant-loop-i

@@ -3,7 +3,6 @@ use mathlib.Core.Path.{sym, ◌∙◌}
 use Rattle.model.specs.Catalog.{packed_tables}
 use Rattle.inner.proofs.Working.{row_key}
 use Rattle.garbage.specs.Loose.{holds}
-use borrow.Author.Rules.{rules}
 use Rattle.garbage.proofs.holds_row.Goals as goal
 
 pub returns-then-same_row : goal.returns-then-same_row

@@ -1,11 +1,8 @@
 -- `garbage::is_held` meets its contract.
-use mathlib.Core.Path.{◌≡◌, refl, sym, ◌∙◌}
-use Prim.Native.Nat.{◌-◌, ◌≤◌}
+use mathlib.Core.Path.{refl, sym, ◌∙◌}
 use native.Mathlib.Omega.{arith}
-use lib.ListN.{drop}
-use Rattle.model.specs.Base.{any}
 use Rattle.model.specs.Catalog.{packed_tables}
-use Rattle.inner.specs.Working.{working, key_in}
+use Rattle.inner.specs.Working.{key_in}
 use Rattle.references.proofs.Walks.{any_row_here, any_row_on, any_row_end}
 use Rattle.garbage.specs.Loose.{holds}
 use Rattle.garbage.proofs.is_held.Goals as goal

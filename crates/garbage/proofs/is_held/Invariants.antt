@@ -1,12 +1,10 @@
 -- The loop of `garbage::is_held`.
-use mathlib.Core.Path.{◌≡◌, refl, sym, ◌∙◌}
+use mathlib.Core.Path.{◌≡◌}
 use Prim.Native.Nat.{◌-◌, ◌≤◌}
-use native.Mathlib.Omega.{arith}
 use lib.ListN.{drop}
 use Rattle.model.specs.Base.{any}
 use Rattle.model.specs.Catalog.{packed_tables}
 use Rattle.inner.specs.Working.{working, key_in}
-use Rattle.references.proofs.Walks.{any_row_here, any_row_on, any_row_end}
 use Rattle.garbage.specs.Loose.{holds}
 use Rattle.garbage.proofs.is_held.Given as goal
 

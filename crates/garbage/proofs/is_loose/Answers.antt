@@ -8,7 +8,6 @@ use Rattle.model.specs.Catalog.{packed_tables}
 use Rattle.inner.specs.Working.{working}
 use Rattle.inner.proofs.Working.{row_key, row_table}
 use Rattle.garbage.specs.Loose.{holds}
-use borrow.Author.Rules.{rules}
 use Rattle.garbage.proofs.is_loose.Goals as goal
 
 pub returns-then-is_root : goal.returns-then-is_root

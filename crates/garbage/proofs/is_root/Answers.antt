@@ -6,7 +6,6 @@ use native.Mathlib.Omega.{arith}
 use Rattle.model.specs.Catalog.{table_count}
 use Rattle.catalog.proofs.Laws.{few_tables}
 use Rattle.garbage.proofs.Roots.{root_said, is_root_past, is_root_says, is_root_none}
-use borrow.Author.Rules.{rules}
 use Rattle.garbage.proofs.is_root.Goals as goal
 
 pub returns-then-table_count-table : goal.returns-then-table_count-table

@@ -8,7 +8,6 @@ use Rattle.model.specs.Value.{elements}
 use Rattle.model.specs.Commit.{present}
 use Rattle.inner.specs.Working.{working, value_in}
 use Rattle.references.proofs.Links.{elements_few}
-use borrow.Author.Rules.{rules}
 use Rattle.garbage.proofs.keep_column.Goals as goal
 
 pub returns : goal.returns

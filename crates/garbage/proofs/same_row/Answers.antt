@@ -7,7 +7,6 @@ use Rattle.model.specs.Octets.{value}
 use Rattle.model.specs.Rows.{key_of}
 use Rattle.inner.specs.Working.{table_in, id_in, key_in}
 use Rattle.inner.proofs.Working.{key_head}
-use borrow.Author.Rules.{rules}
 use Rattle.garbage.proofs.same_row.Goals as goal
 
 pub returns : goal.returns

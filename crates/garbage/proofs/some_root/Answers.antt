@@ -3,12 +3,10 @@ use mathlib.Core.Path.{◌≡◌, sym, ◌∙◌}
 use mathlib.Core.List.{List}
 use Prim.Native.Nat.{ℕ, ◌-◌, ◌≤◌}
 use native.Mathlib.Omega.{arith}
-use borrow.Author.Rules.{rules}
 use Rattle.model.specs.Limits.{most_tables}
-use Rattle.model.specs.Base.{any}
-use Rattle.model.specs.Catalog.{tables_from, packed_tables, table_count}
+use Rattle.model.specs.Catalog.{table_count}
 use Rattle.catalog.proofs.Laws.{few_tables}
-use Rattle.garbage.proofs.Roots.{says_root, root_here, root_on, root_end}
+use Rattle.garbage.proofs.Roots.{root_here, root_on, root_end}
 use Rattle.garbage.proofs.some_root.Goals as goal
 
 pub loop-t-init : goal.loop-t-init

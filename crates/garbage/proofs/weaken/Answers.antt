@@ -1,9 +1,9 @@
 -- `garbage::weaken` meets its contract.
 use mathlib.Core.Path.{sym, subst}
 use mathlib.Core.List.{[]}
-use Prim.Native.Nat.{◌+◌, ◌-◌, ◌≤◌}
+use Prim.Native.Nat.{◌+◌}
 use native.Mathlib.Omega.{arith}
-use lib.ListN.{length, get_or}
+use lib.ListN.{get_or}
 use Rattle.model.specs.Catalog.{packed_tables}
 use Rattle.garbage.proofs.Partly.{Going, going_none, going_on, going_ordered, going_end}
 use Rattle.garbage.proofs.weaken.Goals as goal

@@ -1,11 +1,8 @@
 -- The loop of `garbage::weaken`.
-use mathlib.Core.Path.{sym, subst}
-use mathlib.Core.List.{[]}
-use Prim.Native.Nat.{◌+◌, ◌-◌, ◌≤◌}
-use native.Mathlib.Omega.{arith}
-use lib.ListN.{length, get_or}
+use Prim.Native.Nat.{◌-◌, ◌≤◌}
+use lib.ListN.{length}
 use Rattle.model.specs.Catalog.{packed_tables}
-use Rattle.garbage.proofs.Partly.{Going, going_none, going_on, going_ordered, going_end}
+use Rattle.garbage.proofs.Partly.{Going}
 use Rattle.garbage.proofs.weaken.Given as goal
 
 abbrev pub invariant-loop-i : goal.invariant-loop-i

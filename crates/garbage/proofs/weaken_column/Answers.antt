@@ -14,7 +14,6 @@ use Rattle.inner.specs.Working.{working, value_in}
 use Rattle.references.specs.Links.{target_table}
 use Rattle.garbage.specs.Weak.{kept_value, ColumnWeak}
 use Rattle.garbage.proofs.Weakly.{kept_value_lem, kept_few, column_stays}
-use borrow.Author.Rules.{rules}
 use Rattle.garbage.proofs.weaken_column.Goals as goal
 
 pub overflow_cast-k : goal.overflow_cast-k
@@ -31,20 +30,26 @@ returns-in-Table c =
     let next = c.set_column.new.row in
     let v = value_in a.c row in
     let e : get_or (set rows a.i next) a.i [] ≡ next = get_or-set_same rows a.i next [] (omega (arith, c.requires.1, c.requires.2.there)) in
-    record { rows_after = ap (set rows a.i) (sym e); column_weak = subst (ColumnWeak (target_table a.to) a.c a.n rows row) (sym e)
+    record {
+      rows_after = ap (set rows a.i) (sym e);
+      column_weak = subst (ColumnWeak (target_table a.to) a.c a.n rows row) (sym e)
           (record {
             row = λ sc h. c.set_column.ensures.row sc
                 ∙ ap (λ (w : Value). set_column a.c w (row_from sc row)) (kept_value_lem (present (working sc a.n rows) c.in-Table.t) v c.keep_column-k.new.out c.keep_column-k.result (c.keep_column-k.ensures.value sc) (c.keep_column-k.ensures.out_after sc))
                 ∙ ap (λ (o : Option ℕ). set_column a.c (kept_value (working sc a.n rows) o v) (row_from sc row)) (sym (ap target_table c.in-Table.is));
             tidy = λ sc h w t. c.set_column.ensures.tidy sc h w t;
-          }) }
+          });
+    }
 
 pub returns-in-Nothing : goal.returns-in-Nothing
 unfolding target_table kept_value
 returns-in-Nothing c =
     let a = c.args in
     let row = get_or a.rows.now a.i [] in
-    record { rows_after = sym (set-get_or a.rows.now a.i []); column_weak = record {
+    record {
+      rows_after = sym (set-get_or a.rows.now a.i []);
+      column_weak = record {
         row = λ s h. column_stays s row a.c h ∙ ap (λ (o : Option ℕ). set_column a.c (kept_value (working s a.n a.rows.now) o (value_in a.c row)) (row_from s row)) (sym (ap target_table c.in-Nothing.is));
         tidy = λ s h w t. t;
-      } }
+      };
+    }

@@ -1,17 +1,15 @@
 -- `garbage::weaken_row` meets its contract.
 use mathlib.Core.Path.{ap}
 use mathlib.Core.List.{[]}
-use Prim.Native.Nat.{ℕ, ◌-◌, ◌≤◌, ◌<◌}
+use Prim.Native.Nat.{ℕ, ◌<◌}
 use native.Mathlib.Omega.{arith}
-use borrow.Author.Rules.{rules}
 use lib.ListN.{length, get_or}
 use Rattle.model.specs.Schema.{columns_of}
 use Rattle.model.specs.Catalog.{packed_tables}
 use Rattle.inner.specs.Working.{table_in}
 use Rattle.references.specs.Links.{target_table}
-use Rattle.catalog.specs.Accepted.{Accepted}
 use Rattle.references.proofs.Packs.{few_columns_lem}
-use Rattle.garbage.proofs.Weakly.{weakening_end, Turning, turning_none, turning_size, turning_ordered, turning_on}
+use Rattle.garbage.proofs.Weakly.{weakening_end, turning_none, turning_size, turning_ordered, turning_on}
 use Rattle.garbage.proofs.weaken_row.Goals as goal
 
 pub offset_bounds-rows-i : goal.offset_bounds-rows-i
@@ -63,5 +61,8 @@ returns c =
     let a = c.args in
     let l = c.loop-c in
     let w = l.invariant.1 c.requires.accepted in
-    record { rows_after = w.only; row_weak = weakening_end a.schema.now c.requires.accepted a.n a.rows.now (get_or a.rows.now a.i []) l.c (get_or l.rows a.i [])
-          (omega (arith, c.loop-c-test.false, c.width-w.ensures, ap (λ (x : ℕ). length (columns_of (packed_tables a.schema.now) x)) c.table_of-table.ensures)) w.row }
+    record {
+      rows_after = w.only;
+      row_weak = weakening_end a.schema.now c.requires.accepted a.n a.rows.now (get_or a.rows.now a.i []) l.c (get_or l.rows a.i [])
+          (omega (arith, c.loop-c-test.false, c.width-w.ensures, ap (λ (x : ℕ). length (columns_of (packed_tables a.schema.now) x)) c.table_of-table.ensures)) w.row;
+    }

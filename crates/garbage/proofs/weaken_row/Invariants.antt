@@ -1,17 +1,7 @@
 -- The loop of `garbage::weaken_row`.
-use mathlib.Core.Path.{ap}
-use mathlib.Core.List.{[]}
-use Prim.Native.Nat.{ℕ, ◌-◌, ◌≤◌, ◌<◌}
-use native.Mathlib.Omega.{arith}
-use borrow.Author.Rules.{rules}
-use lib.ListN.{length, get_or}
-use Rattle.model.specs.Schema.{columns_of}
-use Rattle.model.specs.Catalog.{packed_tables}
-use Rattle.inner.specs.Working.{table_in}
-use Rattle.references.specs.Links.{target_table}
+use Prim.Native.Nat.{◌-◌, ◌≤◌}
 use Rattle.catalog.specs.Accepted.{Accepted}
-use Rattle.references.proofs.Packs.{few_columns_lem}
-use Rattle.garbage.proofs.Weakly.{weakening_end, Turning, turning_none, turning_size, turning_ordered, turning_on}
+use Rattle.garbage.proofs.Weakly.{Turning}
 use Rattle.garbage.proofs.weaken_row.Given as goal
 
 abbrev pub invariant-loop-c : goal.invariant-loop-c

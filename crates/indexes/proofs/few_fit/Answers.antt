@@ -1,16 +1,12 @@
 -- `indexes::few_fit` meets its contract.
-use Rattle.indexes.proofs.Judged.{Passed, passed_start, passed_end, passed_more, passed_bad, passed_on, few_many, few_bad, few_end}
+use Rattle.indexes.proofs.Judged.{passed_start, passed_end, passed_more, passed_bad, passed_on, few_many, few_bad, few_end}
 use Rattle.nav.proofs.Walk.{walk_less, walk_fine}
-use Rattle.model.specs.SchemaText.{index_fits}
 use Rattle.model.specs.Members.{members_in}
 use Rattle.model.specs.Json.{Json, Named}
-use Rattle.inner.specs.Positions.{tree_at, left}
-use Rattle.model.specs.Nav.{items_in}
+use Rattle.inner.specs.Positions.{tree_at}
 use mathlib.Core.Path.{sym, refl, ◌∙◌}
 use mathlib.Core.List.{List}
-use Prim.Native.Nat.{◌≤◌}
 use native.Mathlib.Omega.{arith}
-use borrow.Author.Rules.{rules}
 use Rattle.indexes.proofs.few_fit.Goals as goal
 
 pub loop-g-init : goal.loop-g-init

@@ -1,16 +1,10 @@
 -- The loop of `indexes::few_fit`.
-use Rattle.indexes.proofs.Judged.{Passed, passed_start, passed_end, passed_more, passed_bad, passed_on, few_many, few_bad, few_end}
-use Rattle.nav.proofs.Walk.{walk_less, walk_fine}
+use Rattle.indexes.proofs.Judged.{Passed}
 use Rattle.model.specs.SchemaText.{index_fits}
 use Rattle.model.specs.Members.{members_in}
-use Rattle.model.specs.Json.{Json, Named}
 use Rattle.inner.specs.Positions.{tree_at, left}
 use Rattle.model.specs.Nav.{items_in}
-use mathlib.Core.Path.{sym, refl, ◌∙◌}
-use mathlib.Core.List.{List}
 use Prim.Native.Nat.{◌≤◌}
-use native.Mathlib.Omega.{arith}
-use borrow.Author.Rules.{rules}
 use Rattle.indexes.proofs.few_fit.Given as goal
 
 abbrev pub invariant-loop-g : goal.invariant-loop-g

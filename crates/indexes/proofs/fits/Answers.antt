@@ -4,7 +4,6 @@ use Rattle.model.specs.Members.{members_in}
 use Rattle.inner.specs.Positions.{tree_at}
 use Rattle.model.specs.Nav.{is_array}
 use mathlib.Core.Path.{sym, ap, ◌∙◌}
-use borrow.Author.Rules.{rules}
 use Rattle.indexes.proofs.fits.Goals as goal
 
 pub returns-then-a : goal.returns-then-a

@@ -1,11 +1,9 @@
 -- `indexes::index` meets its contract.
-use Rattle.indexes.proofs.Numbers.{Filled, filled_start, filled_end, filled_more, filled_short, filled_on}
+use Rattle.indexes.proofs.Numbers.{filled_start, filled_end, filled_more, filled_short, filled_on}
 use Rattle.nav.proofs.Walk.{walk_less}
 use Rattle.model.specs.Catalog.{entry_name}
-use Rattle.inner.specs.Positions.{tree_at, left}
 use mathlib.Core.List.{map}
 use native.Mathlib.Omega.{arith}
-use borrow.Author.Rules.{rules}
 use Rattle.indexes.proofs.index.Goals as goal
 
 pub loop-g-init : goal.loop-g-init

@@ -1,11 +1,8 @@
 -- The loop of `indexes::index`.
-use Rattle.indexes.proofs.Numbers.{Filled, filled_start, filled_end, filled_more, filled_short, filled_on}
-use Rattle.nav.proofs.Walk.{walk_less}
+use Rattle.indexes.proofs.Numbers.{Filled}
 use Rattle.model.specs.Catalog.{entry_name}
 use Rattle.inner.specs.Positions.{tree_at, left}
 use mathlib.Core.List.{map}
-use native.Mathlib.Omega.{arith}
-use borrow.Author.Rules.{rules}
 use Rattle.indexes.proofs.index.Given as goal
 
 abbrev pub invariant-loop-g : goal.invariant-loop-g

@@ -5,7 +5,6 @@ use Rattle.model.specs.Members.{members_in}
 use Rattle.inner.specs.Positions.{tree_at}
 use Rattle.model.specs.Nav.{is_text}
 use mathlib.Core.Path.{sym, ap, ◌∙◌}
-use borrow.Author.Rules.{rules}
 use Rattle.indexes.proofs.is_indexed.Goals as goal
 
 pub is_lasting-requires : goal.is_lasting-requires

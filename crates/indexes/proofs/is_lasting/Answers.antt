@@ -3,7 +3,6 @@ use Rattle.indexes.proofs.Shorts.{lasting_at, lasting_none}
 use Rattle.inner.specs.Positions.{tree_at}
 use mathlib.Core.Bool.{not}
 use mathlib.Core.Path.{ap, ◌∙◌}
-use borrow.Author.Rules.{rules}
 use Rattle.indexes.proofs.is_lasting.Goals as goal
 
 pub returns-in-At : goal.returns-in-At

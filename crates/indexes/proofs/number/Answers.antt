@@ -4,7 +4,6 @@ use Rattle.model.specs.Value.{text_of}
 use Rattle.inner.specs.Positions.{tree_at}
 use mathlib.Core.Path.{ap, ◌∙◌}
 use native.Mathlib.Omega.{arith}
-use borrow.Author.Rules.{rules}
 use Rattle.indexes.proofs.number.Goals as goal
 
 pub overflow_cast-result : goal.overflow_cast-result

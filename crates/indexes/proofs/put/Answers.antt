@@ -2,7 +2,6 @@
 use Rattle.indexes.proofs.Cells.{first_well, first_short, second_well, second_short, put_none, put_one, put_two}
 use Rattle.model.specs.Catalog.{entry_name}
 use mathlib.Core.List.{map}
-use borrow.Author.Rules.{rules}
 use Rattle.indexes.proofs.put.Goals as goal
 
 pub index-a-requires : goal.index-a-requires

@@ -3,7 +3,6 @@ use mathlib.Core.Path.{sym, ap, ◌∙◌}
 use mathlib.Core.Bool.{not}
 use Rattle.model.proofs.Signed.{le_z_is}
 use Rattle.integers.specs.Ints.{int_in}
-use borrow.Author.Rules.{rules}
 use Rattle.integers.proofs.at_most.Goals as goal
 
 pub returns : goal.returns

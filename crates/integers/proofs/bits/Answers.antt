@@ -3,7 +3,6 @@ use mathlib.Core.Path.{sym, ap}
 use native.Mathlib.Omega.{arith}
 use Rattle.model.specs.Octets.{twos}
 use Rattle.integers.proofs.Signs.{below, above, bits_below}
-use borrow.Author.Rules.{rules}
 use Rattle.integers.proofs.bits.Goals as goal
 
 pub overflow_add-result : goal.overflow_add-result

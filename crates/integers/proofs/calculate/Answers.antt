@@ -4,7 +4,6 @@ use lib.IntN.{ℤ, ◌+ℤ◌}
 use Rattle.model.specs.declared.Mutator.{Mutator}
 use Rattle.integers.specs.Ints.{int_in, fitted, calculated}
 use Rattle.integers.proofs.Results.{sign_not, by_add, by_subtract, by_multiply, by_insert, by_delete}
-use borrow.Author.Rules.{rules}
 use Rattle.integers.proofs.calculate.Goals as goal
 
 pub returns-in-Add : goal.returns-in-Add

@@ -2,7 +2,6 @@
 use mathlib.Core.Path.{sym, ap, ◌∙◌}
 use Rattle.integers.specs.declared.Exact.TheVariants.{Number}
 use Rattle.integers.proofs.Results.{fit_big, fit_edge, fit_small}
-use borrow.Author.Rules.{rules}
 use Rattle.integers.proofs.fit.Goals as goal
 
 pub returns-then-size-gt9223372036854775808 : goal.returns-then-size-gt9223372036854775808

@@ -3,7 +3,6 @@ use mathlib.Core.Path.{ap, ◌∙◌}
 use Prim.Native.Nat.{ℕ}
 use Rattle.model.specs.Value.{from_twos}
 use Rattle.integers.specs.Ints.{as_int}
-use borrow.Author.Rules.{rules}
 use Rattle.integers.proofs.of_atom.Goals as goal
 
 pub returns : goal.returns

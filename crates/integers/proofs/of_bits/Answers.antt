@@ -1,7 +1,6 @@
 -- `integers::of_bits` meets its contract.
 use native.Mathlib.Omega.{arith}
 use Rattle.integers.proofs.Signs.{bits_int, plain_int}
-use borrow.Author.Rules.{rules}
 use Rattle.integers.proofs.of_bits.Goals as goal
 
 pub returns-then-x-lt9223372036854775808 : goal.returns-then-x-lt9223372036854775808

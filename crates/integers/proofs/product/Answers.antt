@@ -6,7 +6,6 @@ use native.Mathlib.Omega.{arith}
 use borrow.Author.Tests.{ltb-true, ltb-false}
 use Rattle.integers.specs.Ints.{signed, differ, fitted}
 use Rattle.integers.proofs.Results.{fit_big, times}
-use borrow.Author.Rules.{rules}
 use Rattle.integers.proofs.product.Goals as goal
 
 pub returns-then-wraps : goal.returns-then-wraps

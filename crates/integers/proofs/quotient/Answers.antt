@@ -4,7 +4,6 @@ use mathlib.Core.Bool.{Bool}
 use Prim.Native.Nat.{◌/◌}
 use Rattle.integers.specs.Ints.{signed, fitted}
 use Rattle.integers.proofs.Results.{zero_divisor, quotient_is}
-use borrow.Author.Rules.{rules}
 use Rattle.integers.proofs.quotient.Goals as goal
 
 pub returns-then-n-eq0 : goal.returns-then-n-eq0

@@ -1,7 +1,6 @@
 -- `integers::remainder` meets its contract.
 use mathlib.Core.Path.{sym, ◌∙◌}
 use Rattle.integers.proofs.Results.{zero_divisor, remainder_is}
-use borrow.Author.Rules.{rules}
 use Rattle.integers.proofs.remainder.Goals as goal
 
 pub returns-then-n-eq0 : goal.returns-then-n-eq0

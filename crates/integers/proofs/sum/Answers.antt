@@ -2,10 +2,8 @@
 use mathlib.Core.Path.{sym, ap, ◌∙◌}
 use Prim.Native.Nat.{◌+◌}
 use native.Mathlib.Omega.{arith}
-use borrow.Author.Tests.{not-true, not-false}
 use Rattle.integers.specs.Ints.{fitted}
 use Rattle.integers.proofs.Results.{fit_big, sum_same, sum_up, sum_down}
-use borrow.Author.Rules.{rules}
 use Rattle.integers.proofs.sum.Goals as goal
 
 pub returns-then-m-n : goal.returns-then-m-n

@@ -4,7 +4,6 @@ use mathlib.Core.List.{◌++◌}
 use Prim.Native.Nat.{ℕ}
 use lib.ListN.{replicate}
 use Rattle.model.specs.Octets.{big}
-use borrow.Author.Rules.{rules}
 use Rattle.integers.proofs.to_atom.Goals as goal
 
 pub returns : goal.returns

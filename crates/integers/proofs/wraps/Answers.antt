@@ -1,6 +1,5 @@
 -- `integers::wraps` meets its contract.
 use Rattle.integers.proofs.Results.{wraps_is, wraps_none}
-use borrow.Author.Rules.{rules}
 use Rattle.integers.proofs.wraps.Goals as goal
 
 pub returns-then-m-eq0 : goal.returns-then-m-eq0

@@ -1,13 +1,11 @@
 -- `json_reader::array`, `member`, `object`, `opened` and `value` meet their contracts.
-use Prim.Native.Nat.{ℕ, ◌+◌, ◌-◌, ◌*◌, ◌<◌, ◌≤◌}
-use borrow.Author.Rules.{rules}
+use Prim.Native.Nat.{ℕ}
 use borrow.Author.Tests.{ne_eqb}
 use mathlib.Core.Path.{◌≡◌, refl, sym, ap, ◌∙◌}
 use native.Mathlib.Omega.{arith}
 use native.Mathlib.Nat.{sub-zero}
-use lib.ListN.{length}
 use lib.Dec.{lit<}
-use Rattle.model.specs.Scan.{run, and_then}
+use Rattle.model.specs.Scan.{and_then}
 use Rattle.model.specs.Json.{dispatch, item_turn, after_item, list_at, array_at, member_at, object_at, value_at}
 use Rattle.scan.proofs.Bytes.{inside_byte, inside_open}
 use Rattle.scan.proofs.Items.{turn, done, spent}
@@ -16,7 +14,6 @@ use Rattle.scan.proofs.Ends.{then_not}
 use Rattle.scan.proofs.Plain.{colon_key}
 use Rattle.scan.specs.Strings.{colon_at}
 use Rattle.model.specs.Strings.{string_at}
-use Rattle.inner.specs.Positions.{Says}
 use Rattle.json_reader.proofs.Levels.{says_level, says_name}
 use Rattle.json_reader.proofs.+array_member_object_opened_value.Goals as goal
 
@@ -154,12 +151,18 @@ pub opened-returns-in-Scalar : goal.opened-returns-in-Scalar
 opened-returns-in-Scalar t c = record { value = rw (value_is, ← c.spaces-i.ensures) (unfold dispatch in rw (dispatch, sym c.opening_at-k.ensures ∙ c.in-Scalar.is) c.scalar.ensures); says_2 = c.requires.says }
 
 pub opened-returns-else-levels-eq0 : goal.opened-returns-else-levels-eq0
-opened-returns-else-levels-eq0 t c = record { value = rw (value_is, ← c.spaces-i.ensures)
-          (unfold dispatch in rw (dispatch, sym c.opening_at-k.ensures ∙ c.in-Array.is, nested_is array_at c.args.levels _ _ c.if-levels-eq0.false) c.array.ensures.value); says_2 = c.array.ensures.says_2 }
+opened-returns-else-levels-eq0 t c = record {
+  value = rw (value_is, ← c.spaces-i.ensures)
+      (unfold dispatch in rw (dispatch, sym c.opening_at-k.ensures ∙ c.in-Array.is, nested_is array_at c.args.levels _ _ c.if-levels-eq0.false) c.array.ensures.value);
+  says_2 = c.array.ensures.says_2;
+}
 
 pub opened-returns-else-levels-eq0-2 : goal.opened-returns-else-levels-eq0-2
-opened-returns-else-levels-eq0-2 t c = record { value = rw (value_is, ← c.spaces-i.ensures)
-          (unfold dispatch in rw (dispatch, sym c.opening_at-k.ensures ∙ c.in-Object.is, nested_is object_at c.args.levels _ _ c.if-levels-eq0-2.false) c.object.ensures.value); says_2 = c.object.ensures.says_2 }
+opened-returns-else-levels-eq0-2 t c = record {
+  value = rw (value_is, ← c.spaces-i.ensures)
+      (unfold dispatch in rw (dispatch, sym c.opening_at-k.ensures ∙ c.in-Object.is, nested_is object_at c.args.levels _ _ c.if-levels-eq0-2.false) c.object.ensures.value);
+  says_2 = c.object.ensures.says_2;
+}
 
 pub value-opened-r-requires : goal.value-opened-r-requires
 value-opened-r-requires t c =

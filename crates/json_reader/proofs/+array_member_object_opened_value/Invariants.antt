@@ -1,23 +1,10 @@
 -- The loops and measures of `json_reader::value` and what it calls.
-use Prim.Native.Nat.{ℕ, ◌+◌, ◌-◌, ◌*◌, ◌<◌, ◌≤◌}
-use borrow.Author.Rules.{rules}
-use borrow.Author.Tests.{ne_eqb}
-use mathlib.Core.Path.{◌≡◌, refl, sym, ap, ◌∙◌}
-use native.Mathlib.Omega.{arith}
-use native.Mathlib.Nat.{sub-zero}
+use Prim.Native.Nat.{◌+◌, ◌-◌, ◌*◌, ◌≤◌}
+use mathlib.Core.Path.{◌≡◌}
 use lib.ListN.{length}
-use lib.Dec.{lit<}
-use Rattle.model.specs.Scan.{run, and_then}
-use Rattle.model.specs.Json.{dispatch, item_turn, after_item, list_at, array_at, member_at, object_at, value_at}
-use Rattle.scan.proofs.Bytes.{inside_byte, inside_open}
-use Rattle.scan.proofs.Items.{turn, done, spent}
-use Rattle.scan.proofs.Values.{nested, nested_is, value_is}
-use Rattle.scan.proofs.Ends.{then_not}
-use Rattle.scan.proofs.Plain.{colon_key}
-use Rattle.scan.specs.Strings.{colon_at}
-use Rattle.model.specs.Strings.{string_at}
+use Rattle.model.specs.Scan.{run}
+use Rattle.model.specs.Json.{item_turn, array_at, member_at, object_at, value_at}
 use Rattle.inner.specs.Positions.{Says}
-use Rattle.json_reader.proofs.Levels.{says_level, says_name}
 use Rattle.json_reader.proofs.+array_member_object_opened_value.Given as goal
 
 abbrev pub decreases-array : goal.decreases-array

@@ -6,7 +6,6 @@ use Rattle.model.specs.Scan.{and_then}
 use Rattle.model.specs.Json.{text_at, end_at}
 use Rattle.scan.proofs.Ends.{then_not}
 use Rattle.json_reader.proofs.Empty.{says_nothing}
-use borrow.Author.Rules.{rules}
 use Rattle.json_reader.proofs.document.Goals as goal
 
 pub value-v-requires : goal.value-v-requires

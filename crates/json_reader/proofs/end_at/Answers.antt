@@ -1,7 +1,6 @@
 -- `json_reader::end_at` meets its contract.
 use native.Mathlib.Omega.{arith}
 use Rattle.json_reader.proofs.Empty.{says_nothing}
-use borrow.Author.Rules.{rules}
 use Rattle.json_reader.proofs.end_at.Goals as goal
 
 pub value-requires : goal.value-requires

@@ -1,10 +1,8 @@
 -- `json_reader::note` meets its contract.
-use Prim.Native.Nat.{◌-◌}
 use mathlib.Core.Path.{sym}
 use borrow.Author.Tests.{lt-ltb, le-ltb}
 use Rattle.json_reader.specs.Table.{noted}
 use lib.Seq.{set_out}
-use borrow.Author.Rules.{rules}
 use Rattle.json_reader.proofs.note.Goals as goal
 
 pub returns-then-at-ends : goal.returns-then-at-ends

@@ -1,10 +1,9 @@
 -- `json_writer::decimal_digits` meets its contract.
 use lib.ListN.{drop_of_length-le, length-set}
 use mathlib.Core.Path.{◌≡◌, sym, ap, ◌∙◌}
-use Prim.Native.Nat.{ℕ, ◌-◌, ◌≤◌}
+use Prim.Native.Nat.{ℕ, ◌-◌}
 use native.Mathlib.Omega.{arith}
-use lib.ListN.{length, drop}
-use borrow.Author.Rules.{rules}
+use lib.ListN.{drop}
 use Rattle.model.specs.Answers.{digits_before}
 use Rattle.json_writer.specs.Texts.{decimal_text}
 use Rattle.json_writer.proofs.Digits.{digit_more, digit_first}

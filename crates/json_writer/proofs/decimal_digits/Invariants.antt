@@ -1,13 +1,9 @@
 -- The loop of `json_writer::decimal_digits`.
-use lib.ListN.{drop_of_length-le, length-set}
-use mathlib.Core.Path.{◌≡◌, sym, ap, ◌∙◌}
-use Prim.Native.Nat.{ℕ, ◌-◌, ◌≤◌}
-use native.Mathlib.Omega.{arith}
+use mathlib.Core.Path.{◌≡◌}
+use Prim.Native.Nat.{◌≤◌}
 use lib.ListN.{length, drop}
-use borrow.Author.Rules.{rules}
 use Rattle.model.specs.Answers.{digits_before}
 use Rattle.json_writer.specs.Texts.{decimal_text}
-use Rattle.json_writer.proofs.Digits.{digit_more, digit_first}
 use Rattle.json_writer.proofs.decimal_digits.Given as goal
 
 abbrev pub invariant-loop-i : goal.invariant-loop-i

@@ -1,7 +1,6 @@
 -- `json_writer::hex` meets its contract.
 use Rattle.model.specs.Answers.{hex_digit}
 use borrow.Author.Tests.{lt-ltb, le-ltb}
-use borrow.Author.Rules.{rules}
 use Rattle.json_writer.proofs.hex.Goals as goal
 
 pub returns-then-d-lt10 : goal.returns-then-d-lt10

@@ -2,7 +2,6 @@
 use native.Mathlib.Omega.{arith}
 use Rattle.json_writer.proofs.Putting.{put_is}
 use Rattle.json_writer.proofs.Joins.{atom_integer, atom_boolean, atom_text_lem, atom_uuid}
-use borrow.Author.Rules.{rules}
 use Rattle.json_writer.proofs.put_atom.Goals as goal
 
 pub returns-then-kind-eq0 : goal.returns-then-kind-eq0

@@ -1,12 +1,7 @@
 -- `json_writer::put_atoms` meets its contract.
-use mathlib.Core.Path.{◌≡◌, refl, ◌∙◌}
-use mathlib.Core.Bool.{true}
-use Prim.Native.Nat.{◌+◌, ◌*◌, ◌-◌, ◌≤◌}
+use mathlib.Core.Path.{refl, ◌∙◌}
 use native.Mathlib.Omega.{arith}
-use lib.Dec.{eqb}
-use lib.ListN.{length, take, drop}
-use Rattle.json_writer.specs.Texts.{joined, atom_texts}
-use Rattle.json_writer.proofs.Putting.{Due, due_all, due_is, due_next, due_none}
+use Rattle.json_writer.proofs.Putting.{due_all, due_is, due_next, due_none}
 use Rattle.json_writer.proofs.Joins.{atoms_next, atoms_end}
 use Rattle.json_writer.proofs.put_atoms.Goals as goal
 
@@ -18,8 +13,7 @@ put_atom-r-requires c = omega (arith, c.put_comma-d.ensures.short)
 
 pub loop-i-preserved : goal.loop-i-preserved
 loop-i-preserved c =
-    let l = c.loop-i in
-    (
+    let l = c.loop-i in (
       omega arith,
       (
         c.put_atom-r.auto.out ∙ c.put_comma-d.auto.out ∙ l.invariant.1.0,

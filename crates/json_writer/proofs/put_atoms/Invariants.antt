@@ -1,13 +1,11 @@
 -- The loop of `json_writer::put_atoms`.
-use mathlib.Core.Path.{◌≡◌, refl, ◌∙◌}
+use mathlib.Core.Path.{◌≡◌}
 use mathlib.Core.Bool.{true}
 use Prim.Native.Nat.{◌+◌, ◌*◌, ◌-◌, ◌≤◌}
-use native.Mathlib.Omega.{arith}
 use lib.Dec.{eqb}
 use lib.ListN.{length, take, drop}
 use Rattle.json_writer.specs.Texts.{joined, atom_texts}
-use Rattle.json_writer.proofs.Putting.{Due, due_all, due_is, due_next, due_none}
-use Rattle.json_writer.proofs.Joins.{atoms_next, atoms_end}
+use Rattle.json_writer.proofs.Putting.{Due}
 use Rattle.json_writer.proofs.put_atoms.Given as goal
 
 abbrev pub invariant-loop-i : goal.invariant-loop-i

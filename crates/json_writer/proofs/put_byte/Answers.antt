@@ -5,7 +5,6 @@ use native.Mathlib.Omega.{arith}
 use lib.ListN.{length, length-set}
 use lib.Seq.{set_out}
 use Rattle.json_writer.specs.Put.{put_at}
-use borrow.Author.Rules.{rules}
 use Rattle.json_writer.proofs.put_byte.Goals as goal
 
 pub shape_of-out : goal.shape_of-out

@@ -1,11 +1,9 @@
 -- `json_writer::put_bytes` meets its contract.
-use mathlib.Core.Path.{◌≡◌, refl, sym, ap, ◌∙◌}
+use mathlib.Core.Path.{refl, sym, ap, ◌∙◌}
 use mathlib.Core.List.{List}
-use Prim.Native.Nat.{ℕ, ◌+◌, ◌-◌, ◌≤◌}
+use Prim.Native.Nat.{ℕ, ◌+◌}
 use native.Mathlib.Omega.{arith}
-use lib.ListN.{length, take, set, get_or, length-set}
-use borrow.Author.Rules.{rules}
-use Rattle.json_writer.specs.Put.{put_at}
+use lib.ListN.{set, get_or, length-set}
 use Rattle.json_writer.proofs.Putting.{put_none, put_more, put_part}
 use Rattle.json_writer.proofs.put_bytes.Goals as goal
 

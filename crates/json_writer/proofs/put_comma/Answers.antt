@@ -3,7 +3,6 @@ use mathlib.Core.Bool.{true, false}
 use native.Mathlib.Omega.{arith}
 use Rattle.json_writer.proofs.Putting.{put_nothing, put_is}
 use Rattle.json_writer.proofs.Joins.{comma_is, no_comma, a_comma}
-use borrow.Author.Rules.{rules}
 use Rattle.json_writer.proofs.put_comma.Goals as goal
 
 pub returns-then-first : goal.returns-then-first

@@ -3,7 +3,6 @@ use mathlib.Core.Bool.{true, false}
 use native.Mathlib.Omega.{arith}
 use Rattle.json_writer.proofs.Putting.{put_nothing, put_is}
 use Rattle.json_writer.proofs.Pieces.{dash_is}
-use borrow.Author.Rules.{rules}
 use Rattle.json_writer.proofs.put_dash.Goals as goal
 
 pub returns-then-dash : goal.returns-then-dash

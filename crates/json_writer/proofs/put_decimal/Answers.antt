@@ -5,7 +5,6 @@ use Prim.Native.Nat.{◌-◌}
 use mathlib.Core.Path.{◌≡◌, ◌∙◌}
 use native.Mathlib.Omega.{arith}
 use Rattle.json_writer.proofs.Putting.{put_is}
-use borrow.Author.Rules.{rules}
 use Rattle.json_writer.proofs.put_decimal.Goals as goal
 
 pub returns : goal.returns

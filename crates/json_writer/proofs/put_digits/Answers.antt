@@ -1,10 +1,7 @@
 -- `json_writer::put_digits` meets its contract.
-use mathlib.Core.Path.{◌≡◌, refl, ◌∙◌}
-use Prim.Native.Nat.{◌+◌, ◌*◌, ◌-◌, ◌≤◌}
+use mathlib.Core.Path.{refl, ◌∙◌}
 use native.Mathlib.Omega.{arith}
-use lib.ListN.{length, drop}
-use Rattle.model.specs.Answers.{uuid_digits}
-use Rattle.json_writer.proofs.Putting.{Due, due_all, due_is, due_next, due_none}
+use Rattle.json_writer.proofs.Putting.{due_all, due_is, due_next, due_none}
 use Rattle.json_writer.proofs.Pieces.{digits_next, digits_end}
 use Rattle.json_writer.proofs.put_digits.Goals as goal
 
@@ -18,8 +15,7 @@ put_hex-r-requires c =
 
 pub loop-k-preserved : goal.loop-k-preserved
 loop-k-preserved c =
-    let l = c.loop-k in
-    (
+    let l = c.loop-k in (
       omega arith,
       (
         c.put_hex-r.auto.out ∙ c.put_dash-d.auto.out ∙ l.invariant.1.0,

@@ -1,11 +1,9 @@
 -- The loop of `json_writer::put_digits`.
-use mathlib.Core.Path.{◌≡◌, refl, ◌∙◌}
+use mathlib.Core.Path.{◌≡◌}
 use Prim.Native.Nat.{◌+◌, ◌*◌, ◌-◌, ◌≤◌}
-use native.Mathlib.Omega.{arith}
 use lib.ListN.{length, drop}
 use Rattle.model.specs.Answers.{uuid_digits}
-use Rattle.json_writer.proofs.Putting.{Due, due_all, due_is, due_next, due_none}
-use Rattle.json_writer.proofs.Pieces.{digits_next, digits_end}
+use Rattle.json_writer.proofs.Putting.{Due}
 use Rattle.json_writer.proofs.put_digits.Given as goal
 
 abbrev pub invariant-loop-k : goal.invariant-loop-k

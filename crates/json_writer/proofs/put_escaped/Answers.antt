@@ -2,7 +2,6 @@
 use native.Mathlib.Omega.{arith}
 use Rattle.json_writer.proofs.Putting.{put_then, put_is}
 use Rattle.json_writer.proofs.Escapes.{escaped_quote, escaped_backslash, escaped_low, escaped_plain}
-use borrow.Author.Rules.{rules}
 use Rattle.json_writer.proofs.put_escaped.Goals as goal
 
 pub returns-then-b-eq34 : goal.returns-then-b-eq34

@@ -6,7 +6,6 @@ use mathlib.Core.List.{[], ◌∷◌}
 use Prim.Native.Nat.{ℕ}
 use native.Mathlib.Omega.{arith}
 use Rattle.json_writer.proofs.Putting.{put_then, put_is}
-use borrow.Author.Rules.{rules}
 use Rattle.json_writer.proofs.put_hex.Goals as goal
 
 pub returns : goal.returns

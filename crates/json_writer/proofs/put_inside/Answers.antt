@@ -1,10 +1,7 @@
 -- `json_writer::put_inside` meets its contract.
-use mathlib.Core.Path.{◌≡◌, refl, ◌∙◌}
-use Prim.Native.Nat.{◌+◌, ◌*◌, ◌-◌, ◌≤◌}
+use mathlib.Core.Path.{refl, ◌∙◌}
 use native.Mathlib.Omega.{arith}
-use lib.ListN.{length, drop}
-use Rattle.json_writer.specs.Texts.{inside_text}
-use Rattle.json_writer.proofs.Putting.{Due, due_all, due_is, due_next, due_none}
+use Rattle.json_writer.proofs.Putting.{due_all, due_is, due_next, due_none}
 use Rattle.json_writer.proofs.Pieces.{inside_next, inside_end}
 use Rattle.json_writer.proofs.put_inside.Goals as goal
 
@@ -13,8 +10,7 @@ loop-i-init c = (omega arith, (refl, (omega arith, due_all _ _ _)))
 
 pub loop-i-preserved : goal.loop-i-preserved
 loop-i-preserved c =
-    let l = c.loop-i in
-    (
+    let l = c.loop-i in (
       omega arith,
       (
         c.put_escaped-r.auto.out ∙ l.invariant.1.0,

@@ -1,11 +1,9 @@
 -- The loop of `json_writer::put_inside`.
-use mathlib.Core.Path.{◌≡◌, refl, ◌∙◌}
+use mathlib.Core.Path.{◌≡◌}
 use Prim.Native.Nat.{◌+◌, ◌*◌, ◌-◌, ◌≤◌}
-use native.Mathlib.Omega.{arith}
 use lib.ListN.{length, drop}
 use Rattle.json_writer.specs.Texts.{inside_text}
-use Rattle.json_writer.proofs.Putting.{Due, due_all, due_is, due_next, due_none}
-use Rattle.json_writer.proofs.Pieces.{inside_next, inside_end}
+use Rattle.json_writer.proofs.Putting.{Due}
 use Rattle.json_writer.proofs.put_inside.Given as goal
 
 abbrev pub invariant-loop-i : goal.invariant-loop-i

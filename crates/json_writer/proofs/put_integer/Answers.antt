@@ -2,7 +2,6 @@
 use native.Mathlib.Omega.{arith}
 use Rattle.json_writer.proofs.Putting.{put_then, put_is}
 use Rattle.json_writer.proofs.Escapes.{integer_plus, integer_minus}
-use borrow.Author.Rules.{rules}
 use Rattle.json_writer.proofs.put_integer.Goals as goal
 
 pub returns-then-x-lt9223372036854775808 : goal.returns-then-x-lt9223372036854775808

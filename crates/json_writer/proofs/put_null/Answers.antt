@@ -1,6 +1,5 @@
 -- `json_writer::put_null` meets its contract.
 use Rattle.json_writer.specs.Texts.{null_text}
-use borrow.Author.Rules.{rules}
 use Rattle.json_writer.proofs.put_null.Goals as goal
 
 pub returns : goal.returns

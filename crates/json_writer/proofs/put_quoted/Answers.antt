@@ -2,7 +2,6 @@
 use native.Mathlib.Omega.{arith}
 use Rattle.json_writer.proofs.Putting.{put_then, put_is}
 use Rattle.json_writer.proofs.Pieces.{quoted_is}
-use borrow.Author.Rules.{rules}
 use Rattle.json_writer.proofs.put_quoted.Goals as goal
 
 pub returns : goal.returns

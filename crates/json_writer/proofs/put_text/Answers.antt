@@ -4,7 +4,6 @@ use native.Mathlib.Omega.{arith}
 use lib.ListN.{length, drop, get_or, length-take, length-drop}
 use Rattle.json_writer.specs.Texts.{quoted_text}
 use Rattle.json_writer.proofs.Putting.{put_is}
-use borrow.Author.Rules.{rules}
 use Rattle.json_writer.proofs.put_text.Goals as goal
 
 pub put_quoted-requires : goal.put_quoted-requires

@@ -2,7 +2,6 @@
 use native.Mathlib.Omega.{arith}
 use Rattle.json_writer.proofs.Putting.{put_is}
 use Rattle.json_writer.proofs.Joins.{truth_zero, truth_other}
-use borrow.Author.Rules.{rules}
 use Rattle.json_writer.proofs.put_truth.Goals as goal
 
 pub returns-then-b-eq0 : goal.returns-then-b-eq0

@@ -2,7 +2,6 @@
 use native.Mathlib.Omega.{arith}
 use Rattle.json_writer.proofs.Putting.{put_then, put_is}
 use Rattle.json_writer.proofs.Joins.{set_none, set_one, set_many}
-use borrow.Author.Rules.{rules}
 use Rattle.json_writer.proofs.put_value.Goals as goal
 
 pub returns-then-count-eq0 : goal.returns-then-count-eq0

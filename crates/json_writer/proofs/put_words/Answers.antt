@@ -5,7 +5,6 @@ use Rattle.model.specs.declared.Fault.TheVariants.{Fine, Syntax, Resources, Dupl
 use Rattle.json_writer.specs.Texts.{words_text}
 use Rattle.json_writer.proofs.Putting.{put_nothing, put_is}
 use Rattle.json_writer.proofs.Joins.{words_is}
-use borrow.Author.Rules.{rules}
 use Rattle.json_writer.proofs.put_words.Goals as goal
 
 pub returns-in-Fine : goal.returns-in-Fine

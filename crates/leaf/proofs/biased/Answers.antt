@@ -1,7 +1,6 @@
 -- `leaf::biased` meets its contract.
 use borrow.Author.Tests.{lt-ltb, le-ltb}
 use Rattle.leaf.specs.Bytes.{halves}
-use borrow.Author.Rules.{rules}
 use Rattle.leaf.proofs.biased.Goals as goal
 
 pub returns-then-x-lt9223372036854775808 : goal.returns-then-x-lt9223372036854775808

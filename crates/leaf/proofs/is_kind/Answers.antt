@@ -1,6 +1,5 @@
 -- `leaf::is_kind` meets its contract.
 use lib.Dec.{eqb}
-use borrow.Author.Rules.{rules}
 use Rattle.leaf.proofs.is_kind.Goals as goal
 
 pub returns : goal.returns

@@ -1,5 +1,4 @@
 -- `leaf::put_byte` meets its contract.
-use borrow.Author.Rules.{rules}
 use Rattle.leaf.proofs.First.{first}
 use Rattle.leaf.proofs.put_byte.Goals as goal
 

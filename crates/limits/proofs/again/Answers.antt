@@ -1,13 +1,12 @@
 -- `limits::again` meets its contract.
-use mathlib.Core.Path.{◌≡◌, refl, sym, ap, ◌∙◌}
+use mathlib.Core.Path.{refl, sym, ap, ◌∙◌}
 use native.Mathlib.Omega.{arith}
-use borrow.Author.Rules.{rules}
 use mathlib.Core.Bool.{Bool}
 use mathlib.Core.List.{List, []}
 use mathlib.Core.Logic.{⊎_elim}
-use Prim.Native.Nat.{ℕ, ◌+◌, ◌-◌, ◌≤◌, ◌<◌}
-use lib.ListN.{get_or, drop, take}
-use Rattle.model.specs.Base.{any, keep}
+use Prim.Native.Nat.{ℕ}
+use lib.ListN.{get_or}
+use Rattle.model.specs.Base.{any}
 use Rattle.limits.specs.Alike.{of_t, same_cells}
 use Rattle.limits.proofs.Kept.{any_kept_here, any_kept_on, any_kept_no, keep_end}
 use Rattle.limits.proofs.again.Goals as goal

@@ -1,15 +1,10 @@
 -- The loop of `limits::again`.
-use mathlib.Core.Path.{◌≡◌, refl, sym, ap, ◌∙◌}
-use native.Mathlib.Omega.{arith}
-use borrow.Author.Rules.{rules}
-use mathlib.Core.Bool.{Bool}
-use mathlib.Core.List.{List, []}
-use mathlib.Core.Logic.{⊎_elim}
-use Prim.Native.Nat.{ℕ, ◌+◌, ◌-◌, ◌≤◌, ◌<◌}
+use mathlib.Core.Path.{◌≡◌}
+use mathlib.Core.List.{[]}
+use Prim.Native.Nat.{◌+◌, ◌-◌, ◌≤◌, ◌<◌}
 use lib.ListN.{get_or, drop, take}
 use Rattle.model.specs.Base.{any, keep}
 use Rattle.limits.specs.Alike.{of_t, same_cells}
-use Rattle.limits.proofs.Kept.{any_kept_here, any_kept_on, any_kept_no, keep_end}
 use Rattle.limits.proofs.again.Given as goal
 
 abbrev pub invariant-loop-j : goal.invariant-loop-j

@@ -1,13 +1,7 @@
 -- `limits::all_enough` meets its contract.
-use mathlib.Core.Path.{◌≡◌, refl, sym, ◌∙◌}
+use mathlib.Core.Path.{refl, sym, ◌∙◌}
 use native.Mathlib.Omega.{arith}
-use Prim.Native.Nat.{◌-◌, ◌≤◌}
-use borrow.Author.Tests.{not-true, not-false}
-use lib.ListN.{drop}
-use Rattle.model.specs.Base.{all}
-use Rattle.model.specs.Commit.{all_enough}
 use Rattle.model.specs.Catalog.{packed_tables}
-use Rattle.inner.specs.Working.{working}
 use Rattle.references.proofs.Walks.{all_row_here, all_row_on, all_row_end}
 use Rattle.limits.specs.Alike.{row_enough}
 use Rattle.limits.proofs.all_enough.Goals as goal

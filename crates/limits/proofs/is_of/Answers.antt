@@ -2,7 +2,6 @@
 use mathlib.Core.Path.{ap}
 use lib.Dec.{eqb}
 use Rattle.limits.specs.Alike.{of_t}
-use borrow.Author.Rules.{rules}
 use Rattle.limits.proofs.is_of.Goals as goal
 
 pub returns : goal.returns

@@ -7,7 +7,6 @@ use lib.ListN.{get_or}
 use Rattle.model.specs.Catalog.{column_place, min_offset}
 use Rattle.catalog.proofs.Laws.{few_tables}
 use Rattle.references.proofs.Packs.{has_columns, few_columns_lem}
-use borrow.Author.Rules.{rules}
 use Rattle.limits.proofs.minimum.Goals as goal
 
 pub column-requires : goal.column-requires

@@ -1,17 +1,14 @@
 -- `limits::row_enough` meets its contract.
 use mathlib.Core.Path.{◌≡◌, sym, ap, ◌∙◌}
 use native.Mathlib.Omega.{arith}
-use borrow.Author.Rules.{rules}
-use Prim.Native.Nat.{ℕ, ◌-◌, ◌≤◌, ◌<◌}
+use Prim.Native.Nat.{ℕ, ◌<◌}
 use lib.ListN.{length, get_or}
 use Rattle.model.specs.Schema.{columns_of}
-use Rattle.model.specs.Areas.{row_from}
 use mathlib.Core.List.{[]}
 use Rattle.model.specs.Catalog.{packed_tables, column_from, column_place}
 use Rattle.inner.specs.Working.{table_in}
 use Rattle.references.proofs.Packs.{few_columns_lem}
-use Rattle.limits.specs.Alike.{row_enough}
-use Rattle.limits.proofs.Enough.{enough_from, least, enough_all, enough_end, enough_here, enough_on}
+use Rattle.limits.proofs.Enough.{least, enough_all, enough_end, enough_here, enough_on}
 use Rattle.limits.proofs.row_enough.Goals as goal
 
 pub width-w-requires : goal.width-w-requires

@@ -1,12 +1,9 @@
 -- `limits::rows_of` meets its contract.
-use mathlib.Core.Path.{◌≡◌, sym, ap, ◌∙◌}
+use mathlib.Core.Path.{sym, ap, ◌∙◌}
 use native.Mathlib.Omega.{arith}
-use borrow.Author.Rules.{rules}
 use mathlib.Core.List.{[]}
 use mathlib.Core.Logic.{⊎_elim}
-use Prim.Native.Nat.{◌+◌, ◌-◌, ◌≤◌}
-use lib.ListN.{length, drop, take}
-use Rattle.model.specs.Base.{keep}
+use lib.ListN.{length}
 use Rattle.limits.specs.Alike.{of_t}
 use Rattle.limits.proofs.Kept.{keep_yes, keep_no, keep_end}
 use Rattle.limits.proofs.rows_of.Goals as goal

@@ -1,14 +1,9 @@
 -- The loop of `limits::rows_of`.
-use mathlib.Core.Path.{◌≡◌, sym, ap, ◌∙◌}
-use native.Mathlib.Omega.{arith}
-use borrow.Author.Rules.{rules}
-use mathlib.Core.List.{[]}
-use mathlib.Core.Logic.{⊎_elim}
+use mathlib.Core.Path.{◌≡◌}
 use Prim.Native.Nat.{◌+◌, ◌-◌, ◌≤◌}
 use lib.ListN.{length, drop, take}
 use Rattle.model.specs.Base.{keep}
 use Rattle.limits.specs.Alike.{of_t}
-use Rattle.limits.proofs.Kept.{keep_yes, keep_no, keep_end}
 use Rattle.limits.proofs.rows_of.Given as goal
 
 abbrev pub invariant-loop-i : goal.invariant-loop-i

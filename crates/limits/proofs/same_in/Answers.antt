@@ -1,16 +1,10 @@
 -- `limits::same_in` meets its contract.
 use mathlib.Core.Path.{◌≡◌, sym, ap, ◌∙◌}
 use native.Mathlib.Omega.{arith}
-use borrow.Author.Rules.{rules}
-use mathlib.Core.Bool.{Bool}
-use mathlib.Core.List.{List}
-use Prim.Native.Nat.{ℕ, ◌-◌, ◌≤◌, ◌<◌}
-use borrow.Author.Tests.{not-true, not-false}
-use lib.ListN.{length, get_or, take, drop}
+use Prim.Native.Nat.{ℕ, ◌<◌}
+use lib.ListN.{length, get_or}
 use lib.Seq.{take-length}
 use Rattle.model.specs.Base.{all}
-use Rattle.model.specs.Value.{same_value}
-use Rattle.inner.specs.Working.{value_in}
 use Rattle.references.proofs.Walks.{all_here, all_on, all_end}
 use Rattle.limits.specs.Alike.{same_cells}
 use Rattle.limits.proofs.same_in.Invariants.{alike}

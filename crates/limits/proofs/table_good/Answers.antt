@@ -4,7 +4,6 @@ use native.Mathlib.Omega.{arith}
 use mathlib.Core.Bool.{Bool, true}
 use mathlib.Core.List.{List, []}
 use Prim.Native.Nat.{ℕ, ◌+◌, ◌<◌}
-use borrow.Author.Tests.{not-true, not-false}
 use lib.ListN.{length, get_or}
 use Rattle.model.specs.Commit.{not_over}
 use Rattle.model.specs.Catalog.{max_rows_from, index_from, table_count, indexes_offset, first_index_offset, second_index_offset}
@@ -12,7 +11,6 @@ use Rattle.catalog.proofs.Laws.{tables_length, few_tables}
 use Rattle.limits.specs.Alike.{unique_cells, IndexFits}
 use Rattle.limits.proofs.Sanely.{cell_at, width_at, Below, fits_first, fits_second}
 use Rattle.limits.proofs.Tables.{mine, few_enough, good_over, good_none, good_first_no, good_one, good_two}
-use borrow.Author.Rules.{rules}
 use Rattle.limits.proofs.table_good.Goals as goal
 
 positive : (a b : ℕ) → a ≡ b → (a ≡ 0 → ⊥) → 0 < b

@@ -1,14 +1,10 @@
 -- `limits::tables_good` meets its contract.
 use mathlib.Core.Path.{◌≡◌, sym, ◌∙◌}
 use native.Mathlib.Omega.{arith}
-use borrow.Author.Rules.{rules}
-use Prim.Native.Nat.{◌-◌, ◌≤◌}
-use borrow.Author.Tests.{not-true, not-false}
-use Rattle.model.specs.Commit.{tables_good}
-use Rattle.model.specs.Catalog.{packed_tables, table_count}
-use Rattle.inner.specs.Working.{working}
+use Prim.Native.Nat.{◌-◌}
+use Rattle.model.specs.Catalog.{table_count}
 use Rattle.catalog.proofs.Laws.{tables_length, few_tables}
-use Rattle.limits.proofs.Tables.{good_from, tables_here, tables_next, tables_last}
+use Rattle.limits.proofs.Tables.{tables_here, tables_next, tables_last}
 use Rattle.limits.proofs.tables_good.Goals as goal
 
 pub loop-t-init : goal.loop-t-init

@@ -1,14 +1,10 @@
 -- The loop of `limits::tables_good`.
-use mathlib.Core.Path.{◌≡◌, sym, ◌∙◌}
-use native.Mathlib.Omega.{arith}
-use borrow.Author.Rules.{rules}
+use mathlib.Core.Path.{◌≡◌}
 use Prim.Native.Nat.{◌-◌, ◌≤◌}
-use borrow.Author.Tests.{not-true, not-false}
 use Rattle.model.specs.Commit.{tables_good}
-use Rattle.model.specs.Catalog.{packed_tables, table_count}
+use Rattle.model.specs.Catalog.{packed_tables}
 use Rattle.inner.specs.Working.{working}
-use Rattle.catalog.proofs.Laws.{tables_length, few_tables}
-use Rattle.limits.proofs.Tables.{good_from, tables_here, tables_next, tables_last}
+use Rattle.limits.proofs.Tables.{good_from}
 use Rattle.limits.proofs.tables_good.Given as goal
 
 abbrev pub invariant-loop-t : goal.invariant-loop-t

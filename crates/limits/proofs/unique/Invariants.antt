@@ -1,15 +1,9 @@
 -- The loop of `limits::unique`.
-use mathlib.Core.Path.{◌≡◌, refl, sym, ap, ◌∙◌}
-use native.Mathlib.Omega.{arith}
-use borrow.Author.Rules.{rules}
-use mathlib.Core.List.{[]}
-use mathlib.Core.Logic.{⊎_elim}
-use Prim.Native.Nat.{◌+◌, ◌-◌, ◌≤◌}
-use lib.ListN.{get_or, drop, take}
+use mathlib.Core.Path.{◌≡◌}
+use Prim.Native.Nat.{◌-◌, ◌≤◌}
+use lib.ListN.{drop, take}
 use Rattle.model.specs.Base.{keep}
 use Rattle.limits.specs.Alike.{of_t, unique_cells}
-use Rattle.limits.proofs.Kept.{keep_yes, keep_no, keep_end}
-use Rattle.limits.proofs.Indexed.{unique_here, unique_on}
 use Rattle.limits.proofs.unique.Given as goal
 
 abbrev pub invariant-loop-i : goal.invariant-loop-i

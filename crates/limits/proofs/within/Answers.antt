@@ -1,8 +1,6 @@
 -- `limits::within` meets its contract.
 use mathlib.Core.Path.{sym, ap, ◌∙◌}
 use lib.Dec.{leb}
-use borrow.Author.Tests.{not-true, not-false}
-use borrow.Author.Rules.{rules}
 use Rattle.limits.proofs.Enough.{limit_none, limit_some}
 use Rattle.limits.proofs.within.Goals as goal
 

@@ -1,15 +1,12 @@
 -- `lookups::count_ids` meets its contract.
-use mathlib.Core.Path.{◌≡◌, refl, sym, ◌∙◌}
-use mathlib.Core.Bool.{Bool}
+use mathlib.Core.Path.{◌≡◌, sym, ◌∙◌}
 use mathlib.Core.Logic.{⊎_elim}
-use mathlib.Core.List.{List, map}
-use Prim.Native.Nat.{ℕ, ◌+◌, ◌-◌, ◌≤◌}
+use mathlib.Core.List.{map}
+use Prim.Native.Nat.{◌+◌, ◌≤◌}
 use native.Mathlib.Omega.{arith}
 use lib.ListN.{length}
 use Rattle.model.specs.Octets.{value}
 use Rattle.model.specs.Schema.{Schema}
-use Rattle.model.specs.Rows.{has_id}
-use Rattle.inner.specs.Working.{working}
 use Rattle.lookups.specs.Found.{count_true}
 use Rattle.lookups.proofs.Laws.{left, left_one, left_none, left_end}
 use Rattle.lookups.proofs.count_ids.Invariants.{is}

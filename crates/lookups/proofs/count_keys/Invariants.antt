@@ -1,17 +1,15 @@
 -- The loop of `lookups::count_keys`.
-use mathlib.Core.Path.{◌≡◌, refl, sym, ◌∙◌}
+use mathlib.Core.Path.{◌≡◌}
 use mathlib.Core.Bool.{Bool}
-use mathlib.Core.Logic.{⊎_elim}
 use mathlib.Core.List.{List, map}
 use Prim.Native.Nat.{ℕ, ◌+◌, ◌-◌, ◌≤◌}
-use native.Mathlib.Omega.{arith}
 use lib.ListN.{length}
 use Rattle.model.specs.Octets.{value}
 use Rattle.model.specs.Schema.{Schema}
 use Rattle.model.specs.Rows.{has}
 use Rattle.inner.specs.Working.{working}
 use Rattle.lookups.specs.Found.{count_true}
-use Rattle.lookups.proofs.Laws.{left, left_one, left_none, left_end}
+use Rattle.lookups.proofs.Laws.{left}
 use Rattle.lookups.proofs.count_keys.Given as goal
 
 -- the test that is counted

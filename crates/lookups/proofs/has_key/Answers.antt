@@ -6,7 +6,6 @@ use lib.ListN.{length}
 use Rattle.model.specs.Rows.{has}
 use Rattle.inner.specs.Working.{working}
 use Rattle.lookups.proofs.Laws.{key_is}
-use borrow.Author.Rules.{rules}
 use Rattle.lookups.proofs.has_key.Goals as goal
 
 pub returns : goal.returns

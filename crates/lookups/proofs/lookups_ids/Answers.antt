@@ -2,12 +2,10 @@
 use mathlib.Core.Path.{sym, ◌∙◌}
 use mathlib.Core.List.{[]}
 use native.Mathlib.Omega.{arith}
-use borrow.Author.Tests.{not-true, not-false}
 use lib.ListN.{length}
 use Rattle.model.proofs.GoodOrder.{ascends_sorted}
 use Rattle.inner.specs.Working.{working}
 use Rattle.inner.proofs.Ordering.{sorted_ordered}
-use borrow.Author.Rules.{rules}
 use Rattle.lookups.proofs.lookups_ids.Goals as goal
 
 pub returns-then-not-ascending : goal.returns-then-not-ascending

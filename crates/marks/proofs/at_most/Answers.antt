@@ -3,7 +3,6 @@ use mathlib.Core.Path.{◌∙◌}
 use lib.Signed.{le_z}
 use Rattle.model.specs.Conditions.{first_int}
 use Rattle.marks.proofs.Atoms.{ordered}
-use borrow.Author.Rules.{rules}
 use Rattle.marks.proofs.at_most.Goals as goal
 
 pub returns : goal.returns

@@ -3,7 +3,6 @@ use mathlib.Core.Path.{◌∙◌}
 use native.Mathlib.Omega.{arith}
 use Rattle.model.proofs.Octets.{octets}
 use Rattle.marks.proofs.Atoms.{id_atom_lem}
-use borrow.Author.Rules.{rules}
 use Rattle.marks.proofs.atom_of.Goals as goal
 
 pub put_bytes-requires : goal.put_bytes-requires

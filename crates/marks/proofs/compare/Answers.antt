@@ -2,7 +2,6 @@
 use mathlib.Core.Path.{sym, ap, ◌∙◌}
 use mathlib.Core.Bool.{not}
 use Rattle.marks.specs.Marks.{met}
-use borrow.Author.Rules.{rules}
 use Rattle.marks.proofs.compare.Goals as goal
 
 pub returns-in-Less : goal.returns-in-Less

@@ -4,7 +4,6 @@ use mathlib.Core.List.{[]}
 use native.Mathlib.Omega.{arith}
 use lib.ListN.{get_or, set}
 use lib.Seq.{set-get_or}
-use borrow.Author.Rules.{rules}
 use Rattle.marks.proofs.copy_row.Goals as goal
 
 pub returns-then-from-to : goal.returns-then-from-to

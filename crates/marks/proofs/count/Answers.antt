@@ -1,7 +1,7 @@
 -- `marks::count` meets its contract.
 use mathlib.Core.Path.{◌≡◌, refl, sym, ap, ◌∙◌}
 use mathlib.Core.Logic.{⊎_elim}
-use Prim.Native.Nat.{◌+◌, ◌-◌, ◌≤◌}
+use Prim.Native.Nat.{◌+◌}
 use native.Mathlib.Omega.{arith}
 use Rattle.marks.specs.Marks.{marked}
 use Rattle.marks.proofs.Marking.{marked_yes, marked_no}

@@ -1,10 +1,7 @@
 -- The loop of `marks::count`.
-use mathlib.Core.Path.{◌≡◌, refl, sym, ap, ◌∙◌}
-use mathlib.Core.Logic.{⊎_elim}
-use Prim.Native.Nat.{◌+◌, ◌-◌, ◌≤◌}
-use native.Mathlib.Omega.{arith}
+use mathlib.Core.Path.{◌≡◌}
+use Prim.Native.Nat.{◌-◌, ◌≤◌}
 use Rattle.marks.specs.Marks.{marked}
-use Rattle.marks.proofs.Marking.{marked_yes, marked_no}
 use Rattle.marks.proofs.count.Given as goal
 
 abbrev pub invariant-loop-i : goal.invariant-loop-i

@@ -1,19 +1,16 @@
 -- The loop of `marks::delete_rows`.
-use mathlib.Core.Path.{◌≡◌, refl, sym, ap, ◌∙◌}
-use mathlib.Core.Bool.{Bool, not, false}
-use mathlib.Core.List.{List, []}
-use mathlib.Core.Logic.{⊎_elim}
-use Prim.Native.Nat.{ℕ, ◌-◌, ◌≤◌, ◌<◌}
-use native.Mathlib.Omega.{arith}
-use lib.ListN.{length, take, get_or}
-use Rattle.model.specs.Areas.{row_from}
+use mathlib.Core.Path.{◌≡◌}
+use mathlib.Core.Bool.{not}
+use mathlib.Core.List.{List}
+use Prim.Native.Nat.{ℕ, ◌-◌, ◌≤◌}
+use lib.ListN.{take}
 use Rattle.model.specs.Base.{keep}
 use Rattle.model.specs.Schema.{Column, Schema, columns_of}
 use Rattle.model.specs.Rows.{Row}
 use Rattle.model.specs.Conditions.{Test, matches}
 use Rattle.inner.specs.Working.{working, Tidy}
 use Rattle.marks.specs.Marks.{MarkedRows}
-use Rattle.marks.proofs.Picking.{Partly, row_here, partly_out, partly_in, tidy_in, rows_in, rows_out}
+use Rattle.marks.proofs.Picking.{Partly}
 use Rattle.marks.proofs.delete_rows.Given as goal
 
 abbrev pub invariant-loop-i : goal.invariant-loop-i

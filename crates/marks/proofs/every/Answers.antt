@@ -1,11 +1,7 @@
 -- `marks::every` meets its contract.
-use mathlib.Core.Path.{◌≡◌, refl, sym, ap, ◌∙◌}
-use Prim.Native.Nat.{◌+◌, ◌-◌, ◌≤◌}
+use mathlib.Core.Path.{refl, sym, ◌∙◌}
 use native.Mathlib.Omega.{arith}
-use lib.ListN.{length, drop}
-use Rattle.marks.specs.Marks.{every}
 use Rattle.marks.proofs.Atoms.{differs, agrees, every_on, every_off, every_end}
-use borrow.Author.Rules.{rules}
 use Rattle.marks.proofs.every.Goals as goal
 
 pub loop-i-init : goal.loop-i-init

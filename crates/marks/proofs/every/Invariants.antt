@@ -1,11 +1,8 @@
 -- The loop of `marks::every`.
-use mathlib.Core.Path.{◌≡◌, refl, sym, ap, ◌∙◌}
-use Prim.Native.Nat.{◌+◌, ◌-◌, ◌≤◌}
-use native.Mathlib.Omega.{arith}
+use mathlib.Core.Path.{◌≡◌}
+use Prim.Native.Nat.{◌-◌, ◌≤◌}
 use lib.ListN.{length, drop}
 use Rattle.marks.specs.Marks.{every}
-use Rattle.marks.proofs.Atoms.{differs, agrees, every_on, every_off, every_end}
-use borrow.Author.Rules.{rules}
 use Rattle.marks.proofs.every.Given as goal
 
 abbrev pub invariant-loop-i : goal.invariant-loop-i

@@ -6,7 +6,6 @@ use native.Mathlib.Omega.{arith}
 use lib.ListN.{length, get_or}
 use Rattle.model.specs.Value.{blank, int_of}
 use Rattle.integers.specs.Ints.{as_int}
-use borrow.Author.Rules.{rules}
 use Rattle.marks.proofs.first_of.Goals as goal
 
 some : (xs : List (List ℕ)) → 0 < length xs → get_or xs 0 [] ≡ get_or xs 0 blank

@@ -1,14 +1,12 @@
 -- `marks::holds` meets its contract.
-use mathlib.Core.Path.{◌≡◌, refl, sym, ap, subst, ◌∙◌}
+use mathlib.Core.Path.{sym, ap, subst, ◌∙◌}
 use mathlib.Core.List.{[], ◌∷◌}
 use Prim.Native.Nat.{min}
-use native.Mathlib.Omega.{arith}
 use Rattle.model.specs.Octets.{value}
 use Rattle.model.specs.Value.{uuid_atom}
 use Rattle.inner.specs.Working.{id_in, value_in}
 use Rattle.marks.specs.Marks.{met, InRow, atoms_at}
 use Rattle.marks.proofs.Atoms.{elements_min}
-use borrow.Author.Rules.{rules}
 use Rattle.marks.proofs.holds.Goals as goal
 
 pub atoms_in-xs-requires : goal.atoms_in-xs-requires

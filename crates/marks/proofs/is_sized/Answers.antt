@@ -1,15 +1,12 @@
 -- `marks::is_sized` meets its contract.
-use mathlib.Core.Path.{◌≡◌, refl, sym, ap, ◌∙◌}
-use mathlib.Core.Bool.{true}
+use mathlib.Core.Path.{refl, ◌∙◌}
 use mathlib.Core.List.{List, []}
-use Prim.Native.Nat.{ℕ, ◌+◌, ◌-◌, ◌≤◌}
+use Prim.Native.Nat.{ℕ}
 use native.Mathlib.Omega.{arith}
 use lib.Dec.{eqb}
-use lib.ListN.{length, get_or, drop}
+use lib.ListN.{length, get_or}
 use borrow.Author.Tests.{eq-eqb}
-use Rattle.model.specs.Base.{all}
 use Rattle.marks.proofs.Atoms.{all_on, all_end}
-use borrow.Author.Rules.{rules}
 use Rattle.marks.proofs.is_sized.Goals as goal
 
 pub loop-i-init : goal.loop-i-init

@@ -1,15 +1,11 @@
 -- The loop of `marks::is_sized`.
-use mathlib.Core.Path.{◌≡◌, refl, sym, ap, ◌∙◌}
+use mathlib.Core.Path.{◌≡◌}
 use mathlib.Core.Bool.{true}
-use mathlib.Core.List.{List, []}
-use Prim.Native.Nat.{ℕ, ◌+◌, ◌-◌, ◌≤◌}
-use native.Mathlib.Omega.{arith}
+use mathlib.Core.List.{List}
+use Prim.Native.Nat.{ℕ, ◌-◌, ◌≤◌}
 use lib.Dec.{eqb}
-use lib.ListN.{length, get_or, drop}
-use borrow.Author.Tests.{eq-eqb}
+use lib.ListN.{length, drop}
 use Rattle.model.specs.Base.{all}
-use Rattle.marks.proofs.Atoms.{all_on, all_end}
-use borrow.Author.Rules.{rules}
 use Rattle.marks.proofs.is_sized.Given as goal
 
 abbrev pub invariant-loop-i : goal.invariant-loop-i

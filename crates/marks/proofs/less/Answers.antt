@@ -3,7 +3,6 @@ use mathlib.Core.Path.{◌∙◌}
 use lib.Signed.{lt_z}
 use Rattle.model.specs.Conditions.{first_int}
 use Rattle.marks.proofs.Atoms.{ordered}
-use borrow.Author.Rules.{rules}
 use Rattle.marks.proofs.less.Goals as goal
 
 pub returns : goal.returns

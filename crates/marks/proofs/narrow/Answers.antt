@@ -1,12 +1,7 @@
 -- `marks::narrow` meets its contract.
-use mathlib.Core.Path.{◌≡◌, refl, sym, ap, ◌∙◌}
 use mathlib.Core.Logic.{⊎_elim}
-use Prim.Native.Nat.{◌+◌, ◌-◌, ◌≤◌}
 use native.Mathlib.Omega.{arith}
-use lib.ListN.{length}
-use Rattle.marks.specs.Marks.{met, atoms_at}
-use Rattle.marks.proofs.Marking.{Narrowing, narrowing_none, narrowing_set, narrowing_keep, narrowing_end}
-use borrow.Author.Rules.{rules}
+use Rattle.marks.proofs.Marking.{narrowing_none, narrowing_set, narrowing_keep, narrowing_end}
 use Rattle.marks.proofs.narrow.Goals as goal
 
 pub loop-i-init : goal.loop-i-init

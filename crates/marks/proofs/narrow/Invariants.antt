@@ -1,12 +1,8 @@
 -- The loop of `marks::narrow`.
-use mathlib.Core.Path.{◌≡◌, refl, sym, ap, ◌∙◌}
-use mathlib.Core.Logic.{⊎_elim}
-use Prim.Native.Nat.{◌+◌, ◌-◌, ◌≤◌}
-use native.Mathlib.Omega.{arith}
+use Prim.Native.Nat.{◌-◌, ◌≤◌}
 use lib.ListN.{length}
 use Rattle.marks.specs.Marks.{met, atoms_at}
-use Rattle.marks.proofs.Marking.{Narrowing, narrowing_none, narrowing_set, narrowing_keep, narrowing_end}
-use borrow.Author.Rules.{rules}
+use Rattle.marks.proofs.Marking.{Narrowing}
 use Rattle.marks.proofs.narrow.Given as goal
 
 abbrev pub invariant-loop-i : goal.invariant-loop-i

@@ -1,15 +1,12 @@
 -- `marks::narrow_all` meets its contract.
-use mathlib.Core.Path.{◌≡◌, refl, sym, ap, ◌∙◌}
-use mathlib.Core.Bool.{Bool, ◌&&◌}
-use mathlib.Core.List.{List, []}
+use mathlib.Core.Path.{sym, ap, ◌∙◌}
+use mathlib.Core.Bool.{◌&&◌}
+use mathlib.Core.List.{[]}
 use mathlib.Core.Logic.{⊎_elim}
-use Prim.Native.Nat.{ℕ, ◌+◌, ◌-◌, ◌≤◌}
 use native.Mathlib.Omega.{arith}
-use lib.ListN.{length, get_or}
-use Rattle.marks.specs.Marks.{atoms_at, Sized}
+use lib.ListN.{get_or}
 use Rattle.marks.proofs.Atoms.{and_true}
-use Rattle.marks.proofs.Marking.{Narrowing, narrowing_none, narrowing_set, narrowing_keep, narrowing_end}
-use borrow.Author.Rules.{rules}
+use Rattle.marks.proofs.Marking.{narrowing_none, narrowing_set, narrowing_keep, narrowing_end}
 use Rattle.marks.proofs.narrow_all.Goals as goal
 
 pub loop-i-init : goal.loop-i-init

@@ -1,13 +1,9 @@
 -- `marks::of_table` meets its contract.
-use mathlib.Core.Path.{◌≡◌, refl, sym, ap, ◌∙◌}
-use Prim.Native.Nat.{◌+◌, ◌-◌, ◌≤◌}
+use mathlib.Core.Path.{refl, ap}
 use native.Mathlib.Omega.{arith}
 use lib.Dec.{eqb}
-use lib.ListN.{length}
-use Rattle.inner.specs.Working.{table_in}
 use Rattle.marks.specs.Marks.{OfTable}
-use Rattle.marks.proofs.Marking.{Marking, marking_on}
-use borrow.Author.Rules.{rules}
+use Rattle.marks.proofs.Marking.{marking_on}
 use Rattle.marks.proofs.of_table.Goals as goal
 
 pub loop-i-init : goal.loop-i-init

@@ -1,5 +1,5 @@
 -- `marks::sized_at` meets its contract.
-use mathlib.Core.Path.{◌≡◌, refl, sym, ap, subst, ◌∙◌}
+use mathlib.Core.Path.{sym, ap, subst, ◌∙◌}
 use mathlib.Core.List.{[], ◌∷◌}
 use Prim.Native.Nat.{min}
 use native.Mathlib.Omega.{arith}
@@ -8,7 +8,6 @@ use Rattle.model.specs.Value.{uuid_atom}
 use Rattle.inner.specs.Working.{id_in, value_in}
 use Rattle.marks.specs.Marks.{InRow, atoms_at, Sized}
 use Rattle.marks.proofs.Atoms.{elements_min}
-use borrow.Author.Rules.{rules}
 use Rattle.marks.proofs.sized_at.Goals as goal
 
 pub atoms_in-xs-requires : goal.atoms_in-xs-requires

@@ -2,7 +2,6 @@
 use mathlib.Core.Path.{sym, ap, ◌∙◌}
 use Rattle.members.proofs.Slotted.{at_some, choice_none}
 use Rattle.members.specs.Fields.{words_of, choice}
-use borrow.Author.Rules.{rules}
 use Rattle.members.proofs.choice_in.Goals as goal
 
 pub returns-then-p-eq0 : goal.returns-then-p-eq0

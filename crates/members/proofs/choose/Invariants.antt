@@ -1,14 +1,9 @@
 -- The loop of `members::choose`.
-use Prim.Native.Nat.{◌+◌, ◌-◌, ◌≤◌}
-use mathlib.Core.Path.{◌≡◌, sym, ◌∙◌}
-use native.Mathlib.Omega.{arith}
-use native.Mathlib.Nat.{sub-zero}
-use lib.ListN.{length, drop}
+use Prim.Native.Nat.{◌-◌, ◌≤◌}
+use mathlib.Core.Path.{◌≡◌}
+use lib.ListN.{drop}
 use Rattle.inner.specs.Positions.{tree_at}
-use Rattle.text.proofs.Words.{place_tree, place_none, word_not, word_text}
 use Rattle.members.specs.Fields.{words_from, words_of, choice_from, choice}
-use Rattle.members.proofs.Choices.{choice_none, words_end, words_spent, words_short, words_here, words_next}
-use borrow.Author.Rules.{rules}
 use Rattle.members.proofs.choose.Given as goal
 
 abbrev pub invariant-loop-k : goal.invariant-loop-k

@@ -3,7 +3,6 @@ use mathlib.Core.Path.{sym, ap, ◌∙◌}
 use Rattle.model.specs.Nav.{is_object}
 use Rattle.members.specs.Fields.{words_of}
 use Rattle.members.proofs.Kept.{slots_object, slots_bare}
-use borrow.Author.Rules.{rules}
 use Rattle.members.proofs.fields_or.Goals as goal
 
 pub returns-then-o : goal.returns-then-o

@@ -2,7 +2,6 @@
 use mathlib.Core.Path.{sym, ap, ◌∙◌}
 use Rattle.members.proofs.Slotted.{at_some, kind_none}
 use Rattle.model.specs.Nav.{kind_of}
-use borrow.Author.Rules.{rules}
 use Rattle.members.proofs.kind_in.Goals as goal
 
 pub returns-then-p-eq0 : goal.returns-then-p-eq0

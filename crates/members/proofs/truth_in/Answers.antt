@@ -2,7 +2,6 @@
 use mathlib.Core.Path.{sym, ap, ◌∙◌}
 use Rattle.members.proofs.Slotted.{slot_truth, slot_default}
 use Rattle.model.specs.Nav.{is_truth}
-use borrow.Author.Rules.{rules}
 use Rattle.members.proofs.truth_in.Goals as goal
 
 pub returns-then-t : goal.returns-then-t

@@ -1,7 +1,6 @@
 -- `mirror::column` meets its contract.
 use mathlib.Core.Path.{sym, ◌∙◌}
 use native.Mathlib.Omega.{arith}
-use borrow.Author.Tests.{not-true, not-false}
 use lib.ListN.{length}
 use Rattle.model.specs.Calls.{no_contents, contents_of}
 use Rattle.mirror.proofs.Opening.{state_bad, state_good, held_ordered}

@@ -1,12 +1,10 @@
 -- `mirror::has_row` meets its contract.
 use mathlib.Core.Path.{sym, ap, ◌∙◌}
-use borrow.Author.Tests.{not-true, not-false}
 use Rattle.model.specs.Catalog.{packed_tables}
 use Rattle.model.specs.Calls.{no_presence, presence_of, mirror_has_row}
 use Rattle.mirror.proofs.Opening.{state_bad, state_good, held_ordered}
 use Rattle.mirror.proofs.Asking.{presence_in, there_is, ask_other, ask_bad, ask_good}
 use Rattle.mirror.proofs.Numbered.{row_numbered}
-use borrow.Author.Rules.{rules}
 use Rattle.mirror.proofs.has_row.Goals as goal
 
 pub returns-then-area-ne-MIRROR_BYTES : goal.returns-then-area-ne-MIRROR_BYTES

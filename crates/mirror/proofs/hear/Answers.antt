@@ -1,6 +1,5 @@
 -- `mirror::hear` meets its contract.
 use native.Mathlib.Omega.{arith}
-use borrow.Author.Tests.{not-true, not-false}
 use Rattle.model.proofs.Octets.{octets}
 use Rattle.mirror.proofs.Opening.{state_bad, state_good, held_ordered}
 use Rattle.mirror.proofs.Hearing.{hear_other, hear_bad, hear_got}

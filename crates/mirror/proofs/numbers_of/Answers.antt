@@ -3,7 +3,6 @@ use lib.Dec.{eqb}
 use lib.ListN.{get_or}
 use Rattle.model.specs.Limits.{heard_offset, whole_offset}
 use Rattle.mirror.specs.Held.{numbers_in}
-use borrow.Author.Rules.{rules}
 use Rattle.mirror.proofs.numbers_of.Goals as goal
 
 pub returns : goal.returns

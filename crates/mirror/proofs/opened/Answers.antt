@@ -3,7 +3,6 @@ use mathlib.Core.Path.{sym, ◌∙◌}
 use mathlib.Core.List.{[]}
 use native.Mathlib.Omega.{arith}
 use borrow.Author.Rules.{rules}
-use borrow.Author.Tests.{not-true, not-false}
 use Rattle.model.proofs.Octets.{octets}
 use Rattle.mirror.proofs.Opening.{open_refused, catalog_accepted, open_bad, open_good}
 use Rattle.mirror.proofs.opened.Goals as goal

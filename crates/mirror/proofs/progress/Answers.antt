@@ -1,11 +1,9 @@
 -- `mirror::progress` meets its contract.
 use mathlib.Core.Path.{sym, ap, ◌∙◌}
-use borrow.Author.Tests.{not-true, not-false}
 use Rattle.model.specs.Calls.{no_progress, progress_of, mirror_progress}
 use Rattle.mirror.proofs.Opening.{state_bad, state_good}
 use Rattle.mirror.proofs.Asking.{progress_is, progress_in, ask_other, ask_bad, ask_good}
 use Rattle.mirror.proofs.Numbered.{progress_numbered}
-use borrow.Author.Rules.{rules}
 use Rattle.mirror.proofs.progress.Goals as goal
 
 pub returns-then-area-ne-MIRROR_BYTES : goal.returns-then-area-ne-MIRROR_BYTES

@@ -1,6 +1,5 @@
 -- `mirror::rewrite` meets its contract.
 use Rattle.mirror.proofs.Hearing.{rewrite_all, rewrite_none, rewrite_own}
-use borrow.Author.Rules.{rules}
 use Rattle.mirror.proofs.rewrite.Goals as goal
 
 pub returns-then-is-was : goal.returns-then-is-was

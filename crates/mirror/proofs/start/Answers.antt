@@ -1,7 +1,5 @@
 -- `mirror::start` meets its contract.
-use mathlib.Core.Path.{◌≡◌, sym, ◌∙◌}
 use native.Mathlib.Omega.{arith}
-use borrow.Author.Tests.{not-true, not-false}
 use Rattle.mirror.proofs.Starting.{start_other, start_refused, start_is}
 use Rattle.mirror.proofs.Numbered.{start_numbered}
 use borrow.Author.Rules.{rules}

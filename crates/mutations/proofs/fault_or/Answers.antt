@@ -2,7 +2,6 @@
 use mathlib.Core.Path.{sym, ap, ◌∙◌}
 use mathlib.Core.Bool.{Bool, true, false}
 use Rattle.mutations.specs.Mutating.{fault_or}
-use borrow.Author.Rules.{rules}
 use Rattle.mutations.proofs.fault_or.Goals as goal
 
 pub returns-then-is_fine : goal.returns-then-is_fine

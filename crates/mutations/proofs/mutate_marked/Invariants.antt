@@ -1,16 +1,10 @@
 -- The loop of `mutations::mutate_marked`.
-use mathlib.Core.Path.{sym, ◌∙◌}
 use mathlib.Core.List.{map}
-use mathlib.Core.Logic.{⊎_elim}
 use Prim.Native.Nat.{◌-◌, ◌≤◌}
-use native.Mathlib.Omega.{arith}
-use borrow.Author.Tests.{not-true, not-false}
-use lib.ListN.{length, length-set}
+use lib.ListN.{length}
 use Rattle.model.specs.Catalog.{column_from}
 use Rattle.mutations.specs.Mutating.{mutation_from}
 use Rattle.mutations.specs.Rows.{SteppedTo}
-use Rattle.mutations.proofs.Rowwise.{stepped_none, stepped_by, stepped_on, marked_stop, marked_end}
-use borrow.Author.Rules.{rules}
 use Rattle.mutations.proofs.mutate_marked.Given as goal
 
 abbrev pub invariant-loop-i : goal.invariant-loop-i

@@ -7,16 +7,14 @@ use Prim.Native.Nat.{◌≤◌}
 use native.Mathlib.Omega.{arith}
 use lib.ListN.{length}
 use lib.Seq.{length-take-le}
-use Rattle.inner.specs.Positions.{items_fine, left}
-use Rattle.model.specs.Faults.{is_fine, earlier, Judged}
+use Rattle.model.specs.Faults.{is_fine, Judged}
 use Rattle.model.specs.Mutations.{Mutation}
 use Rattle.model.specs.Catalog.{column_from}
 use Rattle.model.proofs.FaultLaws.{earlier_first, earlier_fine}
 use Rattle.nav.proofs.Walk.{walk_fine, walk_less}
 use Rattle.mutations.specs.Mutating.{mutation_at, mutations_at}
 use Rattle.mutations.proofs.Faulty.{got_on, mutations_end, worst_on, worst_end}
-use Rattle.mutations.proofs.Rowwise.{Walked, walked_none, walked_on, walked_by, mutated}
-use borrow.Author.Rules.{rules}
+use Rattle.mutations.proofs.Rowwise.{walked_none, walked_on, walked_by, mutated}
 use Rattle.mutations.proofs.mutate_rows.Goals as goal
 
 pub loop-g-init : goal.loop-g-init

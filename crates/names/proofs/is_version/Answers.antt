@@ -1,12 +1,9 @@
 -- `names::is_version` meets its contract.
-use borrow.Author.Rules.{rules}
-use mathlib.Core.Path.{◌≡◌, refl, sym, ◌∙◌}
+use mathlib.Core.Path.{refl, sym, ◌∙◌}
 use mathlib.Core.Logic.{⊎_elim}
-use Prim.Native.Nat.{◌≤◌, ◌-◌}
 use native.Mathlib.Omega.{arith}
 use borrow.Author.Tests.{eq-eqb, ne_eqb}
-use lib.ListN.{length, drop}
-use Rattle.model.specs.SchemaText.{is_version, version_from}
+use Rattle.model.specs.SchemaText.{is_version}
 use Rattle.names.proofs.Versions.{version_digit, version_dot, version_byte, version_spent, version_unseen, version_end, and_all, and_none}
 use Rattle.names.proofs.is_version.Goals as goal
 

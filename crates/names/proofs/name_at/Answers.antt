@@ -8,7 +8,6 @@ use Rattle.model.specs.Nav.{kind_of, is_text}
 use Rattle.inner.specs.Positions.{tree_at}
 use Rattle.text.proofs.Words.{place_text, place_none}
 use Rattle.names.proofs.Cells.{name_none, name_long, name_short}
-use borrow.Author.Rules.{rules}
 use Rattle.names.proofs.name_at.Goals as goal
 
 pub returns-in_default : goal.returns-in_default

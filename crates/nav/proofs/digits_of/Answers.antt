@@ -4,7 +4,7 @@ use mathlib.Core.Path.{◌≡◌, refl, sym, ap, ◌∙◌}
 use native.Mathlib.Omega.{arith}
 use borrow.Author.Tests.{lt-ltb, le-ltb}
 use Rattle.model.specs.Whole.{sized}
-use Rattle.model.specs.Scan.{byte, between, is_digit}
+use Rattle.model.specs.Scan.{byte, is_digit}
 use Rattle.nav.proofs.Numbers.{between_more, between_none, sized_large, sized_digit, sized_other}
 use Rattle.nav.proofs.digits_of.Goals as goal
 

@@ -1,9 +1,8 @@
 -- `nav::end_of` meets its contract.
 use mathlib.Core.Path.{sym, ap, ◌∙◌}
-use mathlib.Core.Logic.{◌⊎◌, ⊎_elim}
+use mathlib.Core.Logic.{⊎_elim}
 use Rattle.model.specs.declared.Read.TheVariants.{End}
 use Rattle.inner.specs.Positions.{Says}
-use borrow.Author.Rules.{rules}
 use Rattle.nav.proofs.end_of.Goals as goal
 
 pub returns : goal.returns

@@ -4,7 +4,6 @@ use native.Mathlib.Omega.{arith}
 use borrow.Author.Tests.{ne_eqb, eq-eqb}
 use Rattle.scan.proofs.Bytes.{inside_byte}
 use Rattle.inner.specs.Positions.{first_of, first_from}
-use borrow.Author.Rules.{rules}
 use Rattle.nav.proofs.first.Goals as goal
 
 pub overflow_add-i : goal.overflow_add-i

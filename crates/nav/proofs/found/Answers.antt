@@ -1,6 +1,5 @@
 -- `nav::found` meets its contract.
 use Rattle.inner.specs.Positions.{found_of}
-use borrow.Author.Rules.{rules}
 use Rattle.nav.proofs.found.Goals as goal
 
 pub returns-in-More : goal.returns-in-More

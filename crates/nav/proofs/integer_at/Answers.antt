@@ -7,7 +7,6 @@ use Rattle.inner.specs.Positions.{is_number, tree_at}
 use Rattle.scan.proofs.Ends.{no_end}
 use Rattle.nav.proofs.FirstByte.{end_le, number_is, number_not}
 use Rattle.nav.proofs.Numbers.{number_kind, whole_not, whole_num, whole_none}
-use borrow.Author.Rules.{rules}
 use Rattle.nav.proofs.integer_at.Goals as goal
 
 pub returns-in_default : goal.returns-in_default

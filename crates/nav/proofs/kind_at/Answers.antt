@@ -1,10 +1,8 @@
 -- `nav::kind_at` meets its contract.
-use Prim.Native.Nat.{◌-◌}
 use mathlib.Core.Path.{sym, ap, ◌∙◌}
 use Rattle.inner.specs.Positions.{kind_by}
 use Rattle.model.specs.Scan.{byte}
 use Rattle.nav.proofs.FirstByte.{kind_is}
-use borrow.Author.Rules.{rules}
 use Rattle.nav.proofs.kind_at.Goals as goal
 
 pub returns : goal.returns

@@ -1,5 +1,4 @@
 -- `nav::kind_by` meets its contract.
-use Prim.Native.Nat.{◌-◌}
 use borrow.Author.Tests.{ne_eqb}
 use Rattle.inner.specs.Positions.{kind_by}
 use Rattle.nav.proofs.kind_by.Goals as goal

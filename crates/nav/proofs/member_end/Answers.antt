@@ -2,7 +2,6 @@
 use Rattle.model.specs.Scan.{and_then}
 use Rattle.model.specs.Json.{member_at}
 use Rattle.scan.proofs.Ends.{then_not}
-use borrow.Author.Rules.{rules}
 use Rattle.nav.proofs.member_end.Goals as goal
 
 pub returns-in_default : goal.returns-in_default

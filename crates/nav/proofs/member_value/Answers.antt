@@ -1,9 +1,7 @@
 -- `nav::member_value` meets its contract.
 use mathlib.Core.Path.{sym, ap}
 use mathlib.Core.Logic.{⊎_elim}
-use Rattle.model.specs.declared.Read.{Read}
 use Rattle.model.specs.Scan.{end_or}
-use borrow.Author.Rules.{rules}
 use Rattle.nav.proofs.member_value.Goals as goal
 
 pub returns-then-v-ne0 : goal.returns-then-v-ne0

@@ -1,8 +1,6 @@
 -- `nav::minus` meets its contract.
-use Prim.Native.Nat.{◌-◌}
 use borrow.Author.Tests.{ne_eqb}
 use Rattle.model.specs.Whole.{minus_of}
-use borrow.Author.Rules.{rules}
 use Rattle.nav.proofs.minus.Goals as goal
 
 pub returns-then-m-eq0 : goal.returns-then-m-eq0

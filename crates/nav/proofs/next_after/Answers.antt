@@ -4,7 +4,6 @@ use native.Mathlib.Omega.{arith}
 use borrow.Author.Tests.{ne_eqb, eq-eqb}
 use Rattle.scan.proofs.Bytes.{inside_byte}
 use Rattle.nav.specs.Known.{next_after}
-use borrow.Author.Rules.{rules}
 use Rattle.nav.proofs.next_after.Goals as goal
 
 pub overflow_add-result : goal.overflow_add-result

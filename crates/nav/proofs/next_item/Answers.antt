@@ -3,7 +3,6 @@ use mathlib.Core.Path.{ap, ◌∙◌}
 use Rattle.inner.specs.Positions.{next_item, found_of}
 use Rattle.model.specs.Json.{after_item}
 use Rattle.nav.proofs.Known.{next_is, end_known}
-use borrow.Author.Rules.{rules}
 use Rattle.nav.proofs.next_item.Goals as goal
 
 pub returns-then-e-eq0 : goal.returns-then-e-eq0

@@ -7,7 +7,6 @@ use Rattle.inner.specs.Positions.{next_member, found_of}
 use Rattle.model.specs.Json.{after_item}
 use Rattle.model.proofs.Tests.{or_l, or_r}
 use Rattle.nav.proofs.Known.{next_is, member_known}
-use borrow.Author.Rules.{rules}
 use Rattle.nav.proofs.next_member.Goals as goal
 
 pub returns-then-v-e : goal.returns-then-v-e

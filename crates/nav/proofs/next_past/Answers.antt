@@ -2,7 +2,6 @@
 use mathlib.Core.Path.{◌∙◌}
 use Rattle.inner.specs.Positions.{next_member}
 use Rattle.nav.proofs.Known.{next_is, member_known}
-use borrow.Author.Rules.{rules}
 use Rattle.nav.proofs.next_past.Goals as goal
 
 pub returns : goal.returns

@@ -1,8 +1,6 @@
 -- `nav::plus` meets its contract.
-use Prim.Native.Nat.{◌-◌}
 use borrow.Author.Tests.{lt-ltb, le-ltb}
 use Rattle.model.specs.Whole.{plus_of}
-use borrow.Author.Rules.{rules}
 use Rattle.nav.proofs.plus.Goals as goal
 
 pub returns-then-m-lt9223372036854775808 : goal.returns-then-m-lt9223372036854775808

@@ -3,7 +3,6 @@ use mathlib.Core.Path.{sym, ap, ◌∙◌}
 use lib.Dec.{eqb}
 use Rattle.model.specs.Scan.{byte}
 use Rattle.nav.proofs.FirstByte.{true_is}
-use borrow.Author.Rules.{rules}
 use Rattle.nav.proofs.truth_at.Goals as goal
 
 pub returns : goal.returns

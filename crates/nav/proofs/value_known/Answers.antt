@@ -11,7 +11,6 @@ use Rattle.model.specs.Scan.{byte}
 use Rattle.model.proofs.Tests.{or_l, or_r}
 use Rattle.scan.proofs.Bytes.{inside_byte}
 use Rattle.nav.proofs.Known.{key_known}
-use borrow.Author.Rules.{rules}
 use Rattle.nav.proofs.value_known.Goals as goal
 
 pub returns-then-e-b : goal.returns-then-e-b

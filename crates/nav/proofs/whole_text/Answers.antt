@@ -1,9 +1,7 @@
 -- `nav::whole_text` meets its contract.
-use Prim.Native.Nat.{◌-◌}
 use mathlib.Core.Path.{sym, ap, ◌∙◌}
 use Rattle.model.specs.Whole.{plus_of, minus_of}
 use Rattle.nav.proofs.Numbers.{text_none, text_minus, text_plus}
-use borrow.Author.Rules.{rules}
 use Rattle.nav.proofs.whole_text.Goals as goal
 
 pub returns-then-end-at : goal.returns-then-end-at

@@ -2,7 +2,6 @@
 use native.Mathlib.Omega.{arith}
 use Rattle.model.specs.Whole.{whole_int}
 use Rattle.octets.proofs.Orders.{twos_minus}
-use borrow.Author.Rules.{rules}
 use Rattle.octets.proofs.bits.Goals as goal
 
 pub returns-then-m-eq0 : goal.returns-then-m-eq0

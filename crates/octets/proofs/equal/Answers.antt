@@ -1,9 +1,6 @@
 -- `octets::equal` meets its contract.
-use mathlib.Core.Path.{◌≡◌, refl, sym, ◌∙◌}
-use Prim.Native.Nat.{◌-◌, ◌≤◌}
+use mathlib.Core.Path.{refl, sym, ◌∙◌}
 use native.Mathlib.Omega.{arith}
-use lib.ListN.{length, drop}
-use Rattle.model.specs.Octets.{eq_bytes}
 use Rattle.octets.proofs.Orders.{eq_length, eq_on, eq_off, eq_end}
 use Rattle.octets.proofs.equal.Goals as goal
 

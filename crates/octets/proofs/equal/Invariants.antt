@@ -1,10 +1,8 @@
 -- The loop of `octets::equal`.
-use mathlib.Core.Path.{◌≡◌, refl, sym, ◌∙◌}
+use mathlib.Core.Path.{◌≡◌}
 use Prim.Native.Nat.{◌-◌, ◌≤◌}
-use native.Mathlib.Omega.{arith}
 use lib.ListN.{length, drop}
 use Rattle.model.specs.Octets.{eq_bytes}
-use Rattle.octets.proofs.Orders.{eq_length, eq_on, eq_off, eq_end}
 use Rattle.octets.proofs.equal.Given as goal
 
 abbrev pub invariant-loop-i : goal.invariant-loop-i

@@ -1,9 +1,6 @@
 -- `octets::less` meets its contract.
-use mathlib.Core.Path.{◌≡◌, refl, sym, ◌∙◌}
-use Prim.Native.Nat.{◌-◌, ◌≤◌}
+use mathlib.Core.Path.{refl, sym, ◌∙◌}
 use native.Mathlib.Omega.{arith}
-use lib.ListN.{length, drop}
-use Rattle.model.specs.Octets.{lt_bytes}
 use Rattle.octets.proofs.Orders.{lt_yes, lt_no, lt_on, lt_past, lt_rest}
 use Rattle.octets.proofs.less.Goals as goal
 

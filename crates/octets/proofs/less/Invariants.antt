@@ -1,10 +1,8 @@
 -- The loop of `octets::less`.
-use mathlib.Core.Path.{◌≡◌, refl, sym, ◌∙◌}
+use mathlib.Core.Path.{◌≡◌}
 use Prim.Native.Nat.{◌-◌, ◌≤◌}
-use native.Mathlib.Omega.{arith}
 use lib.ListN.{length, drop}
 use Rattle.model.specs.Octets.{lt_bytes}
-use Rattle.octets.proofs.Orders.{lt_yes, lt_no, lt_on, lt_past, lt_rest}
 use Rattle.octets.proofs.less.Given as goal
 
 abbrev pub invariant-loop-i : goal.invariant-loop-i

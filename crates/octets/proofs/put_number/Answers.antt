@@ -1,10 +1,10 @@
 -- `octets::put_number` meets its contract.
 use mathlib.Core.Path.{◌≡◌, refl, sym, ap, ◌∙◌}
 use mathlib.Core.List.{◌++◌}
-use Prim.Native.Nat.{ℕ, ◌-◌, ◌/◌, ◌^◌, ◌≤◌}
+use Prim.Native.Nat.{ℕ, ◌-◌, ◌/◌, ◌^◌}
 use native.Mathlib.Nat.{sub_self, sub-zero, div-one}
 use native.Mathlib.Omega.{arith}
-use lib.ListN.{length, take, drop, length-set, take-append-drop}
+use lib.ListN.{take, drop, length-set, take-append-drop}
 use Rattle.model.specs.Octets.{big}
 use Rattle.octets.proofs.Laws.{turn}
 use Rattle.octets.proofs.put_number.Goals as goal

@@ -1,7 +1,6 @@
 -- `operations::may_change` meets its contract.
 use mathlib.Core.Path.{sym, ap}
 use Rattle.operations.specs.Ran.{may_change}
-use borrow.Author.Rules.{rules}
 use Rattle.operations.proofs.may_change.Goals as goal
 
 pub returns-in-Count : goal.returns-in-Count

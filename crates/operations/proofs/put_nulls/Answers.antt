@@ -1,16 +1,10 @@
 -- `operations::put_nulls` meets its contract.
-use Prim.Native.Nat.{◌+◌, ◌*◌, ◌≤◌}
-use mathlib.Core.Path.{◌≡◌, refl, ap, ◌∙◌}
-use mathlib.Core.Bool.{true, false}
+use mathlib.Core.Path.{refl, ap, ◌∙◌}
 use native.Mathlib.Omega.{arith}
 use lib.ListN.{length}
-use Rattle.inner.specs.Positions.{items_from, items_fine, left}
-use Rattle.json_writer.specs.Texts.{joined}
-use Rattle.json_writer.proofs.Putting.{Due, due_all, due_is, due_next, due_none}
+use Rattle.json_writer.proofs.Putting.{due_all, due_is, due_next, due_none}
 use Rattle.nav.proofs.Walk.{walk_rest, walk_fine, walk_less}
-use Rattle.operations.specs.Running.{nulls_from}
 use Rattle.operations.proofs.Nulls.{nulls_next, nulls_end}
-use borrow.Author.Rules.{rules}
 use Rattle.operations.proofs.put_nulls.Goals as goal
 
 pub loop-h-init : goal.loop-h-init

@@ -1,7 +1,6 @@
 -- `operations::put_result` meets its contract.
 use Rattle.fresh.specs.Fresh.{fresh_at}
 use Rattle.operations.proofs.Results.{result_empty, result_count, result_id, result_rows}
-use borrow.Author.Rules.{rules}
 use Rattle.operations.proofs.put_result.Goals as goal
 
 pub returns-in-Empty : goal.returns-in-Empty

@@ -1,13 +1,12 @@
 -- `operations::run` meets its contract.
 use Prim.Native.Nat.{◌≤◌}
-use mathlib.Core.Path.{◌≡◌, refl, sym, ap, ◌∙◌}
+use mathlib.Core.Path.{refl, sym, ap, ◌∙◌}
 use native.Mathlib.Omega.{arith}
 use lib.ListN.{length}
-use Rattle.inner.specs.Positions.{left, well_at}
+use Rattle.inner.specs.Positions.{well_at}
 use Rattle.catalog.proofs.Laws.{few_tables}
 use Rattle.nav.proofs.Walk.{walk_rest, walk_fine, walk_less}
-use Rattle.operations.proofs.Going.{Going, going_start, going_end, going_more, going_on, going_stop}
-use borrow.Author.Rules.{rules}
+use Rattle.operations.proofs.Going.{going_start, going_end, going_more, going_on, going_stop}
 use Rattle.operations.proofs.run.Goals as goal
 
 pub loop-g-init : goal.loop-g-init
@@ -36,7 +35,8 @@ operate-d-requires c =
     let v = c.loop-g.invariant in
     let h = c.in-At.is in
     let e = c.read-call.ensures in
-    record { begun = record {
+    record {
+      begun = record {
         running = c.requires.running;
         accepted = c.requires.accepted;
         well = ap (well_at c.args.text.now) e.at ∙ (walk_fine c.args.text.now h v.2.fine).0;
@@ -44,7 +44,9 @@ operate-d-requires c =
         here = e.here;
         count = omega (arith, e.count, v.2.few);
         room = λ j low few. v.2.room j (omega (arith, low, e.count, ap length (walk_rest c.args.text.now h))) few;
-      }; result_most_bound = omega (arith, short) }
+      };
+      result_most_bound = omega (arith, short);
+    }
 
 pub next_item-g-requires : goal.next_item-g-requires
 next_item-g-requires c = c.requires.running.says

@@ -1,13 +1,8 @@
 -- The loop of `operations::run`.
-use Prim.Native.Nat.{◌≤◌}
-use mathlib.Core.Path.{◌≡◌, refl, sym, ap, ◌∙◌}
-use native.Mathlib.Omega.{arith}
+use mathlib.Core.Path.{◌≡◌}
 use lib.ListN.{length}
-use Rattle.inner.specs.Positions.{left, well_at}
-use Rattle.catalog.proofs.Laws.{few_tables}
-use Rattle.nav.proofs.Walk.{walk_rest, walk_fine, walk_less}
-use Rattle.operations.proofs.Going.{Going, going_start, going_end, going_more, going_on, going_stop}
-use borrow.Author.Rules.{rules}
+use Rattle.inner.specs.Positions.{left}
+use Rattle.operations.proofs.Going.{Going}
 use Rattle.operations.proofs.run.Given as goal
 
 abbrev pub invariant-loop-g : goal.invariant-loop-g

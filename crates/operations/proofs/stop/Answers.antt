@@ -2,7 +2,6 @@
 use mathlib.Core.Path.{refl}
 use native.Mathlib.Omega.{arith}
 use Rattle.json_writer.proofs.Putting.{put_then}
-use borrow.Author.Rules.{rules}
 use Rattle.operations.proofs.stop.Goals as goal
 
 pub put_nulls-end-requires : goal.put_nulls-end-requires

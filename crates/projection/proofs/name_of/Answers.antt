@@ -2,7 +2,6 @@
 use mathlib.Core.Path.{ap}
 use native.Mathlib.Omega.{arith}
 use lib.ListN.{length, drop, get_or, length-take, length-drop}
-use borrow.Author.Rules.{rules}
 use Rattle.projection.proofs.name_of.Goals as goal
 
 pub returns : goal.returns

@@ -8,7 +8,6 @@ use Rattle.model.specs.Catalog.{entry_name}
 use Rattle.json_writer.specs.Texts.{set_text}
 use Rattle.projection.specs.Shown.{name_text}
 use Rattle.projection.proofs.Columns.{column_is}
-use borrow.Author.Rules.{rules}
 use Rattle.projection.proofs.put_column.Goals as goal
 
 pub returns : goal.returns

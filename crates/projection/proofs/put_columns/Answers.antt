@@ -1,10 +1,9 @@
 -- `projection::put_columns` meets its contract.
 use mathlib.Core.Path.{◌≡◌, refl, ap, ◌∙◌}
-use Prim.Native.Nat.{ℕ, ◌+◌, ◌*◌, ◌-◌, ◌≤◌}
+use Prim.Native.Nat.{ℕ, ◌-◌}
 use native.Mathlib.Omega.{arith}
-use lib.ListN.{length}
 use Rattle.json_writer.specs.Texts.{joined}
-use Rattle.json_writer.proofs.Putting.{Due, due_all, due_is, due_next, due_none}
+use Rattle.json_writer.proofs.Putting.{due_all, due_is, due_next, due_none}
 use Rattle.projection.specs.Shown.{shown_from}
 use Rattle.projection.proofs.Columns.{columns_next, columns_end}
 use Rattle.projection.proofs.put_columns.Goals as goal
@@ -18,8 +17,7 @@ loop-c-init c =
 pub loop-c-preserved : goal.loop-c-preserved
 loop-c-preserved c =
     let l = c.loop-c in
-    let s = c.args in
-    (
+    let s = c.args in (
       omega arith,
       (
         c.put_shown-r.auto.out ∙ l.invariant.1.0,

@@ -1,12 +1,10 @@
 -- The loop of `projection::put_columns`.
-use mathlib.Core.Path.{◌≡◌, refl, ap, ◌∙◌}
-use Prim.Native.Nat.{ℕ, ◌+◌, ◌*◌, ◌-◌, ◌≤◌}
-use native.Mathlib.Omega.{arith}
+use mathlib.Core.Path.{◌≡◌}
+use Prim.Native.Nat.{◌+◌, ◌*◌, ◌-◌, ◌≤◌}
 use lib.ListN.{length}
 use Rattle.json_writer.specs.Texts.{joined}
-use Rattle.json_writer.proofs.Putting.{Due, due_all, due_is, due_next, due_none}
+use Rattle.json_writer.proofs.Putting.{Due}
 use Rattle.projection.specs.Shown.{shown_from}
-use Rattle.projection.proofs.Columns.{columns_next, columns_end}
 use Rattle.projection.proofs.put_columns.Given as goal
 
 abbrev pub invariant-loop-c : goal.invariant-loop-c

@@ -4,7 +4,6 @@ use native.Mathlib.Omega.{arith}
 use Rattle.json_writer.proofs.Putting.{put_then, put_is}
 use Rattle.projection.specs.Shown.{name_text}
 use Rattle.projection.proofs.Columns.{colon_is}
-use borrow.Author.Rules.{rules}
 use Rattle.projection.proofs.put_name.Goals as goal
 
 pub returns : goal.returns

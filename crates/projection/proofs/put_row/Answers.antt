@@ -4,7 +4,6 @@ use mathlib.Core.Path.{◌∙◌}
 use native.Mathlib.Omega.{arith}
 use Rattle.json_writer.proofs.Putting.{put_then, put_is}
 use Rattle.projection.proofs.Columns.{row_is}
-use borrow.Author.Rules.{rules}
 use Rattle.projection.proofs.put_row.Goals as goal
 
 pub put_columns-e-requires : goal.put_columns-e-requires

@@ -4,7 +4,6 @@ use mathlib.Core.Bool.{true}
 use native.Mathlib.Omega.{arith}
 use Rattle.json_writer.proofs.Putting.{put_nothing, put_then, put_is}
 use Rattle.projection.proofs.Columns.{shown_yes, shown_no, row_id_is}
-use borrow.Author.Rules.{rules}
 use Rattle.projection.proofs.put_row_id.Goals as goal
 
 pub returns-then-show : goal.returns-then-show

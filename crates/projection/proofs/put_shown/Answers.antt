@@ -2,7 +2,6 @@
 use native.Mathlib.Omega.{arith}
 use Rattle.json_writer.proofs.Putting.{put_nothing, put_then, put_is}
 use Rattle.projection.proofs.Columns.{shown_yes, shown_no}
-use borrow.Author.Rules.{rules}
 use Rattle.projection.proofs.put_shown.Goals as goal
 
 pub returns-then-show : goal.returns-then-show

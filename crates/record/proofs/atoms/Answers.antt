@@ -1,7 +1,6 @@
 -- `record::atoms` meets its contract.
 use mathlib.Core.Path.{◌∙◌}
 use mathlib.Core.List.{[], ◌∷◌}
-use borrow.Author.Rules.{rules}
 use Rattle.record.proofs.Readings.{parts_cut}
 use Rattle.record.proofs.atoms.Goals as goal
 

@@ -3,7 +3,6 @@ use mathlib.Core.Path.{◌≡◌, ap, ◌∙◌}
 use mathlib.Core.List.{List}
 use Prim.Native.Nat.{ℕ}
 use lib.ListN.{take}
-use borrow.Author.Rules.{rules}
 use Rattle.model.specs.Octets.{value, part}
 use Rattle.octets.proofs.Rests.{mid_rest}
 use Rattle.model.proofs.Octets.{octets, part_lt}

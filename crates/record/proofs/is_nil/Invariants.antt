@@ -1,14 +1,9 @@
 -- The loop of `record::is_nil`.
-use mathlib.Core.Path.{◌≡◌, refl, ap, ◌∙◌}
-use mathlib.Core.Bool.{Bool, ◌&&◌}
-use mathlib.Core.List.{List}
-use Prim.Native.Nat.{ℕ, ◌-◌, ◌≤◌}
-use native.Mathlib.Omega.{arith}
+use mathlib.Core.Path.{◌≡◌}
+use Prim.Native.Nat.{◌-◌, ◌≤◌}
 use lib.Dec.{eqb}
-use lib.ListN.{length, take, get_or}
-use lib.Seq.{take-length}
+use lib.ListN.{length, take}
 use Rattle.model.specs.Octets.{value}
-use Rattle.record.proofs.Readings.{nil_more}
 use Rattle.record.proofs.is_nil.Given as goal
 
 abbrev pub invariant-loop-i : goal.invariant-loop-i

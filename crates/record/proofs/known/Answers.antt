@@ -1,7 +1,6 @@
 -- `record::known` meets its contract.
 use mathlib.Core.Path.{sym, ap, ◌∙◌}
 use mathlib.Core.Bool.{not}
-use borrow.Author.Rules.{rules}
 use Rattle.record.proofs.Listings.{known_past, known_id}
 use Rattle.record.proofs.known.Goals as goal
 

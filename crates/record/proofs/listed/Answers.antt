@@ -3,7 +3,6 @@ use mathlib.Core.Path.{sym, ◌∙◌}
 use mathlib.Core.Bool.{true, false}
 use native.Mathlib.Omega.{arith}
 use lib.ListN.{length}
-use borrow.Author.Rules.{rules}
 use Rattle.record.proofs.Listings.{known_table, born_listed, gone_listed, column_listed, end_listed, mark_listed, bad_listed, born_size, gone_size, column_size}
 use Rattle.record.proofs.listed.Goals as goal
 

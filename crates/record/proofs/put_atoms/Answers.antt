@@ -4,7 +4,6 @@ use mathlib.Core.List.{List, [], ◌++◌}
 use Prim.Native.Nat.{ℕ}
 use native.Mathlib.Omega.{arith}
 use lib.ListN.{length, drop, get_or, length-append}
-use borrow.Author.Rules.{rules}
 use Rattle.octets.proofs.Rests.{write_next}
 use Rattle.record.proofs.Laws.{flat_four}
 use Rattle.record.proofs.put_atoms.Goals as goal

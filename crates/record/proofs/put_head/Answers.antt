@@ -3,7 +3,6 @@ use mathlib.Core.Path.{refl, ap, ◌∙◌}
 use mathlib.Core.List.{List, [], ◌∷◌, ◌++◌}
 use Prim.Native.Nat.{ℕ, ◌+◌}
 use lib.ListN.{length, drop}
-use borrow.Author.Rules.{rules}
 use Rattle.octets.proofs.Rests.{write_next}
 use Rattle.record.specs.Writing.{start_bytes, head_bytes}
 use Rattle.record.proofs.Laws.{id_bytes_lem}

@@ -1,7 +1,6 @@
 -- `record::put_start` meets its contract.
 use mathlib.Core.Path.{refl}
 use mathlib.Core.List.{[], ◌∷◌}
-use borrow.Author.Rules.{rules}
 use Rattle.model.specs.Octets.{big}
 use Rattle.octets.proofs.Rests.{write_next}
 use Rattle.record.specs.Writing.{start_bytes}

@@ -4,7 +4,6 @@ use mathlib.Core.List.{List}
 use Prim.Native.Nat.{ℕ, ◌<◌, ◌≤◌}
 use native.Mathlib.Omega.{arith}
 use lib.ListN.{length, get_or}
-use borrow.Author.Rules.{rules}
 use Rattle.model.specs.Records.{record_bytes}
 use Rattle.record.proofs.Readings.{kind_five, least, none_read, wrong_read, born_read, gone_read, column_read, end_read, mark_read}
 use Rattle.record.proofs.read.Goals as goal

@@ -1,11 +1,9 @@
 -- The loop of `references::all_named`.
-use mathlib.Core.Path.{◌≡◌, sym, ◌∙◌}
+use mathlib.Core.Path.{◌≡◌}
 use mathlib.Core.Bool.{Bool}
-use mathlib.Core.List.{List, []}
+use mathlib.Core.List.{List}
 use mathlib.Core.Option.{some}
 use Prim.Native.Nat.{ℕ, ◌-◌, ◌≤◌}
-use native.Mathlib.Omega.{arith}
-use borrow.Author.Tests.{not-true, not-false}
 use lib.ListN.{take, drop}
 use Rattle.model.specs.Base.{all}
 use Rattle.model.specs.Schema.{Schema}
@@ -13,7 +11,6 @@ use Rattle.model.specs.Value.{uuid_of}
 use Rattle.model.specs.Rows.{key_of, has}
 use Rattle.model.specs.Commit.{keys_of}
 use Rattle.inner.specs.Working.{working}
-use Rattle.references.proofs.Walks.{all_keys, all_here, all_on, all_end}
 use Rattle.references.proofs.all_named.Given as goal
 
 -- there is a row that an atom names

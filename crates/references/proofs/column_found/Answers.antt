@@ -10,7 +10,6 @@ use Rattle.model.specs.Commit.{keys_of}
 use Rattle.inner.specs.Working.{working, value_in}
 use Rattle.references.specs.Links.{target_table}
 use Rattle.references.proofs.Links.{elements_few}
-use borrow.Author.Rules.{rules}
 use Rattle.references.proofs.column_found.Goals as goal
 
 pub returns-in-Table : goal.returns-in-Table

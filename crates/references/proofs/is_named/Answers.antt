@@ -6,7 +6,6 @@ use lib.ListN.{take}
 use Rattle.model.specs.Octets.{value}
 use Rattle.model.specs.Rows.{key_of}
 use Rattle.inner.proofs.Working.{key_head}
-use borrow.Author.Rules.{rules}
 use Rattle.references.proofs.is_named.Goals as goal
 
 pub returns : goal.returns

@@ -2,13 +2,12 @@
 use mathlib.Core.Path.{◌≡◌, sym, ◌∙◌}
 use mathlib.Core.List.{[]}
 use mathlib.Core.Logic.{⊎_elim}
-use Prim.Native.Nat.{◌-◌, ◌≤◌, ◌<◌}
+use Prim.Native.Nat.{◌≤◌, ◌<◌}
 use native.Mathlib.Omega.{arith}
 use lib.ListN.{length}
-use Rattle.model.specs.Schema.{Schema}
 use Rattle.model.specs.Commit.{present}
 use Rattle.inner.specs.Working.{working}
-use Rattle.references.proofs.Keeping.{Sofar, sofar_none, sofar_few, sofar_length, sofar_no, sofar_yes}
+use Rattle.references.proofs.Keeping.{sofar_none, sofar_few, sofar_length, sofar_no, sofar_yes}
 use Rattle.references.proofs.keep_named.Goals as goal
 
 pub loop-k-init : goal.loop-k-init

@@ -1,14 +1,9 @@
 -- The loop of `references::keep_named`.
-use mathlib.Core.Path.{◌≡◌, sym, ◌∙◌}
-use mathlib.Core.List.{[]}
-use mathlib.Core.Logic.{⊎_elim}
-use Prim.Native.Nat.{◌-◌, ◌≤◌, ◌<◌}
-use native.Mathlib.Omega.{arith}
-use lib.ListN.{length}
+use Prim.Native.Nat.{◌-◌, ◌≤◌}
 use Rattle.model.specs.Schema.{Schema}
 use Rattle.model.specs.Commit.{present}
 use Rattle.inner.specs.Working.{working}
-use Rattle.references.proofs.Keeping.{Sofar, sofar_none, sofar_few, sofar_length, sofar_no, sofar_yes}
+use Rattle.references.proofs.Keeping.{Sofar}
 use Rattle.references.proofs.keep_named.Given as goal
 
 abbrev pub invariant-loop-k : goal.invariant-loop-k

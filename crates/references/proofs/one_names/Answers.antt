@@ -1,17 +1,8 @@
 -- `references::one_names` meets its contract.
-use mathlib.Core.Path.{◌≡◌, sym, ◌∙◌}
-use mathlib.Core.Bool.{Bool}
-use mathlib.Core.List.{List, []}
-use mathlib.Core.Option.{some}
-use Prim.Native.Nat.{ℕ, ◌-◌, ◌≤◌}
+use mathlib.Core.Path.{sym, ◌∙◌}
+use mathlib.Core.List.{[]}
 use native.Mathlib.Omega.{arith}
-use borrow.Author.Rules.{rules}
-use lib.Dec.{eqb}
-use lib.ListN.{take, drop}
-use Rattle.model.specs.Base.{any}
-use Rattle.model.specs.Value.{uuid_of}
-use Rattle.model.specs.Rows.{key_of}
-use Rattle.model.specs.Commit.{keys_of}
+use lib.ListN.{take}
 use Rattle.inner.specs.Working.{key_in}
 use Rattle.references.proofs.Walks.{any_keys, any_here, any_on, any_end}
 use Rattle.references.proofs.one_names.Invariants.{names}

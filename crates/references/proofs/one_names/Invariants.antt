@@ -1,11 +1,9 @@
 -- The loop of `references::one_names`.
-use mathlib.Core.Path.{◌≡◌, sym, ◌∙◌}
+use mathlib.Core.Path.{◌≡◌}
 use mathlib.Core.Bool.{Bool}
-use mathlib.Core.List.{List, []}
+use mathlib.Core.List.{List}
 use mathlib.Core.Option.{some}
 use Prim.Native.Nat.{ℕ, ◌-◌, ◌≤◌}
-use native.Mathlib.Omega.{arith}
-use borrow.Author.Rules.{rules}
 use lib.Dec.{eqb}
 use lib.ListN.{take, drop}
 use Rattle.model.specs.Base.{any}
@@ -13,7 +11,6 @@ use Rattle.model.specs.Value.{uuid_of}
 use Rattle.model.specs.Rows.{key_of}
 use Rattle.model.specs.Commit.{keys_of}
 use Rattle.inner.specs.Working.{key_in}
-use Rattle.references.proofs.Walks.{any_keys, any_here, any_on, any_end}
 use Rattle.references.proofs.one_names.Given as goal
 
 -- an atom names the row

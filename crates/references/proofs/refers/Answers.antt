@@ -8,7 +8,6 @@ use Rattle.model.specs.Catalog.{refers_from, refers_offset, target_offset, colum
 use Rattle.references.specs.Links.{pick, refers_at}
 use Rattle.catalog.proofs.Laws.{few_tables}
 use Rattle.references.proofs.Packs.{has_columns, few_columns_lem}
-use borrow.Author.Rules.{rules}
 use Rattle.references.proofs.refers.Goals as goal
 
 pub column-column-requires : goal.column-column-requires

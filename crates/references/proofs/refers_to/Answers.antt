@@ -1,19 +1,17 @@
 -- `references::refers_to` meets its contract.
 use mathlib.Core.Path.{◌≡◌, sym, ap, ◌∙◌}
-use Prim.Native.Nat.{ℕ, ◌-◌, ◌≤◌, ◌<◌}
+use Prim.Native.Nat.{ℕ, ◌<◌}
 use native.Mathlib.Omega.{arith}
-use borrow.Author.Rules.{rules}
 use lib.Dec.{eqb}
 use lib.ListN.{length}
 use Rattle.model.specs.Base.{any}
 use Rattle.model.specs.Schema.{columns_of}
-use Rattle.model.specs.Commit.{strongly, strong_of}
-use Rattle.model.specs.Areas.{row_from}
+use Rattle.model.specs.Commit.{strongly}
 use Rattle.model.specs.Catalog.{packed_tables}
 use Rattle.inner.specs.Working.{key_in, table_in}
 use Rattle.references.specs.Links.{pick, target_table}
 use Rattle.references.proofs.Packs.{few_columns_lem}
-use Rattle.references.proofs.Links.{rest_of, here, rest_all, rest_end, any_rest_here, any_rest_on, here_target}
+use Rattle.references.proofs.Links.{here, rest_all, rest_end, any_rest_here, any_rest_on, here_target}
 use Rattle.references.proofs.refers_to.Goals as goal
 
 pub width-w-requires : goal.width-w-requires

@@ -1,19 +1,14 @@
 -- The loop of `references::refers_to`.
-use mathlib.Core.Path.{◌≡◌, sym, ap, ◌∙◌}
-use Prim.Native.Nat.{ℕ, ◌-◌, ◌≤◌, ◌<◌}
-use native.Mathlib.Omega.{arith}
-use borrow.Author.Rules.{rules}
+use mathlib.Core.Path.{◌≡◌}
+use Prim.Native.Nat.{◌-◌, ◌≤◌}
 use lib.Dec.{eqb}
-use lib.ListN.{length}
 use Rattle.model.specs.Base.{any}
-use Rattle.model.specs.Schema.{columns_of}
-use Rattle.model.specs.Commit.{strongly, strong_of}
+use Rattle.model.specs.Commit.{strong_of}
 use Rattle.model.specs.Areas.{row_from}
 use Rattle.model.specs.Catalog.{packed_tables}
-use Rattle.inner.specs.Working.{key_in, table_in}
-use Rattle.references.specs.Links.{pick, target_table}
-use Rattle.references.proofs.Packs.{few_columns_lem}
-use Rattle.references.proofs.Links.{rest_of, here, rest_all, rest_end, any_rest_here, any_rest_on, here_target}
+use Rattle.inner.specs.Working.{key_in}
+use Rattle.references.specs.Links.{pick}
+use Rattle.references.proofs.Links.{rest_of}
 use Rattle.references.proofs.refers_to.Given as goal
 
 abbrev pub invariant-loop-c : goal.invariant-loop-c

@@ -1,21 +1,15 @@
 -- The loop of `references::row_found`.
-use mathlib.Core.Path.{◌≡◌, sym, ap, ◌∙◌}
+use mathlib.Core.Path.{◌≡◌}
 use mathlib.Core.Bool.{Bool}
 use mathlib.Core.List.{List}
-use Prim.Native.Nat.{ℕ, ◌-◌, ◌≤◌, ◌<◌}
-use native.Mathlib.Omega.{arith}
-use borrow.Author.Rules.{rules}
-use borrow.Author.Tests.{not-true, not-false}
-use lib.ListN.{length}
+use Prim.Native.Nat.{ℕ, ◌-◌, ◌≤◌}
 use Rattle.model.specs.Base.{all}
 use Rattle.model.specs.Rows.{has}
-use Rattle.model.specs.Schema.{columns_of}
 use Rattle.model.specs.Areas.{row_from}
 use Rattle.model.specs.Catalog.{packed_tables}
-use Rattle.inner.specs.Working.{working, table_in}
-use Rattle.references.specs.Links.{pick, target_table, referred}
-use Rattle.references.proofs.Packs.{few_columns_lem}
-use Rattle.references.proofs.Links.{rest_of, here, rest_all, rest_end, all_rest_here, all_rest_on, here_target}
+use Rattle.inner.specs.Working.{working}
+use Rattle.references.specs.Links.{pick, referred}
+use Rattle.references.proofs.Links.{rest_of}
 use Rattle.references.proofs.row_found.Given as goal
 
 -- there is a row under a key

@@ -7,7 +7,6 @@ use Rattle.catalog.proofs.Laws.{few_tables}
 use Rattle.references.proofs.Packs.{columns_out, width_is}
 use mathlib.Core.List.{[]}
 use Prim.Native.Nat.{ℕ, ◌+◌, ◌<◌}
-use borrow.Author.Rules.{rules}
 use Rattle.references.proofs.width.Goals as goal
 
 pub returns-then-table_count-table : goal.returns-then-table_count-table

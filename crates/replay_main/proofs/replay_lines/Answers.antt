@@ -16,14 +16,13 @@ pub loop-at-smaller : goal.loop-at-smaller
 loop-at-smaller c = omega (arith, c.replay_line-at.ensures)
 
 pub loop-at-preserved : goal.loop-at-preserved
-loop-at-preserved c =
-    (
-      omega (arith, c.replay_line-at.ensures),
-      omega (arith, c.replay_line-at.ensures),
-      c.replay_line-at.auto.store ∙ c.loop-at.invariant.2,
-      c.replay_line-at.auto.whole ∙ c.loop-at.invariant.3,
-      c.replay_line-at.auto.display ∙ c.loop-at.invariant.4,
-    )
+loop-at-preserved c = (
+  omega (arith, c.replay_line-at.ensures),
+  omega (arith, c.replay_line-at.ensures),
+  c.replay_line-at.auto.store ∙ c.loop-at.invariant.2,
+  c.replay_line-at.auto.whole ∙ c.loop-at.invariant.3,
+  c.replay_line-at.auto.display ∙ c.loop-at.invariant.4,
+)
 
 pub shape_of-store : goal.shape_of-store
 shape_of-store c = c.loop-at.invariant.2

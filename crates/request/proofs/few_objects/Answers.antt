@@ -1,13 +1,11 @@
 -- `request::few_objects` meets its contract.
-use Prim.Native.Nat.{◌≤◌}
 use mathlib.Core.Path.{refl, sym, ap, ◌∙◌}
 use native.Mathlib.Omega.{arith}
-use Rattle.inner.specs.Positions.{items_from, left}
+use Rattle.inner.specs.Positions.{items_from}
 use Rattle.model.specs.Nav.{is_object}
 use Rattle.nav.proofs.Walk.{walk_less}
-use Rattle.indexes.proofs.Judged.{Passed, passed_end, passed_more, passed_bad, passed_on}
-use Rattle.request.proofs.Objects.{object, few_many, few_bad, few_end}
-use borrow.Author.Rules.{rules}
+use Rattle.indexes.proofs.Judged.{passed_end, passed_more, passed_bad, passed_on}
+use Rattle.request.proofs.Objects.{few_many, few_bad, few_end}
 use Rattle.request.proofs.few_objects.Goals as goal
 
 pub loop-g-init : goal.loop-g-init

@@ -8,7 +8,6 @@ use Rattle.request.proofs.Objects.{parted_none, parted_some}
 use Rattle.request.specs.Reading.{Counted}
 use Rattle.model.specs.declared.Found.{Found}
 use Rattle.inner.specs.Positions.{items_from}
-use borrow.Author.Rules.{rules}
 use Rattle.request.proofs.parts.Goals as goal
 
 pub returns-in_default : goal.returns-in_default

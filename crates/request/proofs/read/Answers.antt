@@ -1,13 +1,7 @@
 -- `request::read` meets its contract.
-use mathlib.Core.Path.{◌≡◌, refl, sym, ap, ◌∙◌}
+use mathlib.Core.Path.{sym, ◌∙◌}
 use native.Mathlib.Omega.{arith}
 use Rattle.request.proofs.Objects.{well_end, read_end, read_too_long, read_stop, read_deep}
-use borrow.Author.Rules.{rules}
-use Rattle.request.proofs.read.Reads as reads
-use Rattle.request.proofs.read.Lts as lts
-use Rattle.json_reader.proofs.document.Reads as document-reads
-use Rattle.request.proofs.parts.Reads as parts-reads
-use Rattle.request.proofs.refused.Reads as refused-reads
 use Rattle.request.proofs.read.Goals as goal
 
 -- src/lib.rt:85:9

@@ -8,7 +8,6 @@ use Rattle.model.specs.declared.Fault.TheVariants.{Fine, Constraint}
 use Rattle.model.specs.Catalog.{column_from}
 use Rattle.request_rows.specs.Assigned.{absent_by}
 use Rattle.request_rows.proofs.Faults.{default_none, default_one}
-use borrow.Author.Rules.{rules}
 use Rattle.request_rows.proofs.absent_fault.Goals as goal
 
 pub returns-then-minimum-eq0 : goal.returns-then-minimum-eq0

@@ -1,11 +1,9 @@
 -- The loop of `request_rows::known`.
-use borrow.Author.Rules.{rules}
 use mathlib.Core.List.{map}
 use Rattle.inner.specs.Positions.{tree_at, left}
 use Rattle.model.specs.Members.{members_in}
 use Rattle.model.specs.Catalog.{column_from}
-use Rattle.nav.proofs.Walk.{pass_less}
-use Rattle.request_rows.proofs.Faults.{Knows, knows_start, knows_on, knows_not, knows_end}
+use Rattle.request_rows.proofs.Faults.{Knows}
 use Rattle.request_rows.proofs.known.Given as goal
 
 abbrev pub invariant-loop-g : goal.invariant-loop-g

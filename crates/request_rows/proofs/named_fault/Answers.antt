@@ -5,7 +5,6 @@ use Rattle.model.specs.Faults.{check}
 use Rattle.model.specs.declared.Fault.TheVariants.{Fine, Constraint}
 use Rattle.model.specs.Catalog.{column_from}
 use Rattle.request_rows.specs.Assigned.{named_by}
-use borrow.Author.Rules.{rules}
 use Rattle.request_rows.proofs.named_fault.Goals as goal
 
 pub returns-then-is_mutable : goal.returns-then-is_mutable

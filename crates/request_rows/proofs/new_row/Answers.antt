@@ -2,7 +2,6 @@
 use mathlib.Core.List.{map}
 use Rattle.model.specs.Catalog.{column_from}
 use Rattle.request_rows.proofs.Rows.{few_columns_lem}
-use borrow.Author.Rules.{rules}
 use Rattle.request_rows.proofs.new_row.Goals as goal
 
 pub returns : goal.returns

@@ -1,14 +1,8 @@
 -- `request_rows::put_columns` meets its contract.
-use mathlib.Core.Path.{◌≡◌, refl}
-use mathlib.Core.List.{List}
+use mathlib.Core.Path.{refl}
 use mathlib.Core.Logic.{⊎_elim}
-use mathlib.Core.Option.{Option}
-use Prim.Native.Nat.{◌-◌, ◌≤◌}
 use native.Mathlib.Omega.{arith}
-use lib.ListN.{length}
-use Rattle.model.specs.Value.{Value}
-use Rattle.request_rows.specs.Assigned.{Template}
-use Rattle.request_rows.proofs.Rows.{Assigning, assigning_none, assigning_on, assigning_end}
+use Rattle.request_rows.proofs.Rows.{assigning_none, assigning_on, assigning_end}
 use Rattle.request_rows.proofs.Reading.{put_flagged, put_unflagged}
 use Rattle.request_rows.proofs.put_columns.Goals as goal
 

@@ -1,15 +1,12 @@
 -- The loop of `request_rows::put_columns`.
-use mathlib.Core.Path.{◌≡◌, refl}
+use mathlib.Core.Path.{◌≡◌}
 use mathlib.Core.List.{List}
-use mathlib.Core.Logic.{⊎_elim}
 use mathlib.Core.Option.{Option}
 use Prim.Native.Nat.{◌-◌, ◌≤◌}
-use native.Mathlib.Omega.{arith}
 use lib.ListN.{length}
 use Rattle.model.specs.Value.{Value}
 use Rattle.request_rows.specs.Assigned.{Template}
-use Rattle.request_rows.proofs.Rows.{Assigning, assigning_none, assigning_on, assigning_end}
-use Rattle.request_rows.proofs.Reading.{put_flagged, put_unflagged}
+use Rattle.request_rows.proofs.Rows.{Assigning}
 use Rattle.request_rows.proofs.put_columns.Given as goal
 
 abbrev pub invariant-loop-c : goal.invariant-loop-c

@@ -4,7 +4,6 @@ use native.Mathlib.Omega.{arith}
 use lib.ListN.{length}
 use Rattle.model.specs.Value.{Value}
 use Rattle.request_rows.proofs.Cells.{column_put, puts_there, puts_not}
-use borrow.Author.Rules.{rules}
 use Rattle.request_rows.proofs.put_value.Goals as goal
 
 pub overflow_cast-n : goal.overflow_cast-n

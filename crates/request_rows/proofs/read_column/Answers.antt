@@ -5,7 +5,6 @@ use Rattle.model.specs.Catalog.{column_from}
 use Rattle.uuids.specs.Named.{names_at}
 use Rattle.request_rows.proofs.Faults.{find_there, find_missing}
 use Rattle.request_rows.proofs.Reading.{read_there, read_absent}
-use borrow.Author.Rules.{rules}
 use Rattle.request_rows.proofs.read_column.Goals as goal
 
 pub row_value-v-requires : goal.row_value-v-requires

@@ -1,13 +1,10 @@
 -- The loop of `request_rows::read_columns`.
-use mathlib.Core.Path.{refl}
-use mathlib.Core.Bool.{false}
 use Prim.Native.Nat.{◌-◌, ◌≤◌}
-use native.Mathlib.Omega.{arith}
-use lib.ListN.{length, replicate}
+use lib.ListN.{length}
 use Rattle.inner.specs.Positions.{tree_at}
 use Rattle.model.specs.Members.{members_in}
 use Rattle.uuids.specs.Named.{names_at}
-use Rattle.request_rows.proofs.Reading.{Reading, reading_none, reading_on, reading_end}
+use Rattle.request_rows.proofs.Reading.{Reading}
 use Rattle.request_rows.proofs.read_columns.Given as goal
 
 abbrev pub invariant-loop-c : goal.invariant-loop-c

@@ -1,6 +1,5 @@
 -- `request_rows::read_row` meets its contract.
 use Rattle.request_rows.proofs.Reading.{read_known, read_unknown}
-use borrow.Author.Rules.{rules}
 use Rattle.request_rows.proofs.read_row.Goals as goal
 
 pub returns-then-k : goal.returns-then-k

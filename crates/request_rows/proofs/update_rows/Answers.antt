@@ -1,10 +1,9 @@
 -- `request_rows::update_rows` meets its contract.
-use mathlib.Core.Path.{◌≡◌, refl, ◌∙◌}
+use mathlib.Core.Path.{refl, ◌∙◌}
 use mathlib.Core.Logic.{⊎_elim}
-use Prim.Native.Nat.{◌-◌, ◌≤◌}
 use native.Mathlib.Omega.{arith}
-use lib.ListN.{length, length-set}
-use Rattle.request_rows.proofs.Updates.{Marking, marking_none, marking_kept, marking_changed, marking_end}
+use lib.ListN.{length-set}
+use Rattle.request_rows.proofs.Updates.{marking_none, marking_kept, marking_changed, marking_end}
 use Rattle.request_rows.proofs.update_rows.Goals as goal
 
 pub loop-i-init : goal.loop-i-init

@@ -1,10 +1,8 @@
 -- The loop of `request_rows::update_rows`.
-use mathlib.Core.Path.{◌≡◌, refl, ◌∙◌}
-use mathlib.Core.Logic.{⊎_elim}
+use mathlib.Core.Path.{◌≡◌}
 use Prim.Native.Nat.{◌-◌, ◌≤◌}
-use native.Mathlib.Omega.{arith}
-use lib.ListN.{length, length-set}
-use Rattle.request_rows.proofs.Updates.{Marking, marking_none, marking_kept, marking_changed, marking_end}
+use lib.ListN.{length}
+use Rattle.request_rows.proofs.Updates.{Marking}
 use Rattle.request_rows.proofs.update_rows.Given as goal
 
 abbrev pub invariant-loop-i : goal.invariant-loop-i

@@ -1,6 +1,5 @@
 -- `request_values::first_fault` meets its contract.
 use Rattle.request_values.specs.Values.{first_fault}
-use borrow.Author.Rules.{rules}
 use Rattle.request_values.proofs.first_fault.Goals as goal
 
 pub returns-then-allowed : goal.returns-then-allowed

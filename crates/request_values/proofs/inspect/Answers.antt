@@ -8,7 +8,6 @@ use Rattle.elements.specs.Elements.{elements_from}
 use Rattle.uuids.specs.Named.{names_at}
 use Rattle.element_atoms.specs.Atoms.{atoms_of}
 use Rattle.request_values.proofs.Judging.{inspected, taken_length, taken_distinct}
-use borrow.Author.Rules.{rules}
 use Rattle.request_values.proofs.inspect.Goals as goal
 
 pub slice_bounds-distinct-end : goal.slice_bounds-distinct-end

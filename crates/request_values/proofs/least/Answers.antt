@@ -1,6 +1,5 @@
 -- `request_values::least` meets its contract.
 use mathlib.Core.Path.{◌∙◌}
-use borrow.Author.Rules.{rules}
 use Rattle.request_values.proofs.least.Goals as goal
 
 pub returns : goal.returns

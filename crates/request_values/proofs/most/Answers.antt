@@ -1,6 +1,5 @@
 -- `request_values::most` meets its contract.
 use mathlib.Core.Path.{◌∙◌}
-use borrow.Author.Rules.{rules}
 use Rattle.request_values.proofs.most.Goals as goal
 
 pub returns : goal.returns

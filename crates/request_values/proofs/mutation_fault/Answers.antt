@@ -7,7 +7,6 @@ use Rattle.model.specs.Written.{insert_fault, delete_fault, written}
 use Rattle.model.specs.Mutations.{mutation_fault}
 use Rattle.request_values.specs.Values.{atoms_as, MutationFault}
 use Rattle.request_values.proofs.Judging.{first_is, insert_is, delete_is, operand_is, five_fault}
-use borrow.Author.Rules.{rules}
 use Rattle.request_values.proofs.mutation_fault.Goals as goal
 
 pub returns-in-Insert : goal.returns-in-Insert

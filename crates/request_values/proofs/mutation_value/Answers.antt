@@ -5,7 +5,6 @@ use Rattle.model.specs.Mutations.{mutation_fault}
 use Rattle.uuids.specs.Named.{names_at}
 use Rattle.request_values.specs.Values.{MutationFault}
 use Rattle.request_values.proofs.Fits.{value_given}
-use borrow.Author.Rules.{rules}
 use Rattle.request_values.proofs.mutation_value.Goals as goal
 
 pub returns : goal.returns

@@ -11,7 +11,6 @@ use Rattle.uuids.specs.Named.{names_at}
 use Rattle.request_values.specs.Values.{Sorts}
 use Rattle.request_values.proofs.Judging.{first_is, row_is, fits_few}
 use Rattle.request_values.proofs.Fits.{row_given}
-use borrow.Author.Rules.{rules}
 use Rattle.request_values.proofs.row_value.Goals as goal
 
 pub sort_atoms-requires : goal.sort_atoms-requires

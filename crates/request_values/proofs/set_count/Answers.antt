@@ -4,7 +4,6 @@ use lib.Dec.{leb}
 use Rattle.model.specs.Written.{set_count}
 use Rattle.model.specs.Catalog.{column_from}
 use Rattle.request_values.proofs.Judging.{count_is}
-use borrow.Author.Rules.{rules}
 use Rattle.request_values.proofs.set_count.Goals as goal
 
 pub returns-in-Less : goal.returns-in-Less

@@ -2,7 +2,6 @@
 use mathlib.Core.Path.{refl}
 use Rattle.model.specs.Catalog.{base_numbered}
 use Rattle.request_values.proofs.Fits.{sorts_one, sorts_all}
-use borrow.Author.Rules.{rules}
 use Rattle.request_values.proofs.sort_atoms.Goals as goal
 
 pub returns-then-n-lt2 : goal.returns-then-n-lt2

@@ -5,7 +5,6 @@ use lib.Dec.{eqb}
 use Rattle.model.specs.Base.{if◌then◌else◌}
 use Rattle.model.specs.Written.{set_count}
 use Rattle.model.specs.Catalog.{column_from}
-use borrow.Author.Rules.{rules}
 use Rattle.request_values.proofs.test_count.Goals as goal
 
 pub returns-then-one : goal.returns-then-one

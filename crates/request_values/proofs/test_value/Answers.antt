@@ -6,7 +6,6 @@ use Rattle.model.specs.Written.{test_fault}
 use Rattle.uuids.specs.Named.{names_at}
 use Rattle.request_values.proofs.Judging.{first_is, test_is}
 use Rattle.request_values.proofs.Fits.{value_given}
-use borrow.Author.Rules.{rules}
 use Rattle.request_values.proofs.test_value.Goals as goal
 
 pub returns : goal.returns

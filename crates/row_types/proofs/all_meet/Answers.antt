@@ -1,16 +1,13 @@
 -- `row_types::all_meet` meets its contract.
-use mathlib.Core.Path.{◌≡◌, refl, sym, ◌∙◌}
+use mathlib.Core.Path.{refl, sym, ◌∙◌}
 use mathlib.Core.List.{[]}
-use Prim.Native.Nat.{◌-◌, ◌≤◌}
 use native.Mathlib.Omega.{arith}
-use borrow.Author.Tests.{not-true, not-false}
-use lib.ListN.{get_or, take, drop}
+use lib.ListN.{get_or}
 use Rattle.model.specs.Catalog.{base_numbered}
 use Rattle.model.specs.Catalog.{column_from}
 use Rattle.model.specs.Value.{atom_in_limits}
 use Rattle.row_types.specs.Met.{all_met}
 use Rattle.area.proofs.Walks.{front_on, front_off, front_end}
-use borrow.Author.Rules.{rules}
 use Rattle.row_types.proofs.all_meet.Goals as goal
 
 pub loop-i-init : goal.loop-i-init

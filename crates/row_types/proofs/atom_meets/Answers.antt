@@ -8,7 +8,6 @@ use Rattle.model.specs.Catalog.{column_from}
 use Rattle.model.specs.Text.{chars}
 use Rattle.model.specs.Value.{in_limits}
 use Rattle.row_types.proofs.Laws.{at_integer, at_text, at_other}
-use borrow.Author.Rules.{rules}
 use Rattle.row_types.proofs.atom_meets.Goals as goal
 
 pub returns-then-kind-eq0 : goal.returns-then-kind-eq0

@@ -4,7 +4,6 @@ use mathlib.Core.Bool.{◌&&◌}
 use mathlib.Core.List.{List}
 use Prim.Native.Nat.{ℕ}
 use native.Mathlib.Omega.{arith}
-use borrow.Author.Tests.{not-true, not-false}
 use lib.Dec.{leb}
 use lib.ListN.{take}
 use Rattle.model.specs.Catalog.{column_from}
@@ -12,7 +11,6 @@ use Rattle.model.specs.Value.{Value, count_in_limits}
 use Rattle.inner.specs.Working.{value_in}
 use Rattle.row_types.specs.Met.{all_met}
 use Rattle.row_types.proofs.Laws.{met_many, met_count, met_all}
-use borrow.Author.Rules.{rules}
 use Rattle.row_types.proofs.column_meets.Goals as goal
 
 pub returns-then-k-gt-ELEMENTS : goal.returns-then-k-gt-ELEMENTS

@@ -4,7 +4,6 @@ use mathlib.Core.Bool.{not, ◌&&◌}
 use lib.Signed.{lt_z}
 use Rattle.model.specs.Value.{int_of, from_twos}
 use Rattle.row_types.proofs.Laws.{not_below}
-use borrow.Author.Rules.{rules}
 use Rattle.row_types.proofs.in_limits.Goals as goal
 
 pub returns : goal.returns

@@ -7,7 +7,6 @@ use lib.ListN.{take}
 use Rattle.model.specs.Octets.{value}
 use Rattle.model.specs.Value.{from_twos}
 use Rattle.model.proofs.Octets.{value_big_fits}
-use borrow.Author.Rules.{rules}
 use Rattle.row_types.proofs.integer.Goals as goal
 
 pub returns : goal.returns

@@ -11,7 +11,6 @@ use Rattle.model.specs.Catalog.{table_count}
 use Rattle.inner.specs.Working.{table_in}
 use Rattle.catalog.specs.Entries.{columns_at}
 use Rattle.row_types.specs.Met.{met_from, row_meets}
-use borrow.Author.Rules.{rules}
 use Rattle.row_types.proofs.one_meets.Goals as goal
 
 pub returns-then-table_count-t : goal.returns-then-table_count-t

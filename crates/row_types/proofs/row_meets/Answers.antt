@@ -1,10 +1,6 @@
 -- `row_types::row_meets` meets its contract.
-use mathlib.Core.Path.{◌≡◌, refl, sym, ◌∙◌}
-use Prim.Native.Nat.{◌-◌, ◌≤◌}
+use mathlib.Core.Path.{refl, sym, ◌∙◌}
 use native.Mathlib.Omega.{arith}
-use borrow.Author.Tests.{not-true, not-false}
-use lib.ListN.{length, drop}
-use Rattle.row_types.specs.Met.{met_from}
 use Rattle.row_types.proofs.Laws.{met_on, met_off, met_end}
 use Rattle.row_types.proofs.row_meets.Goals as goal
 

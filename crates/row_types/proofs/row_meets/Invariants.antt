@@ -1,11 +1,8 @@
 -- The loop of `row_types::row_meets`.
-use mathlib.Core.Path.{◌≡◌, refl, sym, ◌∙◌}
+use mathlib.Core.Path.{◌≡◌}
 use Prim.Native.Nat.{◌-◌, ◌≤◌}
-use native.Mathlib.Omega.{arith}
-use borrow.Author.Tests.{not-true, not-false}
 use lib.ListN.{length, drop}
 use Rattle.row_types.specs.Met.{met_from}
-use Rattle.row_types.proofs.Laws.{met_on, met_off, met_end}
 use Rattle.row_types.proofs.row_meets.Given as goal
 
 abbrev pub invariant-loop-c : goal.invariant-loop-c

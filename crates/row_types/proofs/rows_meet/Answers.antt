@@ -1,11 +1,7 @@
 -- `row_types::rows_meet` meets its contract.
-use mathlib.Core.Path.{◌≡◌, refl, sym, ◌∙◌}
+use mathlib.Core.Path.{refl, sym, ◌∙◌}
 use mathlib.Core.List.{[]}
-use Prim.Native.Nat.{◌-◌, ◌≤◌}
 use native.Mathlib.Omega.{arith}
-use borrow.Author.Tests.{not-true, not-false}
-use lib.ListN.{take, drop}
-use Rattle.model.specs.Base.{all}
 use Rattle.row_types.specs.Met.{row_meets, rows_meet}
 use Rattle.area.proofs.Walks.{front_on, front_off, front_end}
 use Rattle.row_types.proofs.rows_meet.Goals as goal

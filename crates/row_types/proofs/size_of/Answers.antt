@@ -6,7 +6,6 @@ use Rattle.model.specs.Text.{chars}
 use Rattle.model.specs.Value.{from_twos}
 use Rattle.model.proofs.Octets.{value_big_fits}
 use Rattle.row_types.proofs.Laws.{chars_short, small_is}
-use borrow.Author.Rules.{rules}
 use Rattle.row_types.proofs.size_of.Goals as goal
 
 pub returns : goal.returns

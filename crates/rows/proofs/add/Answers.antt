@@ -6,7 +6,6 @@ use Rattle.model.specs.Areas.{row_from}
 use Rattle.inner.specs.Working.{working, slot, inserted}
 use Rattle.inner.proofs.Working.{row_key}
 use Rattle.inner.proofs.Places.{add_slot, working_inserted, tidy_inserted}
-use borrow.Author.Rules.{rules}
 use Rattle.rows.proofs.add.Goals as goal
 
 pub returns : goal.returns

@@ -5,7 +5,6 @@ use native.Mathlib.Omega.{arith}
 use lib.ListN.{length, take, drop, length-drop}
 use lib.Seq.{length-take-le}
 use Rattle.inner.specs.Working.{value_in}
-use borrow.Author.Rules.{rules}
 use Rattle.rows.proofs.atoms_in.Goals as goal
 
 pub returns : goal.returns

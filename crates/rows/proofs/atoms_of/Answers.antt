@@ -1,7 +1,6 @@
 -- `rows::atoms_of` meets its contract.
 use mathlib.Core.Path.{◌∙◌}
 use Rattle.rows.proofs.Laws.{four_elements}
-use borrow.Author.Rules.{rules}
 use Rattle.rows.proofs.atoms_of.Goals as goal
 
 pub returns : goal.returns

@@ -1,10 +1,10 @@
 -- `rows::close_at` meets its contract.
-use mathlib.Core.Path.{◌≡◌, refl, sym, ap, ◌∙◌}
+use mathlib.Core.Path.{refl, sym, ap, ◌∙◌}
 use mathlib.Core.List.{[]}
-use Prim.Native.Nat.{◌+◌, ◌-◌, ◌≤◌, ◌<◌}
+use Prim.Native.Nat.{◌+◌, ◌-◌}
 use native.Mathlib.Omega.{arith}
-use lib.ListN.{length, get_or, set, take, length-set}
-use Rattle.rows.proofs.Laws.{closed, closed_none, closed_more, closed_end}
+use lib.ListN.{get_or, set, take, length-set}
+use Rattle.rows.proofs.Laws.{closed_none, closed_more, closed_end}
 use Rattle.rows.proofs.close_at.Goals as goal
 
 pub loop-k-init : goal.loop-k-init

@@ -1,10 +1,9 @@
 -- The loop of `rows::close_at`.
-use mathlib.Core.Path.{◌≡◌, refl, sym, ap, ◌∙◌}
+use mathlib.Core.Path.{◌≡◌}
 use mathlib.Core.List.{[]}
-use Prim.Native.Nat.{◌+◌, ◌-◌, ◌≤◌, ◌<◌}
-use native.Mathlib.Omega.{arith}
-use lib.ListN.{length, get_or, set, take, length-set}
-use Rattle.rows.proofs.Laws.{closed, closed_none, closed_more, closed_end}
+use Prim.Native.Nat.{◌-◌, ◌≤◌, ◌<◌}
+use lib.ListN.{length}
+use Rattle.rows.proofs.Laws.{closed}
 use Rattle.rows.proofs.close_at.Given as goal
 
 abbrev pub invariant-loop-k : goal.invariant-loop-k

@@ -1,12 +1,5 @@
 -- `rows::find_by_fours` meets its contract.
-use mathlib.Core.Path.{◌≡◌}
-use mathlib.Core.Bool.{false}
-use mathlib.Core.List.{[]}
-use Prim.Native.Nat.{ℕ, ◌-◌, ◌≤◌, ◌<◌}
 use native.Mathlib.Omega.{arith}
-use lib.Dec.{eqb}
-use lib.ListN.{get_or}
-use Rattle.inner.specs.Working.{key_in}
 use Rattle.rows.specs.Post.{key_of_halves}
 use Rattle.rows.proofs.Search.{four_on, sought_on}
 use Rattle.rows.proofs.find_by_fours.Goals as goal

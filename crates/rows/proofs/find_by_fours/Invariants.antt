@@ -3,12 +3,10 @@ use mathlib.Core.Path.{◌≡◌}
 use mathlib.Core.Bool.{false}
 use mathlib.Core.List.{[]}
 use Prim.Native.Nat.{ℕ, ◌-◌, ◌≤◌, ◌<◌}
-use native.Mathlib.Omega.{arith}
 use lib.Dec.{eqb}
 use lib.ListN.{get_or}
 use Rattle.inner.specs.Working.{key_in}
 use Rattle.rows.specs.Post.{key_of_halves}
-use Rattle.rows.proofs.Search.{four_on, sought_on}
 use Rattle.rows.proofs.find_by_fours.Given as goal
 
 abbrev pub invariant-loop-i : goal.invariant-loop-i

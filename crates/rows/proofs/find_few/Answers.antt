@@ -1,13 +1,9 @@
 -- `rows::find_few` meets its contract.
-use mathlib.Core.Path.{◌≡◌, refl, sym, ◌∙◌}
-use Prim.Native.Nat.{◌-◌, ◌≤◌}
+use mathlib.Core.Path.{refl, sym, ◌∙◌}
 use native.Mathlib.Omega.{arith}
-use borrow.Author.Rules.{rules}
-use lib.ListN.{drop}
 use Rattle.model.specs.Octets.{value}
-use Rattle.model.specs.Schema.{Schema}
 use Rattle.model.specs.Rows.{key_of}
-use Rattle.inner.specs.Working.{working, place_from, place}
+use Rattle.inner.specs.Working.{place}
 use Rattle.inner.proofs.Working.{place_here, place_on, place_end}
 use Rattle.rows.proofs.find_few.Goals as goal
 

@@ -1,14 +1,11 @@
 -- The loop of `rows::find_few`.
-use mathlib.Core.Path.{◌≡◌, refl, sym, ◌∙◌}
+use mathlib.Core.Path.{◌≡◌}
 use Prim.Native.Nat.{◌-◌, ◌≤◌}
-use native.Mathlib.Omega.{arith}
-use borrow.Author.Rules.{rules}
 use lib.ListN.{drop}
 use Rattle.model.specs.Octets.{value}
 use Rattle.model.specs.Schema.{Schema}
 use Rattle.model.specs.Rows.{key_of}
-use Rattle.inner.specs.Working.{working, place_from, place}
-use Rattle.inner.proofs.Working.{place_here, place_on, place_end}
+use Rattle.inner.specs.Working.{working, place_from}
 use Rattle.rows.proofs.find_few.Given as goal
 
 abbrev pub invariant-loop-i : goal.invariant-loop-i

@@ -1,14 +1,12 @@
 -- The loop of `rows::find_from`.
-use mathlib.Core.Path.{◌≡◌, sym, ◌∙◌}
+use mathlib.Core.Path.{◌≡◌}
 use mathlib.Core.Bool.{false}
 use mathlib.Core.List.{[]}
 use Prim.Native.Nat.{ℕ, ◌-◌, ◌≤◌, ◌<◌}
-use native.Mathlib.Omega.{arith}
 use lib.Dec.{eqb}
 use lib.ListN.{get_or}
 use Rattle.inner.specs.Working.{key_in}
 use Rattle.rows.specs.Post.{key_of_halves}
-use Rattle.rows.proofs.Search.{one_on}
 use Rattle.rows.proofs.find_from.Given as goal
 
 abbrev pub invariant-loop-i : goal.invariant-loop-i

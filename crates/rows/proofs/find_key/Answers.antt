@@ -5,7 +5,6 @@ use native.Mathlib.Omega.{arith}
 use Rattle.inner.specs.Working.{working, place}
 use Rattle.rows.specs.Post.{key_of_halves}
 use Rattle.rows.proofs.Search.{key_of_id, found_place}
-use borrow.Author.Rules.{rules}
 use Rattle.rows.proofs.find_key.Goals as goal
 
 pub returns : goal.returns

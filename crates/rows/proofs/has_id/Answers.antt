@@ -1,6 +1,5 @@
 -- `rows::has_id` meets its contract.
 use mathlib.Core.Path.{sym, ◌∙◌}
-use borrow.Author.Rules.{rules}
 use Rattle.rows.proofs.has_id.Goals as goal
 
 pub returns : goal.returns

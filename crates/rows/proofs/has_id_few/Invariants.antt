@@ -1,13 +1,11 @@
 -- The loop of `rows::has_id_few`.
-use mathlib.Core.Path.{◌≡◌, refl, sym, ◌∙◌}
+use mathlib.Core.Path.{◌≡◌}
 use Prim.Native.Nat.{◌-◌, ◌≤◌}
-use native.Mathlib.Omega.{arith}
 use lib.ListN.{drop}
 use Rattle.model.specs.Octets.{value}
 use Rattle.model.specs.Schema.{Schema}
 use Rattle.model.specs.Rows.{has_id}
 use Rattle.inner.specs.Working.{working}
-use Rattle.inner.proofs.Working.{has_id_here, has_id_on, has_id_end}
 use Rattle.rows.proofs.has_id_few.Given as goal
 
 abbrev pub invariant-loop-i : goal.invariant-loop-i

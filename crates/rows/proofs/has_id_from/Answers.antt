@@ -1,12 +1,7 @@
 -- `rows::has_id_from` meets its contract.
-use mathlib.Core.Path.{◌≡◌, refl, sym, ◌∙◌}
-use Prim.Native.Nat.{◌-◌, ◌≤◌}
+use mathlib.Core.Path.{refl, sym, ◌∙◌}
 use native.Mathlib.Omega.{arith}
-use lib.ListN.{drop}
 use Rattle.model.specs.Octets.{value}
-use Rattle.model.specs.Schema.{Schema}
-use Rattle.model.specs.Rows.{has_id}
-use Rattle.inner.specs.Working.{working}
 use Rattle.inner.proofs.Working.{has_id_here, has_id_on, has_id_end}
 use Rattle.rows.proofs.has_id_from.Goals as goal
 

@@ -4,7 +4,6 @@ use Rattle.model.specs.Octets.{value}
 use Rattle.model.specs.Rows.{key_of}
 use Rattle.inner.specs.Working.{working}
 use Rattle.inner.proofs.Places.{place_at, place_none}
-use borrow.Author.Rules.{rules}
 use Rattle.rows.proofs.has_key.Goals as goal
 
 pub returns-in-At : goal.returns-in-At

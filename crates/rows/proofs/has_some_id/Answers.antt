@@ -6,7 +6,6 @@ use Prim.Native.Nat.{ℕ, ◌^◌}
 use lib.Dec.{eqb, ltb}
 use Rattle.model.specs.Octets.{value}
 use Rattle.inner.specs.Working.{id_in}
-use borrow.Author.Rules.{rules}
 use Rattle.rows.proofs.has_some_id.Goals as goal
 
 pub returns : goal.returns

@@ -3,7 +3,6 @@ use mathlib.Core.Path.{ap, ◌∙◌}
 use lib.Dec.{eqb}
 use Rattle.model.specs.Octets.{value}
 use Rattle.inner.specs.Working.{id_in}
-use borrow.Author.Rules.{rules}
 use Rattle.rows.proofs.has_this_id.Goals as goal
 
 pub returns : goal.returns

@@ -1,9 +1,9 @@
 -- `rows::insert_at` meets its contract.
 use mathlib.Core.Path.{◌≡◌, refl, ap, ◌∙◌}
 use mathlib.Core.List.{[]}
-use Prim.Native.Nat.{◌+◌, ◌-◌, ◌≤◌}
+use Prim.Native.Nat.{◌+◌, ◌-◌}
 use native.Mathlib.Omega.{arith}
-use lib.ListN.{length, get_or, set, take, length-set}
+use lib.ListN.{get_or, set, take, length-set}
 use Rattle.rows.proofs.Laws.{moved, moved_none, moved_more, moved_end}
 use Rattle.rows.proofs.insert_at.Goals as goal
 

@@ -1,10 +1,9 @@
 -- The loop of `rows::insert_at`.
-use mathlib.Core.Path.{◌≡◌, refl, ap, ◌∙◌}
+use mathlib.Core.Path.{◌≡◌}
 use mathlib.Core.List.{[]}
-use Prim.Native.Nat.{◌+◌, ◌-◌, ◌≤◌}
-use native.Mathlib.Omega.{arith}
-use lib.ListN.{length, get_or, set, take, length-set}
-use Rattle.rows.proofs.Laws.{moved, moved_none, moved_more, moved_end}
+use Prim.Native.Nat.{◌≤◌}
+use lib.ListN.{length}
+use Rattle.rows.proofs.Laws.{moved}
 use Rattle.rows.proofs.insert_at.Given as goal
 
 abbrev pub invariant-loop-k : goal.invariant-loop-k

@@ -4,7 +4,6 @@ use lib.Dec.{eqb}
 use Rattle.model.specs.Octets.{value}
 use Rattle.model.specs.Rows.{key_of}
 use Rattle.inner.proofs.Working.{key_head}
-use borrow.Author.Rules.{rules}
 use Rattle.rows.proofs.is_row.Goals as goal
 
 pub returns : goal.returns

@@ -2,7 +2,6 @@
 use Rattle.model.specs.Octets.{value}
 use mathlib.Core.Path.{sym, ap, ◌∙◌}
 use Rattle.inner.proofs.Working.{key_head}
-use borrow.Author.Rules.{rules}
 use Rattle.rows.proofs.less.Goals as goal
 
 pub returns : goal.returns

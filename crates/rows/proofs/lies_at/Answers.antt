@@ -6,7 +6,6 @@ use lib.ListN.{get_or, take, drop}
 use Rattle.model.specs.Octets.{value}
 use Rattle.rows.specs.Post.{key_of_halves}
 use Rattle.rows.proofs.Search.{row_halves, other_half, same_halves}
-use borrow.Author.Rules.{rules}
 use Rattle.rows.proofs.lies_at.Goals as goal
 
 pub returns-then-low-word : goal.returns-then-low-word

@@ -7,7 +7,6 @@ use Prim.Native.Nat.{ℕ, ◌%◌}
 use Rattle.model.specs.Octets.{value}
 use Rattle.inner.specs.Working.{id_in}
 use Rattle.rows.proofs.Search.{low_half}
-use borrow.Author.Rules.{rules}
 use Rattle.rows.proofs.may_be.Goals as goal
 
 pub returns : goal.returns

@@ -8,7 +8,6 @@ use Rattle.inner.specs.Working.{born_count}
 use Rattle.model.proofs.Octets.{octets, value_lt}
 use Rattle.inner.proofs.NewRows.{new_head as head_is}
 use Rattle.rows.proofs.Laws.{head_made}
-use borrow.Author.Rules.{rules}
 use Rattle.rows.proofs.new_head.Goals as goal
 
 -- the id in its place
@@ -28,7 +27,10 @@ returns c =
     let t = c.args.table in
     let q = put id c.put_bytes.new.out c.requires.0 c.put_bytes.ensures in
     let n = c.put_counts.ensures in
-    record { value = λ cs few m. (λ j. t ∷ take 16 (q j ++ replicate 8 0) ++ (n j ++ drop 6 (drop 17 (t ∷ q j ++ replicate 8 0))))
+    record {
+      value = λ cs few m. (λ j. t ∷ take 16 (q j ++ replicate 8 0) ++ (n j ++ drop 6 (drop 17 (t ∷ q j ++ replicate 8 0))))
           ∙ head_made t id (map born_count c.args.mins.now) c.requires.0
           ∙ ap (λ (l : List ℕ). t ∷ id ++ (map born_count l ++ 0 ∷ 0 ∷ [])) m
-          ∙ head_is t id cs few c.requires.0 o; id_bound = rw c.requires.0 at (value_lt id o) }
+          ∙ head_is t id cs few c.requires.0 o;
+      id_bound = rw c.requires.0 at (value_lt id o);
+    }

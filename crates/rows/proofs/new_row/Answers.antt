@@ -6,7 +6,6 @@ use lib.ListN.{replicate}
 use Rattle.model.specs.Octets.{value}
 use Rattle.model.specs.Value.{blank}
 use Rattle.inner.proofs.NewRows.{new_cells}
-use borrow.Author.Rules.{rules}
 use Rattle.rows.proofs.new_row.Goals as goal
 
 pub returns : goal.returns

@@ -4,7 +4,6 @@ use mathlib.Core.Bool.{true, false}
 use native.Mathlib.Omega.{arith}
 use Rattle.rows.specs.Post.{key_of_halves}
 use Rattle.rows.proofs.Search.{from_here, none_yet, at_start, one_more}
-use borrow.Author.Rules.{rules}
 use Rattle.rows.proofs.of_four.Goals as goal
 
 pub returns-then-lies_at : goal.returns-then-lies_at

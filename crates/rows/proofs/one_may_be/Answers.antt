@@ -1,15 +1,14 @@
 -- `rows::one_may_be` meets its contract.
-use mathlib.Core.Path.{◌≡◌, refl, sym, ap, ◌∙◌}
-use mathlib.Core.Bool.{Bool, true, false}
+use mathlib.Core.Path.{◌≡◌, refl, sym, ◌∙◌}
+use mathlib.Core.Bool.{Bool, true}
 use mathlib.Core.List.{[]}
-use Prim.Native.Nat.{ℕ, ◌+◌, ◌%◌, ◌<◌}
+use Prim.Native.Nat.{ℕ, ◌+◌, ◌%◌}
 use native.Mathlib.Omega.{arith}
 use lib.Dec.{eqb}
 use lib.ListN.{get_or}
 use Rattle.model.proofs.Tests.{clash}
 use Rattle.inner.specs.Working.{id_in}
 use Rattle.rows.proofs.Search.{one_more}
-use borrow.Author.Rules.{rules}
 use Rattle.rows.proofs.one_may_be.Goals as goal
 
 pub returns-then-may_be : goal.returns-then-may_be

@@ -1,13 +1,7 @@
 -- `rows::passed` meets its contract.
-use mathlib.Core.Path.{◌≡◌, refl, sym, ◌∙◌}
-use Prim.Native.Nat.{◌-◌, ◌≤◌}
+use mathlib.Core.Path.{refl, sym, ◌∙◌}
 use native.Mathlib.Omega.{arith}
-use borrow.Author.Rules.{rules}
-use lib.ListN.{drop}
 use Rattle.model.specs.Octets.{value}
-use Rattle.model.specs.Schema.{Schema}
-use Rattle.model.specs.Rows.{has_id}
-use Rattle.inner.specs.Working.{working}
 use Rattle.rows.proofs.Search.{low_half, pass_four}
 use Rattle.rows.proofs.passed.Goals as goal
 

@@ -1,14 +1,11 @@
 -- The loop of `rows::passed`.
-use mathlib.Core.Path.{◌≡◌, refl, sym, ◌∙◌}
+use mathlib.Core.Path.{◌≡◌}
 use Prim.Native.Nat.{◌-◌, ◌≤◌}
-use native.Mathlib.Omega.{arith}
-use borrow.Author.Rules.{rules}
 use lib.ListN.{drop}
 use Rattle.model.specs.Octets.{value}
 use Rattle.model.specs.Schema.{Schema}
 use Rattle.model.specs.Rows.{has_id}
 use Rattle.inner.specs.Working.{working}
-use Rattle.rows.proofs.Search.{low_half, pass_four}
 use Rattle.rows.proofs.passed.Given as goal
 
 abbrev pub invariant-loop-i : goal.invariant-loop-i

@@ -1,10 +1,9 @@
 -- `rows::put_counts` meets its contract.
 use mathlib.Core.Path.{◌≡◌, refl, ◌∙◌}
-use Prim.Native.Nat.{◌-◌, ◌≤◌}
 use native.Mathlib.Omega.{arith}
 use lib.ListN.{length, set, length-set}
 use Rattle.inner.specs.Working.{born_count}
-use Rattle.rows.proofs.Laws.{made, made_more, made_end}
+use Rattle.rows.proofs.Laws.{made_more, made_end}
 use Rattle.rows.proofs.put_counts.Goals as goal
 
 pub loop-k-init : goal.loop-k-init

@@ -1,10 +1,9 @@
 -- The loop of `rows::put_counts`.
-use mathlib.Core.Path.{◌≡◌, refl, ◌∙◌}
+use mathlib.Core.Path.{◌≡◌}
 use Prim.Native.Nat.{◌-◌, ◌≤◌}
-use native.Mathlib.Omega.{arith}
-use lib.ListN.{length, set, length-set}
+use lib.ListN.{length}
 use Rattle.inner.specs.Working.{born_count}
-use Rattle.rows.proofs.Laws.{made, made_more, made_end}
+use Rattle.rows.proofs.Laws.{made}
 use Rattle.rows.proofs.put_counts.Given as goal
 
 abbrev pub invariant-loop-k : goal.invariant-loop-k

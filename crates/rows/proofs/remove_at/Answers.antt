@@ -6,7 +6,6 @@ use lib.ListN.{take}
 use Rattle.inner.specs.Working.{working}
 use Rattle.inner.proofs.Places.{place_at, working_removed, tidy_removed}
 use Rattle.inner.proofs.Ordering.{removed_ordered}
-use borrow.Author.Rules.{rules}
 use Rattle.rows.proofs.remove_at.Goals as goal
 
 pub returns : goal.returns

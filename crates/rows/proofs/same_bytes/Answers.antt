@@ -1,10 +1,6 @@
 -- `rows::same_bytes` meets its contract.
-use mathlib.Core.Path.{◌≡◌, refl, sym, ◌∙◌}
-use mathlib.Core.Bool.{◌&&◌}
-use Prim.Native.Nat.{◌-◌, ◌≤◌}
+use mathlib.Core.Path.{refl, sym, ◌∙◌}
 use native.Mathlib.Omega.{arith}
-use lib.ListN.{drop}
-use Rattle.model.specs.Octets.{eq_bytes}
 use Rattle.rows.proofs.Laws.{same_on, same_end}
 use Rattle.rows.proofs.same_bytes.Goals as goal
 

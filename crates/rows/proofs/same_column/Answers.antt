@@ -3,7 +3,6 @@ use mathlib.Core.Path.{sym, ◌∙◌}
 use Rattle.model.specs.Base.{eq_lists}
 use Rattle.inner.specs.Working.{value_in}
 use Rattle.rows.proofs.Laws.{value_no, value_yes}
-use borrow.Author.Rules.{rules}
 use Rattle.rows.proofs.same_column.Goals as goal
 
 pub returns-then-count_of : goal.returns-then-count_of

@@ -14,7 +14,6 @@ use Rattle.model.specs.Octets.{value, eq_bytes}
 use Rattle.model.specs.Rows.{key_of}
 use Rattle.model.proofs.Octets.{octets}
 use Rattle.inner.proofs.Working.{same_key}
-use borrow.Author.Rules.{rules}
 use Rattle.rows.proofs.same_keys.Goals as goal
 
 pub returns-then-table-key : goal.returns-then-table-key

@@ -6,7 +6,6 @@ use lib.ListN.{length, get_or}
 use Rattle.model.specs.Areas.{row_from}
 use Rattle.model.specs.Value.{Value}
 use Rattle.inner.proofs.Columns.{row_set, tidy_column}
-use borrow.Author.Rules.{rules}
 use Rattle.rows.proofs.set_column.Goals as goal
 
 pub returns : goal.returns

@@ -1,10 +1,7 @@
 -- `rows::slot_of` meets its contract.
-use mathlib.Core.Path.{◌≡◌, sym, ◌∙◌}
-use Prim.Native.Nat.{◌+◌, ◌-◌, ◌≤◌}
+use mathlib.Core.Path.{sym, ◌∙◌}
 use native.Mathlib.Omega.{arith}
-use lib.ListN.{drop}
-use Rattle.model.specs.Schema.{Schema}
-use Rattle.inner.specs.Working.{working, key_in, slot}
+use Rattle.inner.specs.Working.{key_in}
 use Rattle.inner.proofs.Working.{slot_here, slot_on, slot_end}
 use Rattle.rows.proofs.slot_of.Goals as goal
 

@@ -1,11 +1,9 @@
 -- The loop of `rows::slot_of`.
-use mathlib.Core.Path.{◌≡◌, sym, ◌∙◌}
+use mathlib.Core.Path.{◌≡◌}
 use Prim.Native.Nat.{◌+◌, ◌-◌, ◌≤◌}
-use native.Mathlib.Omega.{arith}
 use lib.ListN.{drop}
 use Rattle.model.specs.Schema.{Schema}
 use Rattle.inner.specs.Working.{working, key_in, slot}
-use Rattle.inner.proofs.Working.{slot_here, slot_on, slot_end}
 use Rattle.rows.proofs.slot_of.Given as goal
 
 abbrev pub invariant-loop-i : goal.invariant-loop-i

@@ -4,7 +4,6 @@ use mathlib.Core.Bool.{not}
 use native.Mathlib.Omega.{arith}
 use Rattle.model.proofs.Octets.{octets}
 use Rattle.rows.proofs.Laws.{some_id}
-use borrow.Author.Rules.{rules}
 use Rattle.rows.proofs.some_id.Goals as goal
 
 pub returns : goal.returns

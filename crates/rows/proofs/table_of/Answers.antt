@@ -1,7 +1,6 @@
 -- `rows::table_of` meets its contract.
 use mathlib.Core.Path.{refl}
 use Rattle.inner.specs.Working.{table_in}
-use borrow.Author.Rules.{rules}
 use Rattle.rows.proofs.table_of.Goals as goal
 
 pub returns : goal.returns

@@ -7,7 +7,6 @@ use lib.Dec.{ltb}
 use lib.ListN.{get_or}
 use Rattle.rows.specs.Post.{key_of_halves}
 use Rattle.rows.proofs.Search.{row_halves, up_to}
-use borrow.Author.Rules.{rules}
 use Rattle.rows.proofs.up_to.Goals as goal
 
 pub returns : goal.returns

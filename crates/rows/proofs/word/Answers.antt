@@ -3,7 +3,6 @@ use mathlib.Core.Path.{ap, ◌∙◌}
 use native.Mathlib.Omega.{arith}
 use lib.Seq.{take_all}
 use Rattle.model.specs.Octets.{value}
-use borrow.Author.Rules.{rules}
 use Rattle.rows.proofs.word.Goals as goal
 
 pub returns : goal.returns

@@ -7,7 +7,6 @@ use Rattle.model.specs.declared.Next.TheVariants.{Done}
 use Rattle.model.specs.Json.{after_item, comma_or}
 use Rattle.scan.proofs.Ends.{no_end}
 use Rattle.scan.proofs.Bytes.{inside_byte}
-use borrow.Author.Rules.{rules}
 use Rattle.scan.proofs.after.Goals as goal
 
 pub returns-in_default : goal.returns-in_default

@@ -1,15 +1,13 @@
 -- `scan::body` meets its contract.
-use borrow.Author.Rules.{rules}
 use mathlib.Core.Path.{◌≡◌, sym, ap, ◌∙◌}
 use mathlib.Core.Logic.{⊎_elim}
 use native.Mathlib.Omega.{arith}
 use Rattle.model.specs.declared.Next.TheVariants.{More}
-use Rattle.model.specs.Scan.{byte, run}
+use Rattle.model.specs.Scan.{byte}
 use Rattle.scan.specs.Strings.{is_plain}
 use Rattle.scan.proofs.Plain.{inside_plain, plain_next, quote_ends}
 use Rattle.scan.proofs.Bytes.{inside_byte}
 use Rattle.model.specs.Strings.{char_turn}
-use Prim.Native.Nat.{◌≤◌, ◌-◌}
 use native.Mathlib.Nat.{sub-zero}
 use lib.Dec.{lit<}
 use Rattle.scan.proofs.Items.{turn, done, spent}

@@ -7,7 +7,6 @@ use Rattle.scan.proofs.Bytes.{inside, inside_byte}
 use Rattle.scan.proofs.Same.{wide_same, ascii_goes}
 use Rattle.model.specs.Strings.{char_by, going}
 use Rattle.scan.specs.Units.{wide_by}
-use borrow.Author.Rules.{rules}
 use Rattle.scan.proofs.character.Goals as goal
 
 pub overflow_add-result : goal.overflow_add-result

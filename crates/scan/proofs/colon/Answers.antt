@@ -4,7 +4,6 @@ use Rattle.model.specs.Scan.{within_at, then_read}
 use Rattle.scan.proofs.Ends.{read_not}
 use Rattle.model.specs.declared.Read.TheVariants.{End}
 use Rattle.scan.specs.Strings.{colon_at}
-use borrow.Author.Rules.{rules}
 use Rattle.scan.proofs.colon.Goals as goal
 
 pub returns-in_default : goal.returns-in_default

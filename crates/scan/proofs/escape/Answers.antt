@@ -8,7 +8,6 @@ use Rattle.scan.proofs.Bytes.{inside, inside_byte}
 use Rattle.scan.proofs.Same.{escape_same}
 use Rattle.model.specs.Strings.{escape_by, short_of}
 use Rattle.scan.specs.Units.{unit_by}
-use borrow.Author.Rules.{rules}
 use Rattle.scan.proofs.escape.Goals as goal
 
 pub overflow_add-at : goal.overflow_add-at

@@ -3,7 +3,6 @@ use mathlib.Core.Path.{refl, sym, ap, ◌∙◌}
 use native.Mathlib.Omega.{arith}
 use Rattle.scan.proofs.Bytes.{inside_test}
 use Rattle.model.specs.Numbers.{exp_at, is_exp, some_at}
-use borrow.Author.Rules.{rules}
 use Rattle.scan.proofs.exponent.Goals as goal
 
 pub overflow_add-at : goal.overflow_add-at

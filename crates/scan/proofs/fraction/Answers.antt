@@ -5,7 +5,6 @@ use native.Mathlib.Omega.{arith}
 use lib.Dec.{lit<}
 use Rattle.scan.proofs.Bytes.{inside_byte}
 use Rattle.model.specs.Numbers.{frac_at}
-use borrow.Author.Rules.{rules}
 use Rattle.scan.proofs.fraction.Goals as goal
 
 pub overflow_add-at : goal.overflow_add-at

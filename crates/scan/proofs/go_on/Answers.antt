@@ -1,6 +1,5 @@
 -- `scan::go_on` meets its contract.
 use Rattle.model.specs.Strings.{going}
-use borrow.Author.Rules.{rules}
 use Rattle.scan.proofs.go_on.Goals as goal
 
 pub returns-in-End : goal.returns-in-End

@@ -1,7 +1,6 @@
 -- `scan::hex_digit` meets its contract.
 use borrow.Author.Tests.{lt-ltb, le-ltb, le-leb, lt-leb}
 use Rattle.model.specs.Strings.{hex_of}
-use borrow.Author.Rules.{rules}
 use Rattle.scan.proofs.hex_digit.Goals as goal
 
 pub returns-then-b-lt-DIGIT_0 : goal.returns-then-b-lt-DIGIT_0

@@ -5,7 +5,6 @@ use native.Mathlib.Omega.{arith}
 use Rattle.scan.proofs.Bytes.{inside}
 use Rattle.model.specs.Strings.{hex_of}
 use Rattle.scan.specs.Units.{hex_step, hex_add}
-use borrow.Author.Rules.{rules}
 use Rattle.scan.proofs.hex_step.Goals as goal
 
 pub returns-then-d-eq16 : goal.returns-then-d-eq16

@@ -3,7 +3,6 @@ use mathlib.Core.Path.{ap}
 use borrow.Author.Tests.{lt-ltb, le-ltb}
 use Rattle.scan.specs.declared.Hex.TheVariants.{Bad}
 use Rattle.scan.specs.Units.{inside}
-use borrow.Author.Rules.{rules}
 use Rattle.scan.proofs.inside_of.Goals as goal
 
 pub returns-in_default : goal.returns-in_default

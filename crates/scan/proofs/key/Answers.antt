@@ -3,7 +3,6 @@ use mathlib.Core.Path.{ap, ◌∙◌}
 use Rattle.model.specs.Strings.{string_at}
 use Rattle.scan.specs.Strings.{colon_at}
 use Rattle.scan.proofs.Plain.{colon_key}
-use borrow.Author.Rules.{rules}
 use Rattle.scan.proofs.key.Goals as goal
 
 pub returns : goal.returns

@@ -1,6 +1,5 @@
 -- `scan::low_half` meets its contract.
 use Rattle.scan.specs.Units.{low_from}
-use borrow.Author.Rules.{rules}
 use Rattle.scan.proofs.low_half.Goals as goal
 
 pub returns-in-End : goal.returns-in-End

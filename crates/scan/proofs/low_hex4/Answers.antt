@@ -1,7 +1,6 @@
 -- `scan::low_hex4` meets its contract.
 use mathlib.Core.Path.{ap, ◌∙◌}
 use Rattle.scan.specs.Units.{hex_step, inside}
-use borrow.Author.Rules.{rules}
 use Rattle.scan.proofs.low_hex4.Goals as goal
 
 pub returns : goal.returns

@@ -1,7 +1,6 @@
 -- `scan::null` meets its contract.
 use mathlib.Core.Path.{ap, ◌∙◌}
 use Rattle.model.specs.Scan.{within_at, word_at}
-use borrow.Author.Rules.{rules}
 use Rattle.scan.proofs.null.Goals as goal
 
 pub returns : goal.returns

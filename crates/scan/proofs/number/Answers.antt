@@ -1,7 +1,6 @@
 -- `scan::number` meets its contract.
 use Rattle.model.specs.Scan.{then_read}
 use Rattle.scan.proofs.Ends.{read_not, read_not_twice}
-use borrow.Author.Rules.{rules}
 use Rattle.scan.proofs.number.Goals as goal
 
 pub returns-in_default : goal.returns-in_default

@@ -1,7 +1,6 @@
 -- `scan::opening_at` meets its contract.
 use mathlib.Core.Path.{◌∙◌, ap}
 use Rattle.model.specs.Json.{opens}
-use borrow.Author.Rules.{rules}
 use Rattle.scan.proofs.opening_at.Goals as goal
 
 pub returns : goal.returns

@@ -1,6 +1,5 @@
 -- `scan::pair` meets its contract.
 use Rattle.scan.specs.Units.{pair_by}
-use borrow.Author.Rules.{rules}
 use Rattle.scan.proofs.pair.Goals as goal
 
 pub returns-in-Unit16 : goal.returns-in-Unit16

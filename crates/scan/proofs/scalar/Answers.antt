@@ -1,7 +1,6 @@
 -- `scan::scalar` meets its contract.
 use borrow.Author.Tests.{ne_eqb}
 use Rattle.model.specs.Json.{scalar_by}
-use borrow.Author.Rules.{rules}
 use Rattle.scan.proofs.scalar.Goals as goal
 
 pub returns-then-b-eq-QUOTE : goal.returns-then-b-eq-QUOTE

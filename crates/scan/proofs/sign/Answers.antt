@@ -5,7 +5,6 @@ use native.Mathlib.Omega.{arith}
 use lib.Dec.{lit<}
 use Rattle.scan.proofs.Bytes.{inside_byte}
 use Rattle.model.specs.Numbers.{sign_at}
-use borrow.Author.Rules.{rules}
 use Rattle.scan.proofs.sign.Goals as goal
 
 pub overflow_add-result : goal.overflow_add-result

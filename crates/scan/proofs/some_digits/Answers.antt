@@ -1,7 +1,6 @@
 -- `scan::some_digits` meets its contract.
 use borrow.Author.Tests.{ne_eqb, eq-eqb}
 use Rattle.model.specs.Numbers.{some_from}
-use borrow.Author.Rules.{rules}
 use Rattle.scan.proofs.some_digits.Goals as goal
 
 pub returns-then-e-at : goal.returns-then-e-at

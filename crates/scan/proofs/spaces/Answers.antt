@@ -1,9 +1,8 @@
 -- `scan::spaces` meets its contract.
-use Prim.Native.Nat.{◌≤◌, ◌-◌}
-use mathlib.Core.Path.{◌≡◌, refl, sym, ap, ◌∙◌}
+use mathlib.Core.Path.{refl, sym, ap, ◌∙◌}
 use native.Mathlib.Omega.{arith}
 use native.Mathlib.Nat.{sub-zero}
-use Rattle.model.specs.Scan.{passing, is_space}
+use Rattle.model.specs.Scan.{is_space}
 use Rattle.scan.proofs.Bytes.{inside_test, pass_turn, pass_done, pass_spent}
 use Rattle.scan.proofs.spaces.Goals as goal
 

@@ -1,10 +1,7 @@
 -- The loop of `scan::spaces`.
 use Prim.Native.Nat.{◌≤◌, ◌-◌}
-use mathlib.Core.Path.{◌≡◌, refl, sym, ap, ◌∙◌}
-use native.Mathlib.Omega.{arith}
-use native.Mathlib.Nat.{sub-zero}
+use mathlib.Core.Path.{◌≡◌}
 use Rattle.model.specs.Scan.{passing, is_space}
-use Rattle.scan.proofs.Bytes.{inside_test, pass_turn, pass_done, pass_spent}
 use Rattle.scan.proofs.spaces.Given as goal
 
 abbrev pub invariant-loop-k : goal.invariant-loop-k

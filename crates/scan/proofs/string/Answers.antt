@@ -2,7 +2,6 @@
 use Rattle.model.specs.Scan.{and_then}
 use Rattle.scan.proofs.Ends.{then_not}
 use Rattle.model.specs.Strings.{string_at}
-use borrow.Author.Rules.{rules}
 use Rattle.scan.proofs.string.Goals as goal
 
 pub returns-in_default : goal.returns-in_default

@@ -1,7 +1,6 @@
 -- `scan::true_word` meets its contract.
 use mathlib.Core.Path.{ap, ◌∙◌}
 use Rattle.model.specs.Scan.{within_at, word_at}
-use borrow.Author.Rules.{rules}
 use Rattle.scan.proofs.true_word.Goals as goal
 
 pub returns : goal.returns

@@ -1,7 +1,6 @@
 -- `scan::unit` meets its contract.
 use mathlib.Core.Path.{sym, ap, ◌∙◌}
 use Rattle.scan.specs.Units.{unit_by, pair_by}
-use borrow.Author.Rules.{rules}
 use Rattle.scan.proofs.unit.Goals as goal
 
 pub returns-in-Whole : goal.returns-in-Whole

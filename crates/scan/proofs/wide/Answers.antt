@@ -5,7 +5,6 @@ use native.Mathlib.Omega.{arith}
 use Rattle.model.specs.Scan.{within_at}
 use Rattle.scan.proofs.Bytes.{inside}
 use Rattle.scan.specs.Units.{wide_by}
-use borrow.Author.Rules.{rules}
 use Rattle.scan.proofs.wide.Goals as goal
 
 pub returns-then-b-lt194 : goal.returns-then-b-lt194

@@ -5,7 +5,6 @@ use borrow.Author.Tests.{lt-ltb, le-ltb}
 use native.Mathlib.Omega.{arith}
 use Rattle.model.specs.Scan.{within_at}
 use Rattle.scan.proofs.Bytes.{inside}
-use borrow.Author.Rules.{rules}
 use Rattle.scan.proofs.within.Goals as goal
 
 pub returns-in_default : goal.returns-in_default

@@ -12,7 +12,6 @@ use Rattle.members.specs.Fields.{words_from, words_of, slot_tree}
 use Rattle.tables.specs.Tables.{TablesRead}
 use Rattle.schema.specs.Schema.{Filled}
 use Rattle.schema.proofs.Members.{fill_rest, fill_many, fill_good}
-use borrow.Author.Rules.{rules}
 use Rattle.schema.proofs.fill.Goals as goal
 
 pub fields-f-requires : goal.fields-f-requires

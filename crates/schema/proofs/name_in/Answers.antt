@@ -1,6 +1,5 @@
 -- `schema::name_in` meets its contract.
 use Rattle.schema.proofs.Members.{no_name, some_name}
-use borrow.Author.Rules.{rules}
 use Rattle.schema.proofs.name_in.Goals as goal
 
 pub returns-then-p-eq0 : goal.returns-then-p-eq0

@@ -1,6 +1,4 @@
 -- `schema::read` meets its contract.
-use borrow.Author.Rules.{rules}
-use borrow.Author.Tests.{not-true, not-false}
 use Rattle.schema.proofs.Tidying.{read_refused, readable, read_tidied}
 use Rattle.schema.proofs.read.Goals as goal
 

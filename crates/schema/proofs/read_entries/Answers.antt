@@ -2,7 +2,6 @@
 use mathlib.Core.Path.{refl, sym, ap, ◌∙◌}
 use Rattle.model.specs.Nav.{is_read}
 use Rattle.schema.proofs.Reading.{read_long, read_bad, read_well, read_good}
-use borrow.Author.Rules.{rules}
 use Rattle.schema.proofs.read_entries.Goals as goal
 
 pub returns-then-text-gt-SCHEMA_TEXT : goal.returns-then-text-gt-SCHEMA_TEXT

@@ -2,7 +2,6 @@
 use mathlib.Core.Path.{ap, ◌∙◌}
 use Rattle.model.specs.Nav.{is_text}
 use Rattle.schema.proofs.Members.{rest_allowed_lem}
-use borrow.Author.Rules.{rules}
 use Rattle.schema.proofs.rest_fits.Goals as goal
 
 pub returns : goal.returns

@@ -1,7 +1,6 @@
 -- `schema::tables_in` meets its contract.
 use borrow.Author.Tests.{ne_eqb}
 use Rattle.schema.proofs.Members.{no_tables, some_tables}
-use borrow.Author.Rules.{rules}
 use Rattle.schema.proofs.tables_in.Goals as goal
 
 pub returns-then-p-eq0 : goal.returns-then-p-eq0

@@ -1,7 +1,6 @@
 -- `schema::version_in` meets its contract.
 use mathlib.Core.Path.{◌∙◌}
 use Rattle.schema.proofs.Members.{no_version, some_version}
-use borrow.Author.Rules.{rules}
 use Rattle.schema.proofs.version_in.Goals as goal
 
 pub returns-then-p-eq0 : goal.returns-then-p-eq0

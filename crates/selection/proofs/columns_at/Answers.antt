@@ -2,7 +2,6 @@
 use mathlib.Core.Path.{ap, ◌∙◌}
 use Rattle.model.specs.Nav.{is_array}
 use Rattle.selection.proofs.Names.{columns_none, columns_array, columns_other}
-use borrow.Author.Rules.{rules}
 use Rattle.selection.proofs.columns_at.Goals as goal
 
 pub returns-then-p-eq0 : goal.returns-then-p-eq0

@@ -3,7 +3,6 @@ use mathlib.Core.Path.{sym, ap, ◌∙◌}
 use mathlib.Core.Bool.{Bool, not, ◌||◌}
 use Rattle.model.specs.Value.{same_value}
 use Rattle.inner.specs.Working.{value_in}
-use borrow.Author.Rules.{rules}
 use Rattle.selection.proofs.differ.Goals as goal
 
 pub returns-then-show : goal.returns-then-show

@@ -5,7 +5,6 @@ use native.Mathlib.Omega.{arith}
 use Rattle.inner.specs.Positions.{tree_at}
 use Rattle.model.specs.Catalog.{column_from}
 use Rattle.selection.proofs.Names.{fair_id, fair_column, fair_unknown, named_small}
-use borrow.Author.Rules.{rules}
 use Rattle.selection.proofs.is_fair.Goals as goal
 
 pub returns-then-id : goal.returns-then-id

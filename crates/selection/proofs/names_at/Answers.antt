@@ -1,9 +1,6 @@
 -- `selection::names_at` meets its contract.
-use borrow.Author.Rules.{rules}
-use borrow.Author.Tests.{not-true, not-false}
-use Rattle.inner.specs.Positions.{left}
 use Rattle.nav.proofs.Walk.{walk_less}
-use Rattle.selection.proofs.Names.{Naming, naming_none, naming_on, naming_not, naming_end}
+use Rattle.selection.proofs.Names.{naming_none, naming_on, naming_not, naming_end}
 use Rattle.selection.proofs.names_at.Goals as goal
 
 pub loop-g-init : goal.loop-g-init

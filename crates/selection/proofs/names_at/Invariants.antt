@@ -1,9 +1,6 @@
 -- The loop of `selection::names_at`.
-use borrow.Author.Rules.{rules}
-use borrow.Author.Tests.{not-true, not-false}
 use Rattle.inner.specs.Positions.{left}
-use Rattle.nav.proofs.Walk.{walk_less}
-use Rattle.selection.proofs.Names.{Naming, naming_none, naming_on, naming_not, naming_end}
+use Rattle.selection.proofs.Names.{Naming}
 use Rattle.selection.proofs.names_at.Given as goal
 
 abbrev pub invariant-loop-g : goal.invariant-loop-g

@@ -1,12 +1,9 @@
 -- The loop of `selection::repeats`.
-use mathlib.Core.Path.{◌≡◌, refl, sym, ap, ◌∙◌}
-use mathlib.Core.Bool.{Bool, ◌||◌}
+use mathlib.Core.Path.{◌≡◌}
 use mathlib.Core.List.{[]}
-use Prim.Native.Nat.{◌-◌, ◌≤◌}
-use native.Mathlib.Omega.{arith}
+use Prim.Native.Nat.{◌≤◌}
 use lib.ListN.{get_or}
 use Rattle.selection.specs.Picks.{repeated}
-use Rattle.selection.proofs.Picks.{again_step, again_end}
 use Rattle.selection.proofs.repeats.Given as goal
 
 abbrev pub invariant-loop-j : goal.invariant-loop-j

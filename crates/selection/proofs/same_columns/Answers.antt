@@ -1,7 +1,7 @@
 -- `selection::same_columns` meets its contract.
 use mathlib.Core.Path.{◌≡◌, sym, ap, ◌∙◌}
 use mathlib.Core.Bool.{Bool, not, ◌&&◌}
-use Prim.Native.Nat.{◌+◌, ◌-◌, ◌≤◌}
+use Prim.Native.Nat.{◌+◌, ◌-◌}
 use native.Mathlib.Omega.{arith}
 use Rattle.selection.specs.Picks.{same_from}
 use Rattle.selection.proofs.Picks.{columns_step, columns_end}

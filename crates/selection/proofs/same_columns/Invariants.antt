@@ -1,10 +1,7 @@
 -- The loop of `selection::same_columns`.
-use mathlib.Core.Path.{◌≡◌, sym, ap, ◌∙◌}
-use mathlib.Core.Bool.{Bool, not, ◌&&◌}
-use Prim.Native.Nat.{◌+◌, ◌-◌, ◌≤◌}
-use native.Mathlib.Omega.{arith}
+use mathlib.Core.Path.{◌≡◌}
+use Prim.Native.Nat.{◌-◌, ◌≤◌}
 use Rattle.selection.specs.Picks.{same_from}
-use Rattle.selection.proofs.Picks.{columns_step, columns_end}
 use Rattle.selection.proofs.same_columns.Given as goal
 
 abbrev pub invariant-loop-c : goal.invariant-loop-c

@@ -2,7 +2,6 @@
 use mathlib.Core.Path.{sym, ap, ◌∙◌}
 use mathlib.Core.Bool.{Bool, ◌&&◌}
 use Rattle.selection.specs.Picks.{same_by}
-use borrow.Author.Rules.{rules}
 use Rattle.selection.proofs.same_marked.Goals as goal
 
 pub returns-then-mark : goal.returns-then-mark

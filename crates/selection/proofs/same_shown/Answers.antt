@@ -1,6 +1,5 @@
 -- `selection::same_shown` meets its contract.
 use Rattle.selection.proofs.Picks.{same_yes, same_no, same_hidden}
-use borrow.Author.Rules.{rules}
 use Rattle.selection.proofs.same_shown.Goals as goal
 
 pub returns-then-same : goal.returns-then-same

@@ -12,7 +12,6 @@ use Rattle.json_writer.proofs.Putting.{put_then, put_is}
 use Rattle.catalog.specs.Entries.{columns_at}
 use Rattle.selection.specs.Picks.{picked_from}
 use Rattle.selection.proofs.Picks.{select_is}
-use borrow.Author.Rules.{rules}
 use Rattle.selection.proofs.select_rows.Goals as goal
 
 pub put_rows-b-requires : goal.put_rows-b-requires

@@ -1,13 +1,11 @@
 -- `selection::with_name` meets its contract.
-use borrow.Author.Rules.{rules}
 use mathlib.Core.Path.{◌∙◌, ap}
 use mathlib.Core.List.{List}
-use Prim.Native.Nat.{ℕ, ◌-◌, ◌≤◌}
+use Prim.Native.Nat.{ℕ}
 use native.Mathlib.Omega.{arith}
-use lib.ListN.{length}
 use Rattle.inner.specs.Positions.{tree_at}
 use Rattle.model.specs.Text.{is_word}
-use Rattle.selection.proofs.Names.{Adding, adding_none, adding_on, adding_end}
+use Rattle.selection.proofs.Names.{adding_none, adding_on, adding_end}
 use Rattle.selection.proofs.with_name.Goals as goal
 
 pub loop-c-init : goal.loop-c-init

@@ -1,13 +1,8 @@
 -- The loop of `selection::with_name`.
-use borrow.Author.Rules.{rules}
-use mathlib.Core.Path.{◌∙◌, ap}
-use mathlib.Core.List.{List}
-use Prim.Native.Nat.{ℕ, ◌-◌, ◌≤◌}
-use native.Mathlib.Omega.{arith}
+use Prim.Native.Nat.{◌-◌, ◌≤◌}
 use lib.ListN.{length}
 use Rattle.inner.specs.Positions.{tree_at}
-use Rattle.model.specs.Text.{is_word}
-use Rattle.selection.proofs.Names.{Adding, adding_none, adding_on, adding_end}
+use Rattle.selection.proofs.Names.{Adding}
 use Rattle.selection.proofs.with_name.Given as goal
 
 abbrev pub invariant-loop-c : goal.invariant-loop-c

@@ -1,8 +1,6 @@
 -- `store::mark` meets its contract.
 use mathlib.Core.Path.{◌∙◌}
 use native.Mathlib.Omega.{arith}
-use borrow.Author.Rules.{rules}
-use borrow.Author.Tests.{not-true, not-false}
 use Rattle.store.proofs.Calls.{mark_numbered, mark_length, mark_short, mark_disordered, mark_made}
 use Rattle.store.proofs.mark.Goals as goal
 

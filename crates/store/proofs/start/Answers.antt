@@ -1,7 +1,5 @@
 -- `store::start` meets its contract.
 use native.Mathlib.Omega.{arith}
-use borrow.Author.Rules.{rules}
-use borrow.Author.Tests.{not-true, not-false}
 use Rattle.store.proofs.Calls.{start_numbered, start_length, start_schema, start_made}
 use Rattle.store.proofs.start.Goals as goal
 

@@ -1,7 +1,5 @@
 -- `store::transact` meets its contract.
 use mathlib.Core.Path.{sym, ◌∙◌}
-use borrow.Author.Rules.{rules}
-use borrow.Author.Tests.{not-true, not-false}
 use Rattle.store.proofs.Transacting.{leaves, transact_length}
 use Rattle.store.proofs.transact.Goals as goal
 

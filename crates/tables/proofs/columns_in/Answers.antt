@@ -3,7 +3,6 @@ use mathlib.Core.List.{map}
 use borrow.Author.Tests.{ne_eqb}
 use Rattle.model.specs.Catalog.{entry_name}
 use Rattle.tables.proofs.Shapes.{columns_none, columns_some}
-use borrow.Author.Rules.{rules}
 use Rattle.tables.proofs.columns_in.Goals as goal
 
 pub returns-then-p-eq0 : goal.returns-then-p-eq0

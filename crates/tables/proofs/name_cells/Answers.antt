@@ -1,11 +1,11 @@
 -- `tables::name_cells` meets its contract.
 use mathlib.Core.Path.{◌≡◌, refl, ap, ◌∙◌}
 use mathlib.Core.List.{List, ◌++◌}
-use Prim.Native.Nat.{ℕ, ◌-◌}
+use Prim.Native.Nat.{ℕ}
 use native.Mathlib.Omega.{arith}
 use lib.ListN.{replicate}
 use Rattle.tables.specs.Tables.{head_at}
-use Rattle.tables.proofs.All.{Naming, naming_more}
+use Rattle.tables.proofs.All.{naming_more}
 use Rattle.tables.proofs.name_cells.Goals as goal
 
 pub loop-i-init : goal.loop-i-init

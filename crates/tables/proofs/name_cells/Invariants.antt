@@ -1,11 +1,6 @@
 -- The loop of `tables::name_cells`.
-use mathlib.Core.Path.{◌≡◌, refl, ap, ◌∙◌}
-use mathlib.Core.List.{List, ◌++◌}
-use Prim.Native.Nat.{ℕ, ◌-◌}
-use native.Mathlib.Omega.{arith}
-use lib.ListN.{replicate}
-use Rattle.tables.specs.Tables.{head_at}
-use Rattle.tables.proofs.All.{Naming, naming_more}
+use Prim.Native.Nat.{◌-◌}
+use Rattle.tables.proofs.All.{Naming}
 use Rattle.tables.proofs.name_cells.Given as goal
 
 abbrev pub invariant-loop-i : goal.invariant-loop-i

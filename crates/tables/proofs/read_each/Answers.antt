@@ -8,9 +8,8 @@ use Rattle.model.specs.Catalog.{entry_name}
 use Rattle.tables.specs.Tables.{TableRead}
 use Prim.Native.Nat.{ℕ, ◌+◌, ◌*◌, ◌-◌, ◌≤◌, ◌<◌}
 use native.Mathlib.Omega.{arith}
-use borrow.Author.Rules.{rules}
 use Rattle.octets.proofs.Rests.{mid_rest, put_rest}
-use Rattle.tables.proofs.Each.{Sofar, each_start, each_end, each_bad, each_more, here_fits, here_few, here_only, here_well}
+use Rattle.tables.proofs.Each.{each_start, each_end, each_bad, each_more, here_fits, here_few, here_only, here_well}
 use Rattle.tables.proofs.read_each.Goals as goal
 
 pub loop-i-init : goal.loop-i-init

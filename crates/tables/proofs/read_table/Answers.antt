@@ -14,7 +14,6 @@ use Rattle.model.specs.Catalog.{entry_name}
 use Rattle.inner.specs.Positions.{tree_at}
 use Rattle.members.specs.Fields.{words_from, words_of}
 use Rattle.tables.proofs.Shapes.{table_none, columns_well, columns_named, table_read}
-use borrow.Author.Rules.{rules}
 use Rattle.tables.proofs.read_table.Goals as goal
 
 pub fields-f-requires : goal.fields-f-requires

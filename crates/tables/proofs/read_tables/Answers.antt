@@ -6,7 +6,6 @@ use lib.ListN.{length}
 use lib.Seq.{length-take-le}
 use Rattle.inner.specs.Positions.{tree_at}
 use Rattle.tables.proofs.All.{too_many, heads_are, all_good, all_bad}
-use borrow.Author.Rules.{rules}
 use Rattle.tables.proofs.read_tables.Goals as goal
 
 pub returns-then-n-gt-TABLES : goal.returns-then-n-gt-TABLES

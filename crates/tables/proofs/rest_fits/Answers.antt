@@ -2,7 +2,6 @@
 use mathlib.Core.Path.{ap, ◌∙◌}
 use Rattle.model.specs.Nav.{is_truth}
 use Rattle.tables.proofs.Shapes.{rest_allowed_lem}
-use borrow.Author.Rules.{rules}
 use Rattle.tables.proofs.rest_fits.Goals as goal
 
 pub returns : goal.returns

@@ -5,7 +5,6 @@ use lib.Dec.{lit<}
 use Rattle.model.specs.Scan.{byte, spaces_at}
 use Rattle.scan.proofs.Bytes.{inside_byte}
 use Rattle.text.proofs.Words.{quote_place, other_place}
-use borrow.Author.Rules.{rules}
 use Rattle.text.proofs.body_at.Goals as goal
 
 pub overflow_add-result : goal.overflow_add-result

@@ -1,14 +1,13 @@
 -- `text::body_chars` meets its contract.
 use mathlib.Core.Path.{◌≡◌, ap, ◌∙◌}
 use mathlib.Core.Bool.{cond}
-use Prim.Native.Nat.{ℕ, ◌+◌, ◌≤◌}
+use Prim.Native.Nat.{ℕ, ◌+◌}
 use native.Mathlib.Omega.{arith}
-use lib.ListN.{length, drop}
+use lib.ListN.{drop}
 use Rattle.model.specs.Text.{begins, chars}
-use Rattle.text.specs.Steps.{body_from, bytes_of, Going}
+use Rattle.text.specs.Steps.{body_from, bytes_of}
 use Rattle.text.proofs.Matching.{counted_less}
 use Rattle.text.proofs.Stepping.{inside_none, going_on, bytes_less, chars_on, chars_end, body_size}
-use borrow.Author.Rules.{rules}
 use Rattle.text.proofs.body_chars.Goals as goal
 
 pub next_byte-x-requires : goal.next_byte-x-requires

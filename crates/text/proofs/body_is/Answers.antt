@@ -8,15 +8,12 @@ use Rattle.text.specs.Match.{matched}
 use Rattle.text.proofs.Matching.{going_on, eq_matched, matched_byte, matched_other, plain_bytes, matched_le, eq_rest}
 use mathlib.Core.Path.{◌≡◌, sym, ap, subst, ◌∙◌}
 use mathlib.Core.Logic.{⊎_elim}
-use Prim.Native.Nat.{suc, ◌+◌, ◌-◌, ◌≤◌}
+use Prim.Native.Nat.{suc, ◌+◌}
 use native.Mathlib.Omega.{arith}
 use native.Mathlib.Nat.{sub-zero}
-use lib.ListN.{length, drop}
-use borrow.Author.Rules.{rules}
-use Rattle.model.specs.Octets.{eq_bytes}
 use Rattle.model.specs.declared.Next.TheVariants.{More}
 use Rattle.model.specs.declared.Found.TheVariants.{At, Nothing}
-use Rattle.model.specs.Scan.{run, byte}
+use Rattle.model.specs.Scan.{byte}
 use Rattle.model.specs.Strings.{char_turn, char_adds, char_bytes}
 use Rattle.text.proofs.body_is.Goals as goal
 

@@ -9,7 +9,6 @@ use Rattle.model.specs.Strings.{char_bytes}
 use Rattle.text.specs.Match.{matched}
 use Rattle.text.proofs.Pushing.{held}
 use Rattle.text.proofs.Sizes.{escape_small}
-use borrow.Author.Rules.{rules}
 use Rattle.text.proofs.char_is.Goals as goal
 
 pub part_is-requires : goal.part_is-requires

@@ -9,7 +9,6 @@ use Rattle.text.specs.Steps.{picked}
 use Rattle.text.proofs.Pushing.{held}
 use Rattle.text.proofs.Sizes.{escape_small}
 use Rattle.text.proofs.Stepping.{plain_bytes, between_length}
-use borrow.Author.Rules.{rules}
 use Rattle.text.proofs.char_step.Goals as goal
 
 pub pick-requires : goal.pick-requires

@@ -2,7 +2,6 @@
 use mathlib.Core.Path.{sym, ap, ◌∙◌}
 use Rattle.model.specs.Text.{chars}
 use Rattle.text.proofs.Stepping.{word_begins, word_none}
-use borrow.Author.Rules.{rules}
 use Rattle.text.proofs.chars_at.Goals as goal
 
 pub returns-in-At : goal.returns-in-At

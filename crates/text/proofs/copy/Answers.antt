@@ -1,12 +1,9 @@
 -- `text::copy` meets its contract.
-use borrow.Author.Rules.{rules}
-use Prim.Native.Nat.{◌-◌, ◌≤◌}
+use Prim.Native.Nat.{◌-◌}
 use mathlib.Core.Path.{◌≡◌, refl, ◌∙◌}
 use native.Mathlib.Omega.{arith}
 use native.Mathlib.Nat.{sub_self}
-use lib.ListN.{length}
-use Rattle.model.specs.Scan.{between}
-use Rattle.text.specs.Push.{Pushed, push_all_to, push_all_out}
+use Rattle.text.specs.Push.{push_all_to, push_all_out}
 use Rattle.text.proofs.Pushing.{pushed_append, between_more}
 use Rattle.text.proofs.copy.Goals as goal
 

@@ -1,13 +1,9 @@
 -- The loop of `text::copy`.
-use borrow.Author.Rules.{rules}
 use Prim.Native.Nat.{◌-◌, ◌≤◌}
-use mathlib.Core.Path.{◌≡◌, refl, ◌∙◌}
-use native.Mathlib.Omega.{arith}
-use native.Mathlib.Nat.{sub_self}
+use mathlib.Core.Path.{◌≡◌}
 use lib.ListN.{length}
 use Rattle.model.specs.Scan.{between}
-use Rattle.text.specs.Push.{Pushed, push_all_to, push_all_out}
-use Rattle.text.proofs.Pushing.{pushed_append, between_more}
+use Rattle.text.specs.Push.{Pushed}
 use Rattle.text.proofs.copy.Given as goal
 
 abbrev pub invariant-loop-i : goal.invariant-loop-i

@@ -1,6 +1,5 @@
 -- `text::count` meets its contract.
 use Rattle.text.specs.Push.{count_of}
-use borrow.Author.Rules.{rules}
 use Rattle.text.proofs.count.Goals as goal
 
 pub returns-in-To : goal.returns-in-To

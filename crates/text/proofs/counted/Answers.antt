@@ -1,6 +1,5 @@
 -- `text::counted` meets its contract.
 use native.Mathlib.Omega.{arith}
-use borrow.Author.Rules.{rules}
 use Rattle.text.proofs.counted.Goals as goal
 
 pub returns-then-more : goal.returns-then-more

@@ -7,7 +7,6 @@ use Prim.Native.Nat.{◌+◌}
 use Rattle.model.specs.Strings.{char_bytes}
 use Rattle.scan.proofs.Bytes.{inside_byte}
 use Rattle.text.proofs.Units.{unit_below, escape_bytes_same}
-use borrow.Author.Rules.{rules}
 use Rattle.text.proofs.emit.Goals as goal
 
 pub overflow_add-at : goal.overflow_add-at

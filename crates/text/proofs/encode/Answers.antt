@@ -1,7 +1,6 @@
 -- `text::encode` meets its contract.
 use borrow.Author.Tests.{lt-ltb, le-ltb}
 use Rattle.model.specs.Strings.{utf8}
-use borrow.Author.Rules.{rules}
 use Rattle.text.proofs.encode.Goals as goal
 
 pub returns-then-v-lt128 : goal.returns-then-v-lt128

@@ -1,6 +1,5 @@
 -- `text::escape_bytes` meets its contract.
 use Rattle.text.proofs.Units.{second_below, character_below}
-use borrow.Author.Rules.{rules}
 use Rattle.text.proofs.escape_bytes.Goals as goal
 
 pub unit_character-c-requires : goal.unit_character-c-requires

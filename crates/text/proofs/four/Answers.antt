@@ -1,6 +1,5 @@
 -- `text::four` meets its contract.
 use Rattle.text.proofs.Pushing.{pushed_append}
-use borrow.Author.Rules.{rules}
 use Rattle.text.proofs.four.Goals as goal
 
 pub returns : goal.returns

@@ -2,7 +2,6 @@
 use mathlib.Core.Path.{sym, ◌∙◌}
 use Rattle.inner.specs.Positions.{tree_at}
 use Rattle.text.proofs.Words.{place_tree, place_none, word_not, word_text}
-use borrow.Author.Rules.{rules}
 use Rattle.text.proofs.is_word.Goals as goal
 
 pub returns-in_default : goal.returns-in_default

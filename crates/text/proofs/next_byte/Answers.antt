@@ -3,7 +3,6 @@ use Prim.Native.Nat.{suc}
 use mathlib.Core.Path.{sym, subst, ◌∙◌}
 use Rattle.scan.proofs.Past.{PastNext, char_past}
 use Rattle.text.proofs.Stepping.{offset_in, picked_steps, done_steps}
-use borrow.Author.Rules.{rules}
 use Rattle.text.proofs.next_byte.Goals as goal
 
 pub char_step-requires : goal.char_step-requires

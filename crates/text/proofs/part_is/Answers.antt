@@ -1,8 +1,6 @@
 -- `text::part_is` meets its contract.
-use mathlib.Core.Path.{◌≡◌, refl, sym, ◌∙◌}
-use Prim.Native.Nat.{◌-◌}
+use mathlib.Core.Path.{refl, sym, ◌∙◌}
 use native.Mathlib.Omega.{arith}
-use Rattle.model.specs.Scan.{between}
 use Rattle.text.specs.Match.{matched}
 use Rattle.text.proofs.Matching.{first_between, no_between, matched_past, matched_off, matched_on}
 use Rattle.text.proofs.part_is.Goals as goal

@@ -1,10 +1,8 @@
 -- The loop of `text::part_is`.
-use mathlib.Core.Path.{◌≡◌, refl, sym, ◌∙◌}
+use mathlib.Core.Path.{◌≡◌}
 use Prim.Native.Nat.{◌-◌}
-use native.Mathlib.Omega.{arith}
 use Rattle.model.specs.Scan.{between}
 use Rattle.text.specs.Match.{matched}
-use Rattle.text.proofs.Matching.{first_between, no_between, matched_past, matched_off, matched_on}
 use Rattle.text.proofs.part_is.Given as goal
 
 abbrev pub invariant-loop-i : goal.invariant-loop-i

@@ -1,7 +1,6 @@
 -- `text::pick` meets its contract.
 use mathlib.Core.Path.{sym}
 use Rattle.text.proofs.Stepping.{picked_inside, picked_last}
-use borrow.Author.Rules.{rules}
 use Rattle.text.proofs.pick.Goals as goal
 
 pub returns-then-from-off : goal.returns-then-from-off

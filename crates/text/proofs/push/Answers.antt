@@ -3,7 +3,6 @@ use borrow.Author.Tests.{lt-ltb, le-ltb}
 use mathlib.Core.Path.{sym}
 use Rattle.text.specs.Push.{push_to, push_out, push_all_to, push_all_out}
 use lib.Seq.{set_out}
-use borrow.Author.Rules.{rules}
 use Rattle.text.proofs.push.Goals as goal
 
 pub returns-then-o-out : goal.returns-then-o-out

@@ -1,11 +1,8 @@
 -- `text::quote` meets its contract.
 use mathlib.Core.Path.{◌≡◌, sym, ap, ◌∙◌}
 use mathlib.Core.Logic.{⊎_elim}
-use Prim.Native.Nat.{◌-◌, ◌≤◌}
 use native.Mathlib.Omega.{arith}
 use native.Mathlib.Nat.{sub-zero}
-use borrow.Author.Rules.{rules}
-use Rattle.inner.specs.Positions.{quote_from}
 use Rattle.model.specs.declared.Next.TheVariants.{More}
 use Rattle.model.specs.Scan.{byte}
 use Rattle.model.specs.Strings.{char_by}

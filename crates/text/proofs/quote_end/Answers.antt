@@ -1,6 +1,5 @@
 -- `text::quote_end` meets its contract.
 use Rattle.inner.specs.Positions.{quote_end}
-use borrow.Author.Rules.{rules}
 use Rattle.text.proofs.quote_end.Goals as goal
 
 pub returns-in-End : goal.returns-in-End

@@ -1,10 +1,6 @@
 -- `text::same_bodies` meets its contract.
-use mathlib.Core.Path.{◌≡◌, sym, ◌∙◌}
-use lib.ListN.{length}
-use Rattle.model.specs.Octets.{eq_bytes}
-use Rattle.text.specs.Steps.{body_from, bytes_of, Going}
+use mathlib.Core.Path.{sym, ◌∙◌}
 use Rattle.text.proofs.Stepping.{inside_none, going_on, bytes_less, same_on, same_off, same_short, same_long, same_end}
-use borrow.Author.Rules.{rules}
 use Rattle.text.proofs.same_bodies.Goals as goal
 
 pub next_byte-x-requires : goal.next_byte-x-requires

@@ -1,10 +1,8 @@
 -- The loop of `text::same_bodies`.
-use mathlib.Core.Path.{◌≡◌, sym, ◌∙◌}
+use mathlib.Core.Path.{◌≡◌}
 use lib.ListN.{length}
 use Rattle.model.specs.Octets.{eq_bytes}
 use Rattle.text.specs.Steps.{body_from, bytes_of, Going}
-use Rattle.text.proofs.Stepping.{inside_none, going_on, bytes_less, same_on, same_off, same_short, same_long, same_end}
-use borrow.Author.Rules.{rules}
 use Rattle.text.proofs.same_bodies.Given as goal
 
 abbrev pub invariant-loop-x : goal.invariant-loop-x

@@ -5,7 +5,6 @@ use Rattle.model.specs.Text.{is_word}
 use Rattle.inner.specs.Positions.{tree_at, word_in}
 use Rattle.text.specs.Steps.{body_from}
 use Rattle.text.proofs.Stepping.{word_begins, word_none, same_begins, same_none}
-use borrow.Author.Rules.{rules}
 use Rattle.text.proofs.same_strings.Goals as goal
 
 pub returns-in-At-g : goal.returns-in-At-g

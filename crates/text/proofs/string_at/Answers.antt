@@ -1,12 +1,11 @@
 -- `text::string_at` meets its contract.
 use mathlib.Core.Path.{◌≡◌, sym, ◌∙◌}
-use Prim.Native.Nat.{ℕ, ◌+◌}
+use Prim.Native.Nat.{◌+◌}
 use mathlib.Core.Bool.{true}
 use Rattle.model.specs.Scan.{spaces_at}
 use Rattle.model.specs.Nav.{kind_of, is_text}
 use Rattle.inner.specs.Positions.{tree_at}
 use Rattle.text.proofs.Words.{place_text, place_none, none_held, plain_from, plain_held, decoded_held}
-use borrow.Author.Rules.{rules}
 use Rattle.text.proofs.string_at.Goals as goal
 
 pub returns-in_default : goal.returns-in_default

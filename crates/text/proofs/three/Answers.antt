@@ -1,6 +1,5 @@
 -- `text::three` meets its contract.
 use Rattle.text.proofs.Pushing.{pushed_append}
-use borrow.Author.Rules.{rules}
 use Rattle.text.proofs.three.Goals as goal
 
 pub returns : goal.returns

@@ -1,6 +1,5 @@
 -- `text::two` meets its contract.
 use Rattle.text.proofs.Pushing.{pushed_append}
-use borrow.Author.Rules.{rules}
 use Rattle.text.proofs.two.Goals as goal
 
 pub returns : goal.returns

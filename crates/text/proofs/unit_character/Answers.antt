@@ -1,6 +1,5 @@
 -- `text::unit_character` meets its contract.
 use mathlib.Core.Path.{sym, ◌∙◌}
-use native.Mathlib.Omega.{arith}
 use Rattle.model.specs.Strings.{◌to◌}
 use Rattle.model.proofs.Utf8.{of_range}
 use Rattle.text.specs.Units.{character_of}

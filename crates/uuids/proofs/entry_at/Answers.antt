@@ -2,7 +2,6 @@
 use native.Mathlib.Omega.{arith}
 use Prim.Native.Nat.{◌+◌, ◌*◌}
 use Rattle.uuids.specs.Named.{entry_at}
-use borrow.Author.Rules.{rules}
 use Rattle.uuids.proofs.entry_at.Goals as goal
 
 pub overflow_mul-result : goal.overflow_mul-result

@@ -3,7 +3,6 @@ use native.Mathlib.Omega.{arith}
 use Rattle.inner.specs.Positions.{tree_at}
 use Rattle.model.specs.Members.{members_in}
 use Rattle.uuids.proofs.Table.{entry_no_op, entry_no_insert, entry_no_name, entry_below, entry_some}
-use borrow.Author.Rules.{rules}
 use Rattle.uuids.proofs.entry_of.Goals as goal
 
 pub returns-in_default : goal.returns-in_default

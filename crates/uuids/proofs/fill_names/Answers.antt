@@ -3,11 +3,8 @@ use mathlib.Core.Path.{sym, ap, ◌∙◌}
 use Prim.Native.Nat.{ℕ}
 use native.Mathlib.Omega.{arith}
 use lib.ListN.{replicate}
-use Rattle.inner.specs.Positions.{left}
 use Rattle.nav.proofs.Walk.{walk_fine, walk_less}
-use Rattle.uuids.specs.Named.{operations_at}
-use Rattle.uuids.proofs.Table.{Filling, filling_start, filling_room, filling_on, filling_end}
-use borrow.Author.Rules.{rules}
+use Rattle.uuids.proofs.Table.{filling_start, filling_room, filling_on, filling_end}
 use Rattle.uuids.proofs.fill_names.Goals as goal
 
 pub put_bytes-requires : goal.put_bytes-requires

@@ -10,7 +10,6 @@ use Rattle.text.proofs.Words.{place_tree, place_none}
 use Rattle.uuids.specs.Ids.{Spells}
 use Rattle.uuids.proofs.Spelling.{not_36}
 use Rattle.uuids.proofs.Decoded.{fitted, over, no_id, id_string}
-use borrow.Author.Rules.{rules}
 use Rattle.uuids.proofs.id_at.Goals as goal
 
 pub returns-in_default : goal.returns-in_default

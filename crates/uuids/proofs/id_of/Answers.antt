@@ -1,11 +1,9 @@
 -- `uuids::id_of` meets its contract.
-use Prim.Native.Nat.{◌≤◌, ◌-◌, ◌+◌}
+use Prim.Native.Nat.{◌+◌}
 use native.Mathlib.Omega.{arith}
-use mathlib.Core.Path.{◌≡◌, subst, sym}
-use lib.ListN.{length}
+use mathlib.Core.Path.{subst, sym}
 use Rattle.uuids.specs.Ids.{Spells}
 use Rattle.uuids.proofs.Spelling.{Sofar, sofar_start, sofar_on, sofar_end, not_36}
-use borrow.Author.Rules.{rules}
 use Rattle.uuids.proofs.id_of.Goals as goal
 
 pub returns-then-t-ne-CHARACTERS : goal.returns-then-t-ne-CHARACTERS

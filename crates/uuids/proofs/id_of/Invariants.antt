@@ -1,11 +1,6 @@
 -- The loop of `uuids::id_of`.
-use Prim.Native.Nat.{◌≤◌, ◌-◌, ◌+◌}
-use native.Mathlib.Omega.{arith}
-use mathlib.Core.Path.{◌≡◌, subst, sym}
-use lib.ListN.{length}
-use Rattle.uuids.specs.Ids.{Spells}
-use Rattle.uuids.proofs.Spelling.{Sofar, sofar_start, sofar_on, sofar_end, not_36}
-use borrow.Author.Rules.{rules}
+use Prim.Native.Nat.{◌≤◌, ◌-◌}
+use Rattle.uuids.proofs.Spelling.{Sofar}
 use Rattle.uuids.proofs.id_of.Given as goal
 
 abbrev pub invariant-loop-at : goal.invariant-loop-at

@@ -4,7 +4,6 @@ use Prim.Native.Nat.{ℕ, suc, ◌-◌}
 use native.Mathlib.Omega.{arith}
 use Rattle.inner.specs.Positions.{tree_at, word_in}
 use Rattle.uuids.specs.Named.{is_entry}
-use borrow.Author.Rules.{rules}
 use Rattle.uuids.proofs.is_named.Goals as goal
 
 pub returns-then-p-gt0 : goal.returns-then-p-gt0

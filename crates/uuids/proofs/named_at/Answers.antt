@@ -5,7 +5,6 @@ use Rattle.inner.specs.Positions.{tree_at}
 use Rattle.model.specs.Nav.{is_text}
 use Rattle.uuids.proofs.Atoms.{atom_there, atom_none}
 use Rattle.uuids.proofs.Names.{named_not, named_some, named_none}
-use borrow.Author.Rules.{rules}
 use Rattle.uuids.proofs.named_at.Goals as goal
 
 pub returns-in-At : goal.returns-in-At

@@ -1,9 +1,8 @@
 -- `uuids::place_of` meets its contract.
-use mathlib.Core.Path.{◌≡◌, refl, sym, ◌∙◌}
-use Prim.Native.Nat.{◌-◌, ◌≤◌}
+use mathlib.Core.Path.{refl, sym, ◌∙◌}
 use native.Mathlib.Omega.{arith}
 use Rattle.inner.specs.Positions.{tree_at, word_in}
-use Rattle.uuids.specs.Named.{place_in, place_from}
+use Rattle.uuids.specs.Named.{place_in}
 use Rattle.uuids.proofs.Table.{place_here, place_on, place_end}
 use Rattle.uuids.proofs.place_of.Goals as goal
 

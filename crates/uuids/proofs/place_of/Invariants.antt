@@ -1,10 +1,8 @@
 -- The loop of `uuids::place_of`.
-use mathlib.Core.Path.{◌≡◌, refl, sym, ◌∙◌}
+use mathlib.Core.Path.{◌≡◌}
 use Prim.Native.Nat.{◌-◌, ◌≤◌}
-use native.Mathlib.Omega.{arith}
 use Rattle.inner.specs.Positions.{tree_at, word_in}
 use Rattle.uuids.specs.Named.{place_in, place_from}
-use Rattle.uuids.proofs.Table.{place_here, place_on, place_end}
 use Rattle.uuids.proofs.place_of.Given as goal
 
 abbrev pub invariant-loop-k : goal.invariant-loop-k

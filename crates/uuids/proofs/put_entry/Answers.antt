@@ -4,7 +4,6 @@ use native.Mathlib.Omega.{arith}
 use Prim.Native.Nat.{◌+◌, ◌*◌, ◌/◌}
 use lib.ListN.{length-set}
 use Rattle.uuids.specs.Named.{entry_put}
-use borrow.Author.Rules.{rules}
 use Rattle.uuids.proofs.put_entry.Goals as goal
 
 pub bounds-names-k-2 : goal.bounds-names-k-2

@@ -4,7 +4,6 @@ use Prim.Native.Nat.{ℕ, ◌+◌, ◌-◌, ◌*◌}
 use native.Mathlib.Omega.{arith}
 use lib.ListN.{take, drop, replicate}
 use Rattle.uuids.proofs.Names.{fresh_at, fresh_past}
-use borrow.Author.Rules.{rules}
 use Rattle.uuids.proofs.put_fresh.Goals as goal
 
 pub returns-then-k-lt-OPERATIONS : goal.returns-then-k-lt-OPERATIONS

@@ -1,12 +1,11 @@
 -- `uuids::put_id` meets its contract.
-use mathlib.Core.Path.{◌≡◌, ap, ◌∙◌}
+use mathlib.Core.Path.{ap, ◌∙◌}
 use mathlib.Core.List.{List, ◌++◌}
 use Prim.Native.Nat.{ℕ}
-use lib.ListN.{length, drop, replicate}
+use lib.ListN.{drop, replicate}
 use Rattle.model.specs.Octets.{big}
 use Rattle.octets.proofs.Rests.{write_next}
 use Rattle.model.proofs.Octets.{length_big}
-use borrow.Author.Rules.{rules}
 use Rattle.uuids.proofs.put_id.Goals as goal
 
 pub returns : goal.returns

@@ -3,7 +3,6 @@ use mathlib.Core.Path.{sym, ap, ◌∙◌}
 use mathlib.Core.Option.{some}
 use Rattle.uuids.specs.Ids.{id_atom}
 use Rattle.uuids.proofs.Atoms.{atom_there, atom_none}
-use borrow.Author.Rules.{rules}
 use Rattle.uuids.proofs.put_uuid.Goals as goal
 
 pub returns-in-Of : goal.returns-in-Of

@@ -2,7 +2,6 @@
 use Rattle.uuids.proofs.Spelling.{shift_fits}
 use mathlib.Core.Path.{refl}
 use Rattle.uuids.specs.Ids.{shifted}
-use borrow.Author.Rules.{rules}
 use Rattle.uuids.proofs.shift.Goals as goal
 
 pub overflow_add-result : goal.overflow_add-result

@@ -5,7 +5,6 @@ use borrow.Author.Tests.{ne_eqb, eq-eqb, lt-ltb, le-ltb}
 use Rattle.model.specs.Strings.{hex_of}
 use Rattle.uuids.specs.Ids.{shifted, spelt}
 use Rattle.uuids.proofs.Spelling.{spelt_dash, spelt_other, spelt_digit, spelt_none, spelt_bad}
-use borrow.Author.Rules.{rules}
 use Rattle.uuids.proofs.spell.Goals as goal
 
 pub returns-then-b-eq45 : goal.returns-then-b-eq45

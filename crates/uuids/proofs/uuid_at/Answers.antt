@@ -1,5 +1,5 @@
 -- `uuids::uuid_at` meets its contract.
-use mathlib.Core.Path.{sym, ap, subst, ◌∙◌}
+use mathlib.Core.Path.{sym, subst, ◌∙◌}
 use Rattle.inner.specs.Positions.{tree_at}
 use Rattle.model.specs.Nav.{items_in}
 use Rattle.elements.specs.Elements.{Pairs}
@@ -7,7 +7,6 @@ use Rattle.uuids.specs.Ids.{id_in}
 use Rattle.uuids.specs.Named.{names_at}
 use Rattle.uuids.proofs.Atoms.{atom_none, atom_as_lem}
 use Rattle.uuids.proofs.Names.{spells_atom, uuid_not, uuid_plain, uuid_named, uuid_other}
-use borrow.Author.Rules.{rules}
 use Rattle.uuids.proofs.uuid_at.Goals as goal
 
 pub pair_at-p-requires : goal.pair_at-p-requires

@@ -1,19 +1,11 @@
 -- The loop of `value::all_well`.
-use mathlib.Core.Path.{◌≡◌, refl, sym, ap, ◌∙◌}
-use mathlib.Core.Bool.{Bool, true, ◌&&◌}
-use mathlib.Core.List.{[]}
-use Prim.Native.Nat.{◌+◌, ◌-◌}
-use native.Mathlib.Omega.{arith}
-use borrow.Author.Rules.{rules}
+use mathlib.Core.Path.{◌≡◌}
+use mathlib.Core.Bool.{true, ◌&&◌}
+use Prim.Native.Nat.{◌-◌}
 use lib.ListN.{length, take, drop}
-use lib.Seq.{take_all}
 use Rattle.model.specs.Base.{all}
 use Rattle.model.specs.Catalog.{base_numbered}
 use Rattle.model.specs.Value.{well_atom, byte_atom}
-use Rattle.model.proofs.Tests.{and_l, and_r}
-use Rattle.atom.proofs.Cells.{all_on, all_end}
-use Rattle.value.proofs.Counts.{take_nil}
-use Rattle.value.proofs.Forms.{all_more}
 use Rattle.value.proofs.all_well.Given as goal
 
 abbrev pub invariant-loop-i : goal.invariant-loop-i

@@ -9,7 +9,6 @@ use Rattle.model.specs.Catalog.{base_numbered}
 use Rattle.model.specs.Value.{zeros, well_atom, byte_atom, ascending}
 use Rattle.octets.proofs.Rests.{mid_rest}
 use Rattle.value.proofs.Forms.{not_four, too_many, not_one, judged}
-use borrow.Author.Rules.{rules}
 use Rattle.value.proofs.canonical.Goals as goal
 
 pub returns-then-atoms-ne-ELEMENTS : goal.returns-then-atoms-ne-ELEMENTS

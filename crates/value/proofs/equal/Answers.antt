@@ -1,11 +1,6 @@
 -- `value::equal` meets its contract.
-use mathlib.Core.Path.{◌≡◌, refl, sym, ◌∙◌}
-use Prim.Native.Nat.{◌-◌}
+use mathlib.Core.Path.{refl, sym, ◌∙◌}
 use native.Mathlib.Omega.{arith}
-use borrow.Author.Rules.{rules}
-use borrow.Author.Tests.{not-true, not-false}
-use lib.ListN.{length, drop}
-use Rattle.model.specs.Base.{eq_lists}
 use Rattle.atom.proofs.Cells.{lists_on, lists_off, lists_end, lists_length}
 use Rattle.value.proofs.equal.Goals as goal
 

@@ -1,12 +1,8 @@
 -- The loop of `value::equal`.
-use mathlib.Core.Path.{◌≡◌, refl, sym, ◌∙◌}
+use mathlib.Core.Path.{◌≡◌}
 use Prim.Native.Nat.{◌-◌}
-use native.Mathlib.Omega.{arith}
-use borrow.Author.Rules.{rules}
-use borrow.Author.Tests.{not-true, not-false}
 use lib.ListN.{length, drop}
 use Rattle.model.specs.Base.{eq_lists}
-use Rattle.atom.proofs.Cells.{lists_on, lists_off, lists_end, lists_length}
 use Rattle.value.proofs.equal.Given as goal
 
 abbrev pub invariant-loop-i : goal.invariant-loop-i

@@ -1,13 +1,8 @@
 -- The loop of `value::first`.
-use mathlib.Core.Path.{◌≡◌, sym, ap, ◌∙◌}
-use mathlib.Core.List.{List, [], ◌∷◌}
-use Prim.Native.Nat.{ℕ, ◌+◌, ◌-◌, ◌≤◌, ◌<◌}
-use native.Mathlib.Numerals.{add-one}
-use native.Mathlib.Omega.{arith}
-use lib.ListN.{length, take, get_or}
-use lib.Seq.{take-suc, length-take-le}
-use Rattle.value.proofs.Counts.{take_nil}
-use Rattle.value.proofs.Fours.{padded, set_padded}
+use mathlib.Core.Path.{◌≡◌}
+use Prim.Native.Nat.{◌-◌, ◌≤◌}
+use lib.ListN.{take}
+use Rattle.value.proofs.Fours.{padded}
 use Rattle.value.proofs.first.Given as goal
 
 abbrev pub invariant-loop-i : goal.invariant-loop-i

@@ -3,7 +3,6 @@ use mathlib.Core.Path.{sym, ◌∙◌}
 use native.Mathlib.Omega.{arith}
 use lib.ListN.{length-take}
 use Rattle.value.proofs.Fours.{put_none}
-use borrow.Author.Rules.{rules}
 use Rattle.value.proofs.insert.Goals as goal
 
 pub slice_bounds-member-end : goal.slice_bounds-member-end

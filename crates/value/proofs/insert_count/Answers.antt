@@ -2,7 +2,6 @@
 use mathlib.Core.Path.{sym, ◌∙◌}
 use native.Mathlib.Omega.{arith}
 use Rattle.value.proofs.Counts.{more_count}
-use borrow.Author.Rules.{rules}
 use Rattle.value.proofs.insert_count.Goals as goal
 
 pub returns-then-member : goal.returns-then-member

@@ -1,14 +1,10 @@
 -- The loop of `value::member`.
-use mathlib.Core.Path.{◌≡◌, refl, sym, ap, ◌∙◌}
-use mathlib.Core.Bool.{Bool, ◌||◌}
-use Prim.Native.Nat.{◌+◌, ◌-◌}
-use mathlib.Core.List.{[]}
-use native.Mathlib.Omega.{arith}
-use borrow.Author.Rules.{rules}
+use mathlib.Core.Path.{◌≡◌}
+use mathlib.Core.Bool.{◌||◌}
+use Prim.Native.Nat.{◌-◌}
 use lib.ListN.{length, drop}
 use Rattle.model.specs.Octets.{eq_bytes}
 use Rattle.model.specs.Base.{any}
-use Rattle.atom.proofs.Cells.{any_on, any_end}
 use Rattle.value.proofs.member.Given as goal
 
 abbrev pub invariant-loop-i : goal.invariant-loop-i

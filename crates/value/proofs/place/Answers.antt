@@ -1,11 +1,7 @@
 -- `value::place` meets its contract.
-use mathlib.Core.Path.{◌≡◌, sym, ◌∙◌}
-use Prim.Native.Nat.{◌+◌, ◌-◌, ◌≤◌}
+use mathlib.Core.Path.{sym, ◌∙◌}
 use native.Mathlib.Omega.{arith}
-use borrow.Author.Rules.{rules}
-use lib.ListN.{length, drop}
 use Rattle.model.specs.Catalog.{base_numbered}
-use Rattle.value.specs.Places.{place_in}
 use Rattle.value.proofs.Order.{place_on, place_off, place_end}
 use Rattle.value.proofs.place.Goals as goal
 

@@ -1,12 +1,9 @@
 -- The loop of `value::place`.
-use mathlib.Core.Path.{◌≡◌, sym, ◌∙◌}
+use mathlib.Core.Path.{◌≡◌}
 use Prim.Native.Nat.{◌+◌, ◌-◌, ◌≤◌}
-use native.Mathlib.Omega.{arith}
-use borrow.Author.Rules.{rules}
 use lib.ListN.{length, drop}
 use Rattle.model.specs.Catalog.{base_numbered}
 use Rattle.value.specs.Places.{place_in}
-use Rattle.value.proofs.Order.{place_on, place_off, place_end}
 use Rattle.value.proofs.place.Given as goal
 
 abbrev pub invariant-loop-i : goal.invariant-loop-i

@@ -4,7 +4,6 @@ use native.Mathlib.Omega.{arith}
 use lib.ListN.{length-take}
 use Rattle.model.specs.Catalog.{base_numbered}
 use Rattle.value.proofs.Fours.{put_placed}
-use borrow.Author.Rules.{rules}
 use Rattle.value.proofs.put_in_order.Goals as goal
 
 pub slice_bounds-place-end : goal.slice_bounds-place-end

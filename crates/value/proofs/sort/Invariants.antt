@@ -1,11 +1,10 @@
 -- The loop of `value::sort`.
-use mathlib.Core.Path.{◌≡◌, ap, ◌∙◌}
-use Prim.Native.Nat.{ℕ, ◌≤◌}
-use native.Mathlib.Omega.{arith}
+use mathlib.Core.Path.{◌≡◌}
+use Prim.Native.Nat.{◌≤◌}
 use lib.ListN.{take, drop}
 use Rattle.model.specs.Catalog.{base_numbered}
 use Rattle.model.specs.Value.{sorted}
-use Rattle.value.proofs.Fours.{padded, sort_none, sort_on}
+use Rattle.value.proofs.Fours.{padded}
 use Rattle.value.proofs.sort.Given as goal
 
 abbrev pub invariant-loop-i : goal.invariant-loop-i

@@ -1,14 +1,12 @@
 -- `value::union_count` meets its contract.
-use mathlib.Core.Path.{◌≡◌, sym, ap, ◌∙◌}
+use mathlib.Core.Path.{sym, ap, ◌∙◌}
 use mathlib.Core.Bool.{Bool, ◌||◌}
 use mathlib.Core.List.{List, []}
-use Prim.Native.Nat.{ℕ, ◌+◌, ◌-◌, ◌≤◌}
+use Prim.Native.Nat.{ℕ, ◌+◌}
 use native.Mathlib.Omega.{arith}
-use borrow.Author.Rules.{rules}
 use lib.ListN.{length, take, get_or, length-take}
 use lib.Seq.{take_all}
 use Rattle.model.specs.Base.{if◌then◌else◌, member}
-use Rattle.model.specs.Schema.{Base}
 use Rattle.model.specs.Value.{union}
 use Rattle.value.proofs.Counts.{union_on, one_small, take_nil}
 use Rattle.value.proofs.union_count.Goals as goal

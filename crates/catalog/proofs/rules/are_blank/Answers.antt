@@ -1,11 +1,7 @@
 -- `catalog::rules::are_blank` meets its contract.
-use mathlib.Core.Path.{◌≡◌, refl, sym, ◌∙◌}
+use mathlib.Core.Path.{refl, sym, ◌∙◌}
 use mathlib.Core.List.{[]}
-use Prim.Native.Nat.{◌≤◌, ◌-◌}
 use native.Mathlib.Omega.{arith}
-use borrow.Author.Rules.{rules}
-use lib.ListN.{length, drop}
-use Rattle.model.specs.Base.{all}
 use Rattle.catalog.specs.Judging.{is_blank}
 use Rattle.catalog.proofs.Ids.{each_here, each_not, each_end}
 use Rattle.catalog.proofs.rules.are_blank.Goals as goal

@@ -1,13 +1,9 @@
 -- The loop of `catalog::rules::are_blank`.
-use mathlib.Core.Path.{◌≡◌, refl, sym, ◌∙◌}
-use mathlib.Core.List.{[]}
+use mathlib.Core.Path.{◌≡◌}
 use Prim.Native.Nat.{◌≤◌, ◌-◌}
-use native.Mathlib.Omega.{arith}
-use borrow.Author.Rules.{rules}
 use lib.ListN.{length, drop}
 use Rattle.model.specs.Base.{all}
 use Rattle.catalog.specs.Judging.{is_blank}
-use Rattle.catalog.proofs.Ids.{each_here, each_not, each_end}
 use Rattle.catalog.proofs.rules.are_blank.Given as goal
 
 abbrev pub invariant-loop-i : goal.invariant-loop-i

@@ -1,12 +1,6 @@
 -- `catalog::rules::are_distinct` meets its contract.
-use mathlib.Core.Path.{◌≡◌, refl, sym, ap, ◌∙◌}
-use mathlib.Core.List.{map}
-use Prim.Native.Nat.{◌≤◌, ◌-◌}
+use mathlib.Core.Path.{refl, sym, ◌∙◌}
 use native.Mathlib.Omega.{arith}
-use borrow.Author.Rules.{rules}
-use lib.ListN.{length, drop}
-use Rattle.model.specs.Base.{distinct}
-use Rattle.model.specs.Catalog.{entry_name}
 use Rattle.catalog.proofs.Distinct.{among_rest, distinct_not, distinct_next, distinct_end}
 use Rattle.catalog.proofs.rules.are_distinct.Goals as goal
 

@@ -1,13 +1,10 @@
 -- The loop of `catalog::rules::are_distinct`.
-use mathlib.Core.Path.{◌≡◌, refl, sym, ap, ◌∙◌}
+use mathlib.Core.Path.{◌≡◌}
 use mathlib.Core.List.{map}
 use Prim.Native.Nat.{◌≤◌, ◌-◌}
-use native.Mathlib.Omega.{arith}
-use borrow.Author.Rules.{rules}
 use lib.ListN.{length, drop}
 use Rattle.model.specs.Base.{distinct}
 use Rattle.model.specs.Catalog.{entry_name}
-use Rattle.catalog.proofs.Distinct.{among_rest, distinct_not, distinct_next, distinct_end}
 use Rattle.catalog.proofs.rules.are_distinct.Given as goal
 
 abbrev pub invariant-loop-i : goal.invariant-loop-i

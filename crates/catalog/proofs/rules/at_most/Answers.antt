@@ -4,7 +4,6 @@ use mathlib.Core.Bool.{not}
 use lib.Dec.{ltb}
 use Rattle.leaf.specs.Bytes.{halves}
 use Rattle.catalog.proofs.Twos.{at_most_is}
-use borrow.Author.Rules.{rules}
 use Rattle.catalog.proofs.rules.at_most.Goals as goal
 
 pub returns : goal.returns

@@ -1,7 +1,6 @@
 -- `catalog::rules::counts_well` meets its contract.
 use mathlib.Core.Path.{refl}
 use Rattle.catalog.specs.Judging.{counts_fine}
-use borrow.Author.Rules.{rules}
 use Rattle.catalog.proofs.rules.counts_well.Goals as goal
 
 pub returns : goal.returns

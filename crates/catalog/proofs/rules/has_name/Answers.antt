@@ -1,9 +1,7 @@
 -- `catalog::rules::has_name` meets its contract.
 use native.Mathlib.Omega.{arith}
 use mathlib.Core.Path.{sym}
-use Rattle.catalog.specs.Judging.{name_fine}
 use Rattle.catalog.proofs.Names.{name_long, name_code}
-use borrow.Author.Rules.{rules}
 use Rattle.catalog.proofs.rules.has_name.Goals as goal
 
 pub returns-then-n-gt-TEXT : goal.returns-then-n-gt-TEXT

@@ -1,10 +1,5 @@
 -- `catalog::rules::index_well` meets its contract.
-use mathlib.Core.Path.{refl}
-use mathlib.Core.Bool.{◌&&◌}
-use Prim.Native.Nat.{◌<◌, ◌≤◌}
-use lib.Dec.{leb, ltb}
 use Rattle.catalog.specs.Judging.{index_fine}
-use borrow.Author.Rules.{rules}
 use Rattle.catalog.proofs.rules.index_well.Goals as goal
 
 pub returns-then-used : goal.returns-then-used

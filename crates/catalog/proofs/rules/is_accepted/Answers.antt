@@ -1,13 +1,11 @@
 -- `catalog::rules::is_accepted` meets its contract.
 use mathlib.Core.Path.{◌≡◌, refl, sym, ap, ◌∙◌}
-use mathlib.Core.List.{[], map}
-use Prim.Native.Nat.{ℕ, ◌+◌, ◌-◌, ◌≤◌}
+use mathlib.Core.List.{map}
+use Prim.Native.Nat.{ℕ, ◌+◌, ◌-◌}
 use native.Mathlib.Omega.{arith}
-use borrow.Author.Rules.{rules}
-use lib.ListN.{get_or, take, drop}
+use lib.ListN.{take, drop}
 use Rattle.model.specs.Base.{distinct}
 use Rattle.model.specs.Catalog.{entry_name, table_count}
-use Rattle.catalog.specs.Judging.{tables_fine}
 use Rattle.catalog.proofs.Tables.{few_database, fine_next, fine_not, fine_end, judged_database, judged_tables, judged_names}
 use Rattle.catalog.proofs.Judged.{accepted_is}
 use Rattle.catalog.proofs.rules.is_accepted.Goals as goal

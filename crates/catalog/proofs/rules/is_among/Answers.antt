@@ -4,7 +4,6 @@ use mathlib.Core.List.{map}
 use Rattle.model.specs.Catalog.{entry_name}
 use Rattle.catalog.specs.Entries.{is_found, entry_named}
 use Rattle.catalog.proofs.Lookups.{found_member}
-use borrow.Author.Rules.{rules}
 use Rattle.catalog.proofs.rules.is_among.Goals as goal
 
 pub returns : goal.returns

@@ -1,10 +1,6 @@
 -- `catalog::rules::is_blank` meets its contract.
-use mathlib.Core.Path.{◌≡◌, refl, sym, ◌∙◌}
-use mathlib.Core.Bool.{◌&&◌}
-use Prim.Native.Nat.{◌≤◌, ◌-◌}
+use mathlib.Core.Path.{refl, sym, ◌∙◌}
 use native.Mathlib.Omega.{arith}
-use lib.ListN.{drop}
-use Rattle.model.specs.Base.{all}
 use Rattle.catalog.specs.Judging.{is_zero}
 use Rattle.catalog.proofs.Ids.{each_on, each_all}
 use Rattle.catalog.proofs.Heads.{blank_is}

@@ -1,13 +1,10 @@
 -- The loop of `catalog::rules::is_blank`.
-use mathlib.Core.Path.{◌≡◌, refl, sym, ◌∙◌}
+use mathlib.Core.Path.{◌≡◌}
 use mathlib.Core.Bool.{◌&&◌}
 use Prim.Native.Nat.{◌≤◌, ◌-◌}
-use native.Mathlib.Omega.{arith}
 use lib.ListN.{drop}
 use Rattle.model.specs.Base.{all}
 use Rattle.catalog.specs.Judging.{is_zero}
-use Rattle.catalog.proofs.Ids.{each_on, each_all}
-use Rattle.catalog.proofs.Heads.{blank_is}
 use Rattle.catalog.proofs.rules.is_blank.Given as goal
 
 abbrev pub invariant-loop-k : goal.invariant-loop-k

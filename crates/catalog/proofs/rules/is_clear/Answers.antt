@@ -1,11 +1,5 @@
 -- `catalog::rules::is_clear` meets its contract.
-use mathlib.Core.Path.{◌≡◌, refl, sym, ◌∙◌}
-use mathlib.Core.Bool.{◌&&◌}
-use Prim.Native.Nat.{◌-◌}
-use native.Mathlib.Omega.{arith}
-use borrow.Author.Rules.{rules}
-use lib.ListN.{length, drop}
-use Rattle.model.specs.Base.{all}
+use mathlib.Core.Path.{refl, sym, ◌∙◌}
 use Rattle.catalog.specs.Judging.{is_zero}
 use Rattle.catalog.proofs.Ids.{each_on, each_all}
 use Rattle.catalog.proofs.rules.is_clear.Goals as goal

@@ -1,13 +1,10 @@
 -- The loop of `catalog::rules::is_clear`.
-use mathlib.Core.Path.{◌≡◌, refl, sym, ◌∙◌}
+use mathlib.Core.Path.{◌≡◌}
 use mathlib.Core.Bool.{◌&&◌}
 use Prim.Native.Nat.{◌-◌}
-use native.Mathlib.Omega.{arith}
-use borrow.Author.Rules.{rules}
 use lib.ListN.{length, drop}
 use Rattle.model.specs.Base.{all}
 use Rattle.catalog.specs.Judging.{is_zero}
-use Rattle.catalog.proofs.Ids.{each_on, each_all}
 use Rattle.catalog.proofs.rules.is_clear.Given as goal
 
 abbrev pub invariant-loop-i : goal.invariant-loop-i

@@ -2,7 +2,6 @@
 use Rattle.model.proofs.Octets.{octets}
 use Rattle.catalog.specs.Judging.{column_test}
 use Rattle.catalog.proofs.Columns.{column_is}
-use borrow.Author.Rules.{rules}
 use Rattle.catalog.proofs.rules.is_column.Goals as goal
 
 pub returns : goal.returns

@@ -7,8 +7,6 @@ use lib.ListN.{length, drop, length-drop}
 use lib.Seq.{take_all}
 use Rattle.model.specs.Base.{all}
 use Rattle.catalog.specs.Judging.{is_zero, database_test}
-use Rattle.catalog.specs.Judging.{is_database}
-use borrow.Author.Rules.{rules}
 use Rattle.catalog.proofs.rules.is_database.Goals as goal
 
 pub returns : goal.returns

@@ -2,7 +2,6 @@
 use Rattle.model.proofs.Octets.{octets}
 use Rattle.catalog.specs.Judging.{head_test}
 use Rattle.catalog.proofs.Heads.{head_is}
-use borrow.Author.Rules.{rules}
 use Rattle.catalog.proofs.rules.is_head.Goals as goal
 
 pub returns : goal.returns

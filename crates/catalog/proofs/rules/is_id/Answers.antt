@@ -1,11 +1,7 @@
 -- `catalog::rules::is_id` meets its contract.
-use borrow.Author.Rules.{rules}
-use mathlib.Core.Path.{◌≡◌, sym, ◌∙◌}
-use Prim.Native.Nat.{◌≤◌, ◌-◌}
+use mathlib.Core.Path.{sym, ◌∙◌}
 use native.Mathlib.Omega.{arith}
-use lib.ListN.{length, drop}
-use Rattle.model.specs.Base.{all}
-use Rattle.model.specs.SchemaText.{is_id_byte, is_id}
+use Rattle.model.specs.SchemaText.{is_id_byte}
 use Rattle.catalog.proofs.Ids.{all_here, all_not, all_end, id_none, id_long, id_other, id_rest}
 use Rattle.catalog.proofs.rules.is_id.Goals as goal
 

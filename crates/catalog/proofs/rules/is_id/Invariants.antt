@@ -1,12 +1,9 @@
 -- The loop of `catalog::rules::is_id`.
-use borrow.Author.Rules.{rules}
-use mathlib.Core.Path.{◌≡◌, sym, ◌∙◌}
+use mathlib.Core.Path.{◌≡◌}
 use Prim.Native.Nat.{◌≤◌, ◌-◌}
-use native.Mathlib.Omega.{arith}
 use lib.ListN.{length, drop}
 use Rattle.model.specs.Base.{all}
 use Rattle.model.specs.SchemaText.{is_id_byte, is_id}
-use Rattle.catalog.proofs.Ids.{all_here, all_not, all_end, id_none, id_long, id_other, id_rest}
 use Rattle.catalog.proofs.rules.is_id.Given as goal
 
 abbrev pub invariant-loop-i : goal.invariant-loop-i

@@ -1,7 +1,6 @@
 -- `catalog::rules::is_id_byte` meets its contract.
 use mathlib.Core.Path.{sym, ◌∙◌}
 use Rattle.model.specs.SchemaText.{is_id_byte}
-use borrow.Author.Rules.{rules}
 use Rattle.catalog.proofs.rules.is_id_byte.Goals as goal
 
 pub returns-then-l : goal.returns-then-l

@@ -1,8 +1,7 @@
 -- `catalog::rules::is_table` meets its contract.
-use mathlib.Core.Path.{◌≡◌, sym, ◌∙◌}
+use mathlib.Core.Path.{sym, ◌∙◌}
 use native.Mathlib.Omega.{arith}
 use Rattle.catalog.proofs.Tables.{narrow_head, table_code, table_not}
-use borrow.Author.Rules.{rules}
 use Rattle.catalog.proofs.rules.is_table.Goals as goal
 
 pub columns_of-columns-requires : goal.columns_of-columns-requires

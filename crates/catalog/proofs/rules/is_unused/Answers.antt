@@ -1,13 +1,12 @@
 -- `catalog::rules::is_unused` meets its contract.
-use mathlib.Core.Path.{◌≡◌, refl, ap, ◌∙◌}
+use mathlib.Core.Path.{◌≡◌, ap, ◌∙◌}
 use Prim.Native.Nat.{ℕ, ◌+◌, ◌*◌, ◌-◌}
-use mathlib.Core.Bool.{Bool, ◌&&◌}
+use mathlib.Core.Bool.{◌&&◌}
 use mathlib.Core.List.{[]}
 use lib.ListN.{get_or, take, drop}
 use Rattle.model.specs.Base.{all}
 use native.Mathlib.Omega.{arith}
 use Rattle.catalog.specs.Judging.{is_blank, is_unused}
-use borrow.Author.Rules.{rules}
 use Rattle.catalog.proofs.rules.is_unused.Goals as goal
 
 pub returns : goal.returns

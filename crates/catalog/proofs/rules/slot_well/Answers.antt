@@ -1,5 +1,4 @@
 -- `catalog::rules::slot_well` meets its contract.
-use mathlib.Core.Path.{refl}
 use Rattle.catalog.specs.Judging.{slot_fine}
 use Rattle.catalog.proofs.rules.slot_well.Goals as goal
 

@@ -1,9 +1,7 @@
 -- `catalog::rules::table_well` meets its contract.
-use mathlib.Core.Path.{◌∙◌}
 use native.Mathlib.Omega.{arith}
 use borrow.Author.Tests.{lt-ltb, le-ltb}
 use Rattle.catalog.specs.Judging.{table_fine}
-use borrow.Author.Rules.{rules}
 use Rattle.catalog.proofs.rules.table_well.Goals as goal
 
 pub returns-then-t-k : goal.returns-then-t-k

@@ -2,7 +2,6 @@
 use mathlib.Core.Path.{sym, ◌∙◌}
 use native.Mathlib.Omega.{arith}
 use Rattle.catalog.proofs.Anew.{column_anew, column_blank, column_none, column_short}
-use borrow.Author.Rules.{rules}
 use Rattle.catalog.proofs.tidied.column_anew.Goals as goal
 
 pub column_of-requires : goal.column_of-requires

@@ -1,6 +1,5 @@
 -- `catalog::tidied::column_of` meets its contract.
 use Rattle.catalog.proofs.Anew.{name_bound}
-use borrow.Author.Rules.{rules}
 use Rattle.catalog.proofs.tidied.column_of.Goals as goal
 
 pub column_entry-requires : goal.column_entry-requires

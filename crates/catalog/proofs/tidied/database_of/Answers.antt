@@ -1,6 +1,5 @@
 -- `catalog::tidied::database_of` meets its contract.
 use Rattle.catalog.proofs.Anew.{name_bound}
-use borrow.Author.Rules.{rules}
 use Rattle.catalog.proofs.tidied.database_of.Goals as goal
 
 pub database_entry_of-requires : goal.database_entry_of-requires

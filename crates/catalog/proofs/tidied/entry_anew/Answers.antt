@@ -6,7 +6,6 @@ use native.Mathlib.Omega.{arith}
 use lib.ListN.{get_or}
 use Rattle.model.specs.Catalog.{database_from, catalog_of}
 use Rattle.catalog.proofs.Anew.{database_anew, database_short}
-use borrow.Author.Rules.{rules}
 use Rattle.catalog.proofs.tidied.entry_anew.Goals as goal
 
 pub database_of-requires : goal.database_of-requires

@@ -4,7 +4,6 @@ use Prim.Native.Nat.{◌<◌}
 use native.Mathlib.Omega.{arith}
 use Rattle.model.specs.Catalog.{table_count}
 use Rattle.catalog.proofs.Anew.{table_anew, table_blank, table_short, table_indexes}
-use borrow.Author.Rules.{rules}
 use Rattle.catalog.proofs.tidied.table_anew.Goals as goal
 
 pub table_of-requires : goal.table_of-requires

@@ -1,6 +1,5 @@
 -- `catalog::tidied::table_of` meets its contract.
 use Rattle.catalog.proofs.Anew.{name_bound}
-use borrow.Author.Rules.{rules}
 use Rattle.catalog.proofs.tidied.table_of.Goals as goal
 
 pub table_entry-requires : goal.table_entry-requires

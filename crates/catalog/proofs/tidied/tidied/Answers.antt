@@ -1,9 +1,8 @@
 -- `catalog::tidied::tidied` meets its contract.
 use mathlib.Core.Path.{◌≡◌, refl, ap, ◌∙◌}
 use mathlib.Core.List.{[]}
-use Prim.Native.Nat.{◌-◌, ◌≤◌}
 use native.Mathlib.Omega.{arith}
-use lib.ListN.{length, set, replicate, length-set}
+use lib.ListN.{set, replicate, length-set}
 use Rattle.model.specs.Catalog.{database_from, catalog_of}
 use Rattle.model.proofs.Catalogs.{catalog_length}
 use Rattle.catalog.proofs.Copied.{copied, copied_more, copied_end}

@@ -1,12 +1,10 @@
 -- The loop of `catalog::tidied::tidied`.
-use mathlib.Core.Path.{◌≡◌, refl, ap, ◌∙◌}
+use mathlib.Core.Path.{◌≡◌}
 use mathlib.Core.List.{[]}
 use Prim.Native.Nat.{◌-◌, ◌≤◌}
-use native.Mathlib.Omega.{arith}
-use lib.ListN.{length, set, replicate, length-set}
+use lib.ListN.{length}
 use Rattle.model.specs.Catalog.{database_from, catalog_of}
-use Rattle.model.proofs.Catalogs.{catalog_length}
-use Rattle.catalog.proofs.Copied.{copied, copied_more, copied_end}
+use Rattle.catalog.proofs.Copied.{copied}
 use Rattle.catalog.proofs.tidied.tidied.Given as goal
 
 abbrev pub invariant-loop-i : goal.invariant-loop-i

@@ -1,6 +1,5 @@
 -- `catalog::tidied_columns::column_entry` meets its contract.
 use Rattle.catalog.proofs.Renewed.{column_made}
-use borrow.Author.Rules.{rules}
 use Rattle.catalog.proofs.tidied_columns.column_entry.Goals as goal
 
 pub returns : goal.returns

@@ -1,6 +1,5 @@
 -- `catalog::tidied_columns::database_entry_of` meets its contract.
 use Rattle.catalog.proofs.Renewed.{database_made}
-use borrow.Author.Rules.{rules}
 use Rattle.catalog.proofs.tidied_columns.database_entry_of.Goals as goal
 
 pub returns : goal.returns

@@ -4,11 +4,6 @@ use native.Mathlib.Omega.{arith}
 use lib.ListN.{length}
 use Rattle.model.specs.Catalog.{entry_name}
 use Rattle.catalog.proofs.Renewed.{name_fits, name_made}
-use borrow.Author.Rules.{rules}
-use Rattle.catalog.proofs.tidied_columns.named.Reads as reads
-use Rattle.catalog.proofs.tidied_columns.named.Lts as lts
-use Rattle.catalog.proofs.name_of.Reads as name-of-reads
-use Rattle.octets.proofs.put_bytes.Reads as put-bytes-reads
 use Rattle.catalog.proofs.tidied_columns.named.Goals as goal
 
 pub put_bytes-requires : goal.put_bytes-requires

@@ -6,7 +6,6 @@ use lib.ListN.{drop}
 use Rattle.model.specs.SchemaText.{base_number}
 use Rattle.model.specs.Catalog.{base_numbered, refers_from, how_refers, target, bit}
 use Rattle.catalog.specs.Renewed.{known_bytes}
-use borrow.Author.Rules.{rules}
 use Rattle.catalog.proofs.tidied_columns.put_known.Goals as goal
 
 pub returns : goal.returns

@@ -5,7 +5,6 @@ use Prim.Native.Nat.{ℕ}
 use lib.ListN.{drop}
 use Rattle.model.specs.Octets.{big}
 use Rattle.catalog.proofs.Twos.{twos_back}
-use borrow.Author.Rules.{rules}
 use Rattle.catalog.proofs.tidied_columns.put_limit.Goals as goal
 
 pub returns : goal.returns

@@ -4,7 +4,6 @@ use mathlib.Core.List.{◌++◌}
 use lib.ListN.{drop}
 use Rattle.octets.proofs.Rests.{write_next}
 use Rattle.catalog.specs.Renewed.{known_bytes, twos_bytes, rest_bytes}
-use borrow.Author.Rules.{rules}
 use Rattle.catalog.proofs.tidied_columns.put_rest.Goals as goal
 
 pub returns : goal.returns

@@ -1,7 +1,6 @@
 -- `catalog::tidied_tables::headed` meets its contract.
 use mathlib.Core.Path.{◌∙◌}
 use Rattle.catalog.proofs.Slots.{headed}
-use borrow.Author.Rules.{rules}
 use Rattle.catalog.proofs.tidied_tables.headed.Goals as goal
 
 pub returns : goal.returns

@@ -3,7 +3,6 @@ use mathlib.Core.Path.{◌∙◌}
 use native.Mathlib.Omega.{arith}
 use lib.ListN.{get_or}
 use Rattle.catalog.proofs.Slots.{count_less, count_more}
-use borrow.Author.Rules.{rules}
 use Rattle.catalog.proofs.tidied_tables.indexes_in.Goals as goal
 
 pub returns-then-k : goal.returns-then-k

@@ -1,7 +1,6 @@
 -- `catalog::tidied_tables::most_rows` meets its contract.
 use mathlib.Core.Path.{sym, ◌∙◌}
 use Rattle.catalog.proofs.Slots.{most_set, most_none}
-use borrow.Author.Rules.{rules}
 use Rattle.catalog.proofs.tidied_tables.most_rows.Goals as goal
 
 pub returns-then-limited : goal.returns-then-limited

@@ -3,7 +3,6 @@ use mathlib.Core.Path.{◌∙◌}
 use mathlib.Core.List.{[], ◌∷◌}
 use native.Mathlib.Omega.{arith}
 use Rattle.catalog.proofs.Slots.{slot_are}
-use borrow.Author.Rules.{rules}
 use Rattle.catalog.proofs.tidied_tables.slot.Goals as goal
 
 pub returns : goal.returns

@@ -2,7 +2,6 @@
 use mathlib.Core.Path.{◌∙◌}
 use native.Mathlib.Omega.{arith}
 use Rattle.catalog.proofs.Slots.{fit_first, fit_second, tidied}
-use borrow.Author.Rules.{rules}
 use Rattle.catalog.proofs.tidied_tables.table_entry.Goals as goal
 
 pub slot-first-requires : goal.slot-first-requires

@@ -1,12 +1,11 @@
 -- `conditions::lookup::by_names` meets its contract.
-use mathlib.Core.Path.{◌≡◌, refl, sym, ap, ◌∙◌}
+use mathlib.Core.Path.{◌≡◌, sym, ap, ◌∙◌}
 use mathlib.Core.Bool.{Bool, true, false, ◌&&◌}
 use Prim.Native.Nat.{ℕ}
 use Rattle.inner.specs.Positions.{tree_at}
 use Rattle.model.specs.Nav.{kind_of, is_text}
 use Rattle.conditions.specs.declared.lookup.Triple.TheVariants.{Of, Other}
 use Rattle.conditions.specs.Lookup.{by_names}
-use borrow.Author.Rules.{rules}
 use Rattle.conditions.proofs.lookup.by_names.Goals as goal
 
 chosen : (x y p q t : Bool) (a b c : ℕ) → x ≡ p → y ≡ q → (x && y) ≡ t → (elim t [ true ↦ Of a b c | false ↦ Other ]) ≡ by_names p q a b c

@@ -1,16 +1,13 @@
 -- The loop of `conditions::lookup::column_at`.
-use borrow.Author.Rules.{rules}
-use mathlib.Core.Path.{◌≡◌, sym, ap, ◌∙◌}
+use mathlib.Core.Path.{◌≡◌}
 use mathlib.Core.List.{map}
 use Prim.Native.Nat.{◌≤◌, ◌-◌}
-use native.Mathlib.Omega.{arith}
 use lib.ListN.{length}
 use Rattle.inner.specs.Positions.{tree_at}
-use Rattle.model.specs.Text.{is_word}
 use Rattle.model.specs.Catalog.{column_from}
 use Rattle.catalog.specs.Entries.{found_at}
 use Rattle.conditions.specs.Lookup.{column_in}
-use Rattle.conditions.proofs.Columns.{column_found, column_start, column_here, column_next, column_end_lem}
+use Rattle.conditions.proofs.Columns.{column_found}
 use Rattle.conditions.proofs.lookup.column_at.Given as goal
 
 abbrev pub invariant-loop-i : goal.invariant-loop-i

@@ -9,7 +9,6 @@ use Rattle.conditions.specs.Lookup.{column_in}
 use native.Mathlib.Omega.{arith}
 use Rattle.inner.specs.Positions.{tree_at}
 use Rattle.conditions.proofs.Tables.{table_named_lem}
-use borrow.Author.Rules.{rules}
 use Rattle.conditions.proofs.lookup.table_at.Goals as goal
 
 pub returns : goal.returns

@@ -1,7 +1,6 @@
 -- `conditions::lookup::triple_at` meets its contract.
 use mathlib.Core.Path.{sym, ◌∙◌}
 use Rattle.conditions.proofs.Items.{no_first, no_second, no_third, some_fourth, no_fourth}
-use borrow.Author.Rules.{rules}
 use Rattle.conditions.proofs.lookup.triple_at.Goals as goal
 
 pub returns-in_default : goal.returns-in_default

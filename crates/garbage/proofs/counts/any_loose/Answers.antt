@@ -1,8 +1,6 @@
 -- `garbage::counts::any_loose` meets its contract.
 use mathlib.Core.Path.{sym, ◌∙◌, subst}
 use native.Mathlib.Omega.{arith}
-use borrow.Author.Rules.{rules}
-use borrow.Author.Tests.{not-true}
 use lib.ListN.{replicate}
 use Rattle.model.specs.Catalog.{packed_tables}
 use Rattle.inner.specs.Working.{working}

@@ -2,11 +2,9 @@
 use mathlib.Core.Path.{◌≡◌, refl, sym, ap, ◌∙◌}
 use mathlib.Core.Bool.{not}
 use mathlib.Core.List.{[]}
-use Prim.Native.Nat.{ℕ, ◌-◌, ◌≤◌}
+use Prim.Native.Nat.{ℕ}
 use native.Mathlib.Omega.{arith}
-use borrow.Author.Tests.{not-true}
-use lib.ListN.{get_or, drop}
-use Rattle.model.specs.Base.{any}
+use lib.ListN.{get_or}
 use Rattle.model.specs.Schema.{Schema, is_root}
 use Rattle.model.specs.Areas.{row_from}
 use Rattle.model.specs.Catalog.{packed_tables}

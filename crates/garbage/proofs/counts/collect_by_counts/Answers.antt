@@ -1,8 +1,6 @@
 -- `garbage::counts::collect_by_counts` meets its contract.
 use mathlib.Core.Path.{◌≡◌, sym, ◌∙◌}
 use native.Mathlib.Omega.{arith}
-use borrow.Author.Rules.{rules}
-use borrow.Author.Tests.{not-true}
 use lib.ListN.{length}
 use Rattle.model.specs.Catalog.{packed_tables}
 use Rattle.garbage.specs.Counts.{PartlySwept}

@@ -1,11 +1,10 @@
 -- `garbage::counts::count_all` meets its contract.
 use mathlib.Core.Path.{◌≡◌, refl, ap, ◌∙◌}
-use Prim.Native.Nat.{◌-◌, ◌≤◌}
 use native.Mathlib.Omega.{arith}
 use lib.ListN.{length}
 use Rattle.model.specs.Catalog.{packed_tables}
 use Rattle.references.proofs.Packs.{few_columns_lem}
-use Rattle.garbage.proofs.Counting.{Adding, adding_none, adding_room, adding_on, adding_end}
+use Rattle.garbage.proofs.Counting.{adding_none, adding_room, adding_on, adding_end}
 use Rattle.garbage.proofs.counts.count_all.Goals as goal
 
 pub loop-i-init : goal.loop-i-init

@@ -1,11 +1,9 @@
 -- The loop of `garbage::counts::count_all`.
-use mathlib.Core.Path.{◌≡◌, refl, ap, ◌∙◌}
+use mathlib.Core.Path.{◌≡◌}
 use Prim.Native.Nat.{◌-◌, ◌≤◌}
-use native.Mathlib.Omega.{arith}
 use lib.ListN.{length}
 use Rattle.model.specs.Catalog.{packed_tables}
-use Rattle.references.proofs.Packs.{few_columns_lem}
-use Rattle.garbage.proofs.Counting.{Adding, adding_none, adding_room, adding_on, adding_end}
+use Rattle.garbage.proofs.Counting.{Adding}
 use Rattle.garbage.proofs.counts.count_all.Given as goal
 
 abbrev pub invariant-loop-i : goal.invariant-loop-i

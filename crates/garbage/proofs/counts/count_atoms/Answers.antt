@@ -1,14 +1,14 @@
 -- `garbage::counts::count_atoms` meets its contract.
-use mathlib.Core.Path.{◌≡◌, refl, ◌∙◌}
-use mathlib.Core.List.{List, [], ◌∷◌}
+use mathlib.Core.Path.{refl, ◌∙◌}
+use mathlib.Core.List.{[], ◌∷◌}
 use mathlib.Core.Option.{some}
-use Prim.Native.Nat.{ℕ, ◌+◌, ◌-◌, ◌≤◌}
+use Prim.Native.Nat.{◌+◌}
 use native.Mathlib.Omega.{arith}
-use lib.ListN.{length, get_or, take, drop}
+use lib.ListN.{get_or, take}
 use Rattle.model.specs.Value.{uuid_of}
 use Rattle.model.specs.Rows.{key_of}
 use Rattle.model.specs.Commit.{keys_of}
-use Rattle.garbage.proofs.Counting.{Left, left_start, left_on, left_end, room_on, atoms_on, atoms_end}
+use Rattle.garbage.proofs.Counting.{left_start, left_on, left_end, room_on, atoms_on, atoms_end}
 use Rattle.garbage.proofs.counts.count_atoms.Invariants.{keys_from}
 use Rattle.garbage.proofs.counts.count_atoms.Goals as goal
 
@@ -29,8 +29,11 @@ count_named-z-requires c =
     let a = c.args in
     let l = c.loop-k in
     let keys = keys_of (some a.table) (take a.count a.atoms.now) in
-    record { ordered = (c.requires.count_in_bounds.1, omega (arith, c.requires.count_in_bounds.2, l.invariant.1)); room = room_on a.up a.n a.rows.now a.own keys a.counts.now (keys_from a.table a.count a.atoms.now l.k) (key_of a.table (uuid_of (get_or a.atoms.now l.k [])) ∷ []) (keys_from a.table a.count a.atoms.now (l.k + 1)) l.counts
-          (atoms_on a.table a.atoms.now a.count l.k c.requires.count_in_bounds.0 c.loop-k-test.true) l.invariant.2 c.requires.room }
+    record {
+      ordered = (c.requires.count_in_bounds.1, omega (arith, c.requires.count_in_bounds.2, l.invariant.1));
+      room = room_on a.up a.n a.rows.now a.own keys a.counts.now (keys_from a.table a.count a.atoms.now l.k) (key_of a.table (uuid_of (get_or a.atoms.now l.k [])) ∷ []) (keys_from a.table a.count a.atoms.now (l.k + 1)) l.counts
+          (atoms_on a.table a.atoms.now a.count l.k c.requires.count_in_bounds.0 c.loop-k-test.true) l.invariant.2 c.requires.room;
+    }
 
 pub loop-k-preserved : goal.loop-k-preserved
 loop-k-preserved c =

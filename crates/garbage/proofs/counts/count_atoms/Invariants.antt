@@ -1,14 +1,11 @@
 -- The loop of `garbage::counts::count_atoms`.
-use mathlib.Core.Path.{◌≡◌, refl, ◌∙◌}
-use mathlib.Core.List.{List, [], ◌∷◌}
+use mathlib.Core.Path.{◌≡◌}
+use mathlib.Core.List.{List}
 use mathlib.Core.Option.{some}
-use Prim.Native.Nat.{ℕ, ◌+◌, ◌-◌, ◌≤◌}
-use native.Mathlib.Omega.{arith}
-use lib.ListN.{length, get_or, take, drop}
-use Rattle.model.specs.Value.{uuid_of}
-use Rattle.model.specs.Rows.{key_of}
+use Prim.Native.Nat.{ℕ, ◌-◌, ◌≤◌}
+use lib.ListN.{length, take, drop}
 use Rattle.model.specs.Commit.{keys_of}
-use Rattle.garbage.proofs.Counting.{Left, left_start, left_on, left_end, room_on, atoms_on, atoms_end}
+use Rattle.garbage.proofs.Counting.{Left}
 use Rattle.garbage.proofs.counts.count_atoms.Given as goal
 
 -- the keys of the atoms from k on

@@ -1,20 +1,19 @@
 -- `garbage::counts::count_row` meets its contract.
 use mathlib.Core.Path.{◌≡◌, refl, sym, ap, ◌∙◌, subst}
 use mathlib.Core.List.{List, ◌++◌}
-use Prim.Native.Nat.{ℕ, ◌+◌, ◌-◌, ◌≤◌, ◌<◌}
+use Prim.Native.Nat.{ℕ, ◌+◌, ◌<◌}
 use native.Mathlib.Omega.{arith}
 use lib.ListN.{length}
 use Rattle.model.specs.Schema.{columns_of}
 use Rattle.model.specs.Value.{elements}
-use Rattle.model.specs.Commit.{keys_of, strongly, strong_of}
-use Rattle.model.specs.Areas.{row_from}
+use Rattle.model.specs.Commit.{keys_of, strongly}
 use Rattle.model.specs.Catalog.{packed_tables}
 use Rattle.inner.specs.Working.{table_in, value_in}
 use Rattle.references.specs.Links.{pick, target_table}
 use Rattle.references.proofs.Packs.{few_columns_lem}
 use Rattle.references.proofs.Links.{rest_of, here, rest_all, rest_end, rest_on, here_target}
 use Rattle.garbage.specs.Counts.{Room, Counted}
-use Rattle.garbage.proofs.Counting.{Left, left_start, left_on, left_end, room_on}
+use Rattle.garbage.proofs.Counting.{left_start, left_on, left_end, room_on}
 use Rattle.garbage.proofs.counts.count_row.Invariants.{strong_in}
 use Rattle.garbage.proofs.counts.count_row.Goals as goal
 
@@ -41,8 +40,11 @@ count_column-z-requires c =
     let keys : rest_of (pick 1) schema row at ≡ here (pick 1) schema row at ++ rest_of (pick 1) schema row (at + 1) = rest_on (pick 1) schema row c.requires.accepted at within in
     let a = c.args in
     let l = c.loop-c in
-    record { c_lt_most_columns = (few, c.requires.ordered.0, omega (arith, c.requires.ordered.1, l.invariant.1)); room = subst (λ (ks : List ℕ). Room a.up a.n a.rows.now a.own ks l.counts) (sym (same))
-          (room_on a.up a.n a.rows.now a.own (strong_in (schema) (row)) a.counts.now (rest_of (pick 1) (schema) (row) (at)) (here (pick 1) (schema) (row) (at)) (rest_of (pick 1) (schema) (row) (at + 1)) l.counts (keys) l.invariant.2 c.requires.room) }
+    record {
+      c_lt_most_columns = (few, c.requires.ordered.0, omega (arith, c.requires.ordered.1, l.invariant.1));
+      room = subst (λ (ks : List ℕ). Room a.up a.n a.rows.now a.own ks l.counts) (sym (same))
+          (room_on a.up a.n a.rows.now a.own (strong_in (schema) (row)) a.counts.now (rest_of (pick 1) (schema) (row) (at)) (here (pick 1) (schema) (row) (at)) (rest_of (pick 1) (schema) (row) (at + 1)) l.counts (keys) l.invariant.2 c.requires.room);
+    }
 
 pub overflow_add-c : goal.overflow_add-c
 overflow_add-c c =

@@ -1,20 +1,14 @@
 -- The loop of `garbage::counts::count_row`.
-use mathlib.Core.Path.{◌≡◌, refl, sym, ap, ◌∙◌, subst}
-use mathlib.Core.List.{List, ◌++◌}
-use Prim.Native.Nat.{ℕ, ◌+◌, ◌-◌, ◌≤◌, ◌<◌}
-use native.Mathlib.Omega.{arith}
+use mathlib.Core.Path.{◌≡◌}
+use mathlib.Core.List.{List}
+use Prim.Native.Nat.{ℕ, ◌-◌, ◌≤◌}
 use lib.ListN.{length}
-use Rattle.model.specs.Schema.{columns_of}
-use Rattle.model.specs.Value.{elements}
-use Rattle.model.specs.Commit.{keys_of, strongly, strong_of}
+use Rattle.model.specs.Commit.{strong_of}
 use Rattle.model.specs.Areas.{row_from}
 use Rattle.model.specs.Catalog.{packed_tables}
-use Rattle.inner.specs.Working.{table_in, value_in}
-use Rattle.references.specs.Links.{pick, target_table}
-use Rattle.references.proofs.Packs.{few_columns_lem}
-use Rattle.references.proofs.Links.{rest_of, here, rest_all, rest_end, rest_on, here_target}
-use Rattle.garbage.specs.Counts.{Room, Counted}
-use Rattle.garbage.proofs.Counting.{Left, left_start, left_on, left_end, room_on}
+use Rattle.references.specs.Links.{pick}
+use Rattle.references.proofs.Links.{rest_of}
+use Rattle.garbage.proofs.Counting.{Left}
 use Rattle.garbage.proofs.counts.count_row.Given as goal
 
 -- the keys that a row refers to strongly

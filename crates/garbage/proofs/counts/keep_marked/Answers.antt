@@ -1,10 +1,7 @@
 -- `garbage::counts::keep_marked` meets its contract.
-use mathlib.Core.Path.{◌≡◌, refl, ◌∙◌}
-use Prim.Native.Nat.{◌-◌, ◌≤◌}
+use mathlib.Core.Path.{refl, ◌∙◌}
 use native.Mathlib.Omega.{arith}
-use lib.ListN.{length, take}
-use Rattle.garbage.specs.Counts.{left}
-use Rattle.garbage.proofs.Marking.{put_on, put_end, split_at}
+use Rattle.garbage.proofs.Marking.{put_on, put_end}
 use Rattle.garbage.proofs.counts.keep_marked.Goals as goal
 
 pub loop-j-init : goal.loop-j-init

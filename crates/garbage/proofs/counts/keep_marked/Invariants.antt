@@ -1,10 +1,9 @@
 -- The loop of `garbage::counts::keep_marked`.
-use mathlib.Core.Path.{◌≡◌, refl, ◌∙◌}
+use mathlib.Core.Path.{◌≡◌}
 use Prim.Native.Nat.{◌-◌, ◌≤◌}
-use native.Mathlib.Omega.{arith}
 use lib.ListN.{length, take}
 use Rattle.garbage.specs.Counts.{left}
-use Rattle.garbage.proofs.Marking.{put_on, put_end, split_at}
+use Rattle.garbage.proofs.Marking.{split_at}
 use Rattle.garbage.proofs.counts.keep_marked.Given as goal
 
 abbrev pub invariant-loop-j : goal.invariant-loop-j

@@ -1,5 +1,4 @@
 -- `garbage::counts::may_go` meets its contract.
-use borrow.Author.Rules.{rules}
 use Rattle.model.specs.Catalog.{packed_tables}
 use Rattle.garbage.proofs.Marking.{goes_off, goes_counted, goes_root}
 use Rattle.garbage.proofs.counts.may_go.Goals as goal

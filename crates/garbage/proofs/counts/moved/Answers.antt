@@ -1,6 +1,5 @@
 -- `garbage::counts::moved` meets its contract.
 use native.Mathlib.Omega.{arith}
-use borrow.Author.Rules.{rules}
 use Rattle.garbage.proofs.Counting.{one_more, one_less}
 use Rattle.garbage.proofs.counts.moved.Goals as goal
 

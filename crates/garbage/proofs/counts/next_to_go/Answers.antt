@@ -1,12 +1,6 @@
 -- `garbage::counts::next_to_go` meets its contract.
-use mathlib.Core.Path.{◌≡◌}
-use mathlib.Core.Bool.{false}
-use mathlib.Core.List.{[]}
-use Prim.Native.Nat.{ℕ, ◌-◌, ◌≤◌, ◌<◌}
 use native.Mathlib.Omega.{arith}
-use lib.ListN.{get_or}
 use Rattle.model.specs.Catalog.{packed_tables}
-use Rattle.garbage.specs.Counts.{may_go}
 use Rattle.garbage.proofs.Marking.{next_here, next_none, next_on}
 use Rattle.garbage.proofs.counts.next_to_go.Goals as goal
 

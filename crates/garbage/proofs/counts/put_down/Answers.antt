@@ -1,5 +1,4 @@
 -- `garbage::counts::put_down` meets its contract.
-use borrow.Author.Rules.{rules}
 use Rattle.garbage.proofs.Marking.{put_none, put_one, put_here}
 use Rattle.garbage.proofs.counts.put_down.Goals as goal
 

@@ -3,7 +3,6 @@ use mathlib.Core.Path.{sym, ap, ◌∙◌}
 use Rattle.model.specs.Faults.{earlier}
 use Rattle.model.specs.Catalog.{column_from}
 use Rattle.mutations.proofs.Faulty.{fault_suited, fault_not}
-use borrow.Author.Rules.{rules}
 use Rattle.mutations.proofs.read.column_fault.Goals as goal
 
 pub returns-then-ok : goal.returns-then-ok

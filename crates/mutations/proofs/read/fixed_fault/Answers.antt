@@ -1,6 +1,5 @@
 -- `mutations::read::fixed_fault` meets its contract.
 use mathlib.Core.Path.{sym, ◌∙◌}
-use borrow.Author.Rules.{rules}
 use Rattle.mutations.proofs.read.fixed_fault.Goals as goal
 
 pub returns-then-is_mutable : goal.returns-then-is_mutable

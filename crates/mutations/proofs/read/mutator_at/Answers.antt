@@ -3,7 +3,6 @@ use mathlib.Core.Path.{sym, ap, ◌∙◌}
 use Rattle.inner.specs.Positions.{tree_at}
 use Rattle.mutations.specs.Mutating.{chosen, mutator_by}
 use Rattle.mutations.proofs.Naming.{mutator_words_lem}
-use borrow.Author.Rules.{rules}
 use Rattle.mutations.proofs.read.mutator_at.Goals as goal
 
 pub returns : goal.returns

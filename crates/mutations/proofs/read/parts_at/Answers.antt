@@ -2,7 +2,6 @@
 use mathlib.Core.Path.{ap, ◌∙◌}
 use Rattle.mutations.specs.Mutating.{chosen}
 use Rattle.mutations.proofs.Faulty.{parts_other, parts_column, parts_mutator, parts_all}
-use borrow.Author.Rules.{rules}
 use Rattle.mutations.proofs.read.parts_at.Goals as goal
 
 pub returns-in_default : goal.returns-in_default

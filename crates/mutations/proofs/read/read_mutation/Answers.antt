@@ -3,7 +3,6 @@ use mathlib.Core.Path.{refl}
 use native.Mathlib.Omega.{arith}
 use Rattle.mutations.specs.Mutating.{Parted}
 use Rattle.mutations.proofs.Faulty.{parted, none_is, read_is}
-use borrow.Author.Rules.{rules}
 use Rattle.mutations.proofs.read.read_mutation.Goals as goal
 
 pub returns-in_default : goal.returns-in_default

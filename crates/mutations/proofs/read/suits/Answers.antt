@@ -8,7 +8,6 @@ use Rattle.model.specs.Mutations.{suits}
 use Rattle.model.specs.Catalog.{column_from}
 use Rattle.mutations.proofs.Stepping.{five_suits}
 use Rattle.mutations.proofs.Faulty.{base_integer}
-use borrow.Author.Rules.{rules}
 use Rattle.mutations.proofs.read.suits.Goals as goal
 
 pub returns-in-Insert : goal.returns-in-Insert

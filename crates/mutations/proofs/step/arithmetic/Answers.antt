@@ -15,7 +15,6 @@ use Rattle.references.proofs.Links.{elements_few}
 use Rattle.mutations.specs.Steps.{elements_of, arithmetic_on}
 use Rattle.mutations.proofs.Calculating.{int_in_lem, arithmetic_value}
 use Rattle.mutations.proofs.Stepping.{stepped_set, stepped_stop, stepped_as}
-use borrow.Author.Rules.{rules}
 use Rattle.mutations.proofs.step.arithmetic.Goals as goal
 
 pub slice_bounds-results-end : goal.slice_bounds-results-end

@@ -1,14 +1,12 @@
 -- `mutations::step::calculate_each` meets its contract.
 use mathlib.Core.Path.{◌≡◌, sym, ap, ◌∙◌}
 use mathlib.Core.List.{[]}
-use Prim.Native.Nat.{◌-◌}
 use native.Mathlib.Omega.{arith}
-use borrow.Author.Rules.{rules}
 use lib.IntN.{ℤ}
 use lib.ListN.{length, get_or}
 use Rattle.model.specs.Value.{int_of}
 use Rattle.integers.specs.Ints.{int_in, calculated}
-use Rattle.mutations.proofs.Calculating.{int_in_lem, Going, going_none, going_length, going_on, going_zero, going_outside, going_end}
+use Rattle.mutations.proofs.Calculating.{int_in_lem, going_none, going_length, going_on, going_zero, going_outside, going_end}
 use Rattle.mutations.proofs.step.calculate_each.Goals as goal
 
 pub loop-i-init : goal.loop-i-init

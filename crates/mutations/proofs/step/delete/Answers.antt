@@ -16,7 +16,6 @@ use Rattle.references.proofs.Links.{elements_few}
 use Rattle.mutations.specs.Steps.{elements_of, deleted_on, Kept}
 use Rattle.mutations.specs.Mutating.{elements_read}
 use Rattle.mutations.proofs.Stepping.{stepped_set, stepped_stop, delete_least, delete_good, delete_value, kept_as_lem}
-use borrow.Author.Rules.{rules}
 use Rattle.mutations.proofs.step.delete.Goals as goal
 
 pub slice_bounds-keep_others-end : goal.slice_bounds-keep_others-end

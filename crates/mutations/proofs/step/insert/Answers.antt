@@ -14,7 +14,6 @@ use Rattle.references.proofs.Links.{elements_few}
 use Rattle.mutations.specs.Steps.{elements_of, inserted_on}
 use Rattle.value.proofs.Fours.{padded}
 use Rattle.mutations.proofs.Stepping.{stepped_set, stepped_stop, insert_many, insert_most_lem, insert_good, insert_value}
-use borrow.Author.Rules.{rules}
 use Rattle.mutations.proofs.step.insert.Goals as goal
 
 pub slice_bounds-union_count-end : goal.slice_bounds-union_count-end

@@ -8,7 +8,6 @@ use Rattle.uuids.specs.Named.{names_at}
 use Rattle.element_atoms.specs.Atoms.{atoms_of}
 use Rattle.request_values.specs.Values.{atoms_as}
 use Rattle.mutations.proofs.Stepping.{read_held, read_text}
-use borrow.Author.Rules.{rules}
 use Rattle.mutations.proofs.step.is_deleted.Goals as goal
 
 pub slice_bounds-member-end : goal.slice_bounds-member-end

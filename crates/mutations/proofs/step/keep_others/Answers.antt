@@ -3,9 +3,8 @@ use mathlib.Core.Path.{refl, sym, ap, subst, ◌∙◌}
 use mathlib.Core.Bool.{not}
 use mathlib.Core.List.{List, [], ◌∷◌}
 use mathlib.Core.Logic.{⊎_elim}
-use Prim.Native.Nat.{ℕ, ◌+◌, ◌-◌, ◌≤◌, ◌<◌}
+use Prim.Native.Nat.{ℕ, ◌+◌, ◌≤◌, ◌<◌}
 use native.Mathlib.Omega.{arith}
-use borrow.Author.Tests.{not-true, not-false}
 use lib.ListN.{length, take, get_or, length-append}
 use lib.Seq.{length-take-le, take_all}
 use Rattle.model.specs.Base.{member}
@@ -15,7 +14,6 @@ use Rattle.model.proofs.Lists.{length_keep}
 use Rattle.value.proofs.Fours.{padded, left_in, left_out, set_padded}
 use Rattle.mutations.specs.Steps.{Kept}
 use Rattle.mutations.specs.Mutating.{elements_read}
-use borrow.Author.Rules.{rules}
 use Rattle.mutations.proofs.step.keep_others.Goals as goal
 
 pub loop-i-init : goal.loop-i-init

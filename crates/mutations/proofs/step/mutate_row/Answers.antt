@@ -13,7 +13,6 @@ use Rattle.mutations.specs.Steps.{elements_of, arithmetic_on, inserted_on}
 use Rattle.mutations.specs.Mutating.{elements_read}
 use Rattle.mutations.proofs.Stepping.{stepped_as, insert_arm, delete_arm, arithmetic_arm, read_held, insert_held, five_held}
 use Rattle.mutations.proofs.Rowing.{row_stepped}
-use borrow.Author.Rules.{rules}
 use Rattle.mutations.proofs.step.mutate_row.Goals as goal
 
 pub offset_bounds-columns-c : goal.offset_bounds-columns-c

@@ -1,13 +1,11 @@
 -- `mutations::step::results` meets its contract.
 use mathlib.Core.Path.{sym, ◌∙◌}
 use native.Mathlib.Omega.{arith}
-use borrow.Author.Tests.{not-true, not-false}
 use lib.ListN.{length}
 use lib.Seq.{length-take-le}
 use Rattle.model.specs.Catalog.{column_from}
 use Rattle.integers.specs.Ints.{int_in}
 use Rattle.mutations.proofs.Calculating.{results_stop, results_yes, results_no}
-use borrow.Author.Rules.{rules}
 use Rattle.mutations.proofs.step.results.Goals as goal
 
 pub returns-then-not-ok : goal.returns-then-not-ok

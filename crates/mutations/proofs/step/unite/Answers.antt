@@ -1,15 +1,14 @@
 -- `mutations::step::unite` meets its contract.
 use mathlib.Core.Path.{◌≡◌, sym, ap, ◌∙◌}
 use mathlib.Core.List.{List}
-use Prim.Native.Nat.{ℕ, ◌-◌, ◌≤◌}
+use Prim.Native.Nat.{ℕ, ◌≤◌}
 use native.Mathlib.Omega.{arith}
-use borrow.Author.Rules.{rules}
 use lib.ListN.{length, take}
 use lib.Seq.{length-take-le}
 use Rattle.model.specs.Catalog.{base_numbered}
 use Rattle.model.specs.Value.{union}
 use Rattle.value.proofs.Fours.{padded}
-use Rattle.mutations.proofs.Uniting.{first_front, United, united_none, united_few, united_length, united_on, united_end}
+use Rattle.mutations.proofs.Uniting.{first_front, united_none, united_few, united_length, united_on, united_end}
 use Rattle.mutations.proofs.step.unite.Goals as goal
 
 pub first-s-requires : goal.first-s-requires

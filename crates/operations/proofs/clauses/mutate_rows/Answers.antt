@@ -4,7 +4,6 @@ use Rattle.inner.specs.Positions.{items_fine}
 use Rattle.model.specs.Nav.{is_array}
 use Rattle.mutations.specs.Mutating.{mutations_at}
 use Rattle.operations.proofs.Slots.{array_fine, mutations_are, mutations_not, mutated_as, mutated_missing}
-use borrow.Author.Rules.{rules}
 use Rattle.operations.proofs.clauses.mutate_rows.Goals as goal
 
 pub mutate_rows-requires : goal.mutate_rows-requires

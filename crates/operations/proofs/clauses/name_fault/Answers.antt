@@ -3,7 +3,6 @@ use mathlib.Core.Path.{sym, ap, ◌∙◌}
 use Rattle.model.specs.Nav.{is_text}
 use Rattle.model.specs.Value.{text_of}
 use Rattle.operations.proofs.Slots.{name_none, name_other, name_bad, name_good}
-use borrow.Author.Rules.{rules}
 use Rattle.operations.proofs.clauses.name_fault.Goals as goal
 
 pub returns-then-p-eq0 : goal.returns-then-p-eq0

@@ -2,7 +2,6 @@
 use mathlib.Core.Path.{sym, ap, ◌∙◌}
 use Rattle.model.specs.Nav.{is_object}
 use Rattle.operations.proofs.Slots.{object_well, row_is, row_not, row_as, row_missing}
-use borrow.Author.Rules.{rules}
 use Rattle.operations.proofs.clauses.read_row.Goals as goal
 
 pub read_row-requires : goal.read_row-requires

@@ -4,7 +4,6 @@ use Rattle.inner.specs.Positions.{items_fine}
 use Rattle.model.specs.Nav.{is_array}
 use Rattle.conditions.specs.Tests.{tests_at}
 use Rattle.operations.proofs.Slots.{array_fine, where_is, where_not, where_as, where_missing}
-use borrow.Author.Rules.{rules}
 use Rattle.operations.proofs.clauses.read_where.Goals as goal
 
 pub mark_rows-requires : goal.mark_rows-requires

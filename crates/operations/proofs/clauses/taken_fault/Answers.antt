@@ -1,7 +1,6 @@
 -- `operations::clauses::taken_fault` meets its contract.
 use Rattle.inner.specs.Positions.{tree_at, word_in}
 use Rattle.operations.proofs.Slots.{taken_before, taken_later, taken_never}
-use borrow.Author.Rules.{rules}
 use Rattle.operations.proofs.clauses.taken_fault.Goals as goal
 
 pub returns-then-k-i : goal.returns-then-k-i

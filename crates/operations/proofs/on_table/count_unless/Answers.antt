@@ -2,7 +2,6 @@
 use mathlib.Core.Path.{sym, ap, ◌∙◌}
 use mathlib.Core.Bool.{Bool, true, false}
 use Rattle.operations.specs.Ran.{count_unless}
-use borrow.Author.Rules.{rules}
 use Rattle.operations.proofs.on_table.count_unless.Goals as goal
 
 pub returns-then-is_fine : goal.returns-then-is_fine

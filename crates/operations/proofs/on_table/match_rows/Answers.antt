@@ -1,7 +1,6 @@
 -- `operations::on_table::match_rows` meets its contract.
 use Rattle.operations.proofs.Slots.{slot_fine_lem}
 use Rattle.operations.proofs.Doing.{front, matching}
-use borrow.Author.Rules.{rules}
 use Rattle.operations.proofs.on_table.match_rows.Goals as goal
 
 pub fields-slots-requires : goal.fields-slots-requires

@@ -1,6 +1,5 @@
 -- `operations::on_table::new_id` meets its contract.
 use Rattle.operations.proofs.Doing.{id_copied}
-use borrow.Author.Rules.{rules}
 use Rattle.operations.proofs.on_table.new_id.Goals as goal
 
 pub returns : goal.returns

@@ -3,7 +3,6 @@ use mathlib.Core.Path.{refl, sym, ◌∙◌}
 use native.Mathlib.Omega.{arith}
 use Rattle.members.specs.Fields.{words_from, words_of}
 use Rattle.operations.proofs.Doing.{enough, effect_failed, delete_fault_lem, delete_done}
-use borrow.Author.Rules.{rules}
 use Rattle.operations.proofs.on_table.run_delete.Goals as goal
 
 pub match_rows-m-requires : goal.match_rows-m-requires

@@ -5,7 +5,6 @@ use native.Mathlib.Omega.{arith}
 use Rattle.members.specs.Fields.{words_from, words_of}
 use Rattle.operations.proofs.Slots.{slot_fine_lem}
 use Rattle.operations.proofs.Doing.{enough, Insertion, insertion}
-use borrow.Author.Rules.{rules}
 use Rattle.operations.proofs.on_table.run_insert.Goals as goal
 
 pub fields-slots-requires : goal.fields-slots-requires

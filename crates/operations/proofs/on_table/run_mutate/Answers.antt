@@ -4,7 +4,6 @@ use native.Mathlib.Omega.{arith}
 use Rattle.members.specs.Fields.{words_from, words_of}
 use Rattle.operations.proofs.Slots.{slot_fine_lem}
 use Rattle.operations.proofs.Doing.{enough, unless_within, mutate_ran}
-use borrow.Author.Rules.{rules}
 use Rattle.operations.proofs.on_table.run_mutate.Goals as goal
 
 pub match_rows-m-requires : goal.match_rows-m-requires

@@ -4,7 +4,6 @@ use native.Mathlib.Omega.{arith}
 use Rattle.members.specs.Fields.{words_from, words_of}
 use Rattle.operations.proofs.Slots.{slot_fine_lem}
 use Rattle.operations.proofs.Doing.{effect_failed, front, slot_well_lem, select_fault, select_done}
-use borrow.Author.Rules.{rules}
 use Rattle.operations.proofs.on_table.run_select.Goals as goal
 
 pub match_rows-m-requires : goal.match_rows-m-requires

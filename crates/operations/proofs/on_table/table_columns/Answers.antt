@@ -6,7 +6,6 @@ use Rattle.model.specs.Catalog.{column_from}
 use Rattle.catalog.specs.Entries.{columns_at}
 use Rattle.catalog.proofs.Laws.{few_tables, few_columns_lem}
 use Rattle.area.proofs.Schemas.{columns_in}
-use borrow.Author.Rules.{rules}
 use Rattle.operations.proofs.on_table.table_columns.Goals as goal
 
 pub columns_of-requires : goal.columns_of-requires

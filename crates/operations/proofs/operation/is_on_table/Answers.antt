@@ -1,7 +1,6 @@
 -- `operations::operation::is_on_table` meets its contract.
 use mathlib.Core.Path.{sym, ap}
 use Rattle.operations.specs.Performed.{is_on_table}
-use borrow.Author.Rules.{rules}
 use Rattle.operations.proofs.operation.is_on_table.Goals as goal
 
 pub returns-in-Insert : goal.returns-in-Insert

@@ -2,7 +2,6 @@
 use mathlib.Core.Path.{ap}
 use Rattle.operations.specs.Performed.{is_on_table}
 use Rattle.operations.proofs.Choosing.{ready, unknown_done, effect_as}
-use borrow.Author.Rules.{rules}
 use Rattle.operations.proofs.operation.operate.Goals as goal
 
 pub run_insert-requires : goal.run_insert-requires

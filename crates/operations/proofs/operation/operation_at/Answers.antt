@@ -3,7 +3,6 @@ use Rattle.inner.specs.Positions.{tree_at}
 use Rattle.model.specs.Members.{members_in}
 use Rattle.members.specs.Fields.{words_from, words_of}
 use Rattle.operations.proofs.Choosing.{operation_there, operation_missing}
-use borrow.Author.Rules.{rules}
 use Rattle.operations.proofs.operation.operation_at.Goals as goal
 
 pub returns-in_default : goal.returns-in_default

@@ -4,7 +4,6 @@ use native.Mathlib.Omega.{arith}
 use Rattle.inner.specs.Positions.{tree_at}
 use Rattle.model.specs.Members.{members_in}
 use Rattle.operations.proofs.Choosing.{table_small, called_off, called_on, called_nowhere}
-use borrow.Author.Rules.{rules}
 use Rattle.operations.proofs.operation.read.Goals as goal
 
 pub returns-in_default : goal.returns-in_default

@@ -3,7 +3,6 @@ use mathlib.Core.Path.{refl}
 use native.Mathlib.Omega.{arith}
 use Rattle.members.specs.Fields.{words_from, words_of}
 use Rattle.operations.proofs.Choosing.{abort_done, abort_extra}
-use borrow.Author.Rules.{rules}
 use Rattle.operations.proofs.operation.run_abort.Goals as goal
 
 pub fields-slots-requires : goal.fields-slots-requires

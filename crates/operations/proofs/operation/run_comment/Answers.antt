@@ -4,7 +4,6 @@ use native.Mathlib.Omega.{arith}
 use Rattle.model.specs.Nav.{is_text}
 use Rattle.members.specs.Fields.{words_from, words_of}
 use Rattle.operations.proofs.Choosing.{comment_done, comment_bare, comment_extra}
-use borrow.Author.Rules.{rules}
 use Rattle.operations.proofs.operation.run_comment.Goals as goal
 
 pub fields-slots-requires : goal.fields-slots-requires

@@ -3,7 +3,6 @@ use Rattle.inner.specs.Positions.{tree_at}
 use Rattle.model.specs.Members.{members_in}
 use Rattle.model.specs.Catalog.{packed_tables}
 use Rattle.operations.proofs.Choosing.{table_there, table_missing}
-use borrow.Author.Rules.{rules}
 use Rattle.operations.proofs.operation.table_in.Goals as goal
 
 pub returns-in-At : goal.returns-in-At

@@ -1,6 +1,5 @@
 -- `record::Born::write` meets its contract.
 use mathlib.Core.Path.{refl}
-use borrow.Author.Rules.{rules}
 use Rattle.record.specs.Writing.{start_bytes, head_bytes}
 use Rattle.record.proofs.Born.write.Goals as goal
 

@@ -2,7 +2,6 @@
 use mathlib.Core.Path.{refl}
 use mathlib.Core.List.{[], ◌∷◌, ◌++◌}
 use native.Mathlib.Omega.{arith}
-use borrow.Author.Rules.{rules}
 use Rattle.model.specs.Octets.{value}
 use Rattle.model.specs.Base.{flat}
 use Rattle.octets.proofs.Rests.{write_next}

@@ -1,6 +1,5 @@
 -- `record::Gone::write` meets its contract.
 use mathlib.Core.Path.{refl}
-use borrow.Author.Rules.{rules}
 use Rattle.record.specs.Writing.{start_bytes, head_bytes}
 use Rattle.record.proofs.Gone.write.Goals as goal
 

@@ -1,6 +1,5 @@
 -- `record::Mark::write` meets its contract.
 use mathlib.Core.Path.{refl}
-use borrow.Author.Rules.{rules}
 use Rattle.record.specs.Writing.{start_bytes}
 use Rattle.record.proofs.Mark.write.Goals as goal
 

@@ -1,7 +1,5 @@
 -- `store::good_order::opened` meets its contract.
 use mathlib.Core.Path.{sym, ap, ◌∙◌}
-use borrow.Author.Rules.{rules}
-use borrow.Author.Tests.{not-true, not-false}
 use Rattle.catalog.specs.Accepted.{is_accepted}
 use Rattle.area.proofs.States.{store_refused, store_other}
 use Rattle.store.proofs.Opening.{opened_other, opened_refused, opened_rows}

@@ -2,8 +2,6 @@
 use mathlib.Core.Path.{sym, subst, ◌∙◌}
 use Prim.Native.Nat.{ℕ}
 use native.Mathlib.Omega.{arith}
-use borrow.Author.Rules.{rules}
-use borrow.Author.Tests.{not-true, not-false}
 use Rattle.inner.specs.Working.{Ordered}
 use Rattle.model.proofs.Octets.{octets}
 use Rattle.store.proofs.Opening.{cells_accepted, rows_few, opened_part, opened_types, opened_rules}

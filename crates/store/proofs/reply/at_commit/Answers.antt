@@ -1,7 +1,6 @@
 -- `store::reply::at_commit` meets its contract.
 use mathlib.Core.Path.{sym, ◌∙◌}
 use Rattle.store.proofs.Commits.{closed_fine, closed_failed}
-use borrow.Author.Rules.{rules}
 use Rattle.store.proofs.reply.at_commit.Goals as goal
 
 pub returns-then-is_fine : goal.returns-then-is_fine

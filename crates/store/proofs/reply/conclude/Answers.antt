@@ -3,7 +3,6 @@ use mathlib.Core.Path.{refl, ap, ◌∙◌}
 use native.Mathlib.Omega.{arith}
 use Rattle.model.proofs.Tests.{clash}
 use Rattle.store.specs.Replying.{no_effect}
-use borrow.Author.Rules.{rules}
 use Rattle.store.proofs.reply.conclude.Goals as goal
 
 pub returns-then-answer-o : goal.returns-then-answer-o

@@ -1,6 +1,5 @@
 -- `store::reply::is_nothing` meets its contract.
 use Rattle.store.proofs.Texts.{is_at, is_none}
-use borrow.Author.Rules.{rules}
 use Rattle.store.proofs.reply.is_nothing.Goals as goal
 
 pub returns-in-At : goal.returns-in-At

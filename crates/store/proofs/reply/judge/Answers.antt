@@ -7,7 +7,6 @@ use Rattle.inner.specs.Positions.{tree_at}
 use Rattle.model.specs.Text.{is_word}
 use Rattle.model.specs.Catalog.{packed_tables}
 use Rattle.store.proofs.Asking.{asked_bad, asked_other, asked_fresh, asked_runs}
-use borrow.Author.Rules.{rules}
 use Rattle.store.proofs.reply.judge.Goals as goal
 
 pub returns-then-not-q : goal.returns-then-not-q

@@ -15,7 +15,6 @@ use Rattle.store.proofs.After.{few_as, ordered_as, sound_as, settled_as}
 use Rattle.store.proofs.Telling.{Replied, area_ordered}
 use Rattle.store.proofs.Replies.{refused_asked, concluded_as}
 use Rattle.store.proofs.Transacting.{lengths, transact_disordered, transact_stays, transact_commits}
-use borrow.Author.Rules.{rules}
 use Rattle.store.proofs.reply.reply.Goals as goal
 
 pub returns-then-not-opened : goal.returns-then-not-opened

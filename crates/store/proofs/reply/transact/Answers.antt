@@ -7,7 +7,6 @@ use Rattle.model.proofs.Octets.{octets}
 use Rattle.operations.specs.Running.{RunAll}
 use Rattle.store.specs.Replying.{run_on}
 use Rattle.store.proofs.Commits.{filled_all, run_ordered, ended_commit, ended_idle}
-use borrow.Author.Rules.{rules}
 use Rattle.store.proofs.reply.transact.Goals as goal
 
 pub fill_names-requires : goal.fill_names-requires
@@ -26,8 +25,12 @@ at_commit-requires c =
     let did : let s = packed_tables c.args.schema.now in RunAll s (run_on s c.args.text.now c.args.ops c.args.fresh.now (working s c.args.n c.args.rows.now)) c.args.n c.args.rows.now c.run-ran.new.rows c.args.answer.now c.run-ran.new.answer c.run-ran.result = let s = packed_tables c.args.schema.now in
     filled_all s c.args.text.now c.args.ops c.args.fresh.now _ (working s c.args.n c.args.rows.now) c.fill_names.ensures c.run-ran.ensures in
     let all = did in
-    record { accepted = c.requires.accepted; ordered = run_ordered c.args.schema.now c.requires.accepted c.args.text.now c.args.ops c.args.fresh.now c.requires.ops_len_bound c.requires.readable.ids (octets c.args.fresh.now (λ i. (c.shared_slice_known-3-1.given i).fits))
-            c.args.n c.args.rows.now _ c.requires.sure all c.run-ran.ensures.long (all.fine c.if-ran.true); at_bound = omega (arith, c.run-ran.ensures.answer.short) }
+    record {
+      accepted = c.requires.accepted;
+      ordered = run_ordered c.args.schema.now c.requires.accepted c.args.text.now c.args.ops c.args.fresh.now c.requires.ops_len_bound c.requires.readable.ids (octets c.args.fresh.now (λ i. (c.shared_slice_known-3-1.given i).fits))
+          c.args.n c.args.rows.now _ c.requires.sure all c.run-ran.ensures.long (all.fine c.if-ran.true);
+      at_bound = omega (arith, c.run-ran.ensures.answer.short);
+    }
 
 pub returns-then-ran : goal.returns-then-ran
 returns-then-ran c =
