@@ -1,7 +1,7 @@
 -- What an arrival asks of working rows, and what it leaves (document 01, "What a mirror doesn't refuse it has heard .."). Assumes nothing: these are definitions.
-use Rattle.std.specs.Prelude.{◌≡◌, Bool, true, false, not, ◌&&◌, List, [], ℕ, ◌+◌, ◌≤◌, max, eqb, leb, length, take}
+use Rattle.std.specs.Prelude.{◌≡◌, Bool, true, false, not, ◌&&◌, List, [], ℕ, ◌+◌, ◌≤◌, max, eqb, leb, length, take, if◌then◌else◌}
 use Rattle.std.proofs.Math.Option.{Option, none, some}
-use Rattle.model.specs.Base.{if◌then◌else◌, nth}
+use Rattle.model.specs.Base.{nth}
 use Rattle.model.specs.Limits.{most_rows}
 use Rattle.model.specs.Schema.{Schema}
 use Rattle.model.specs.Rows.{Row}

@@ -11,7 +11,8 @@ use lib.Seq.{take-append_seam}
 use borrow.Author.Tests.{eqb-true, le-leb, ltb-true}
 use Rattle.model.specs.Limits.{atom_bytes, most_text_bytes}
 use Rattle.model.specs.Octets.{eq_bytes}
-use Rattle.model.specs.Base.{if◌then◌else◌, any, all, member, distinct, eq_lists}
+use Rattle.std.specs.Prelude.{if◌then◌else◌}
+use Rattle.model.specs.Base.{any, all, member, distinct, eq_lists}
 use Rattle.model.specs.Json.{Json}
 use Rattle.model.specs.Schema.{Base, integer, boolean, text, uuid, Column, scalar}
 use Rattle.model.specs.Value.{blank, text_atom, less_atom, placed, sorted, value_of}

@@ -7,7 +7,7 @@ use Prim.Native.Nat.{ℕ, ◌<◌}
 use native.Mathlib.Omega.{arith}
 use lib.ListN.{length, get_or, length-map}
 use Rattle.model.specs.declared.Function.{Function}
-use Rattle.model.specs.Base.{if◌then◌else◌}
+use Rattle.std.specs.Prelude.{if◌then◌else◌}
 use Rattle.model.specs.Json.{Json}
 use Rattle.model.specs.Schema.{Base, integer, boolean, text, uuid, Column, scalar, Schema, columns_of}
 use Rattle.model.specs.Catalog.{base_numbered}

@@ -1,8 +1,8 @@
 -- Conditions by places of the text. Assumes nothing: these are definitions.
-use Rattle.std.specs.Prelude.{ℕ, ◌<◌, ◌≡◌, Bool, true, false, not, ◌&&◌, List, [], map, eqb, leb, length, get_or, take}
+use Rattle.std.specs.Prelude.{ℕ, ◌<◌, ◌≡◌, Bool, true, false, not, ◌&&◌, List, [], map, eqb, leb, length, get_or, take, if◌then◌else◌}
 use Rattle.std.proofs.Math.Option.{Option, none, some}
 use Rattle.model.specs.Limits.{most_elements}
-use Rattle.model.specs.Base.{if◌then◌else◌, any}
+use Rattle.model.specs.Base.{any}
 use Rattle.model.specs.Json.{Json}
 use Rattle.inner.specs.Positions.{tree_at, items_from}
 use Rattle.model.specs.Schema.{Base, Column, Schema, columns_of}

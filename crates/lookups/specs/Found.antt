@@ -1,6 +1,5 @@
 -- How many of several keys or ids are those of rows: what the calls answer. Assumes nothing: these are definitions.
-use Rattle.std.specs.Prelude.{Bool, List, [], ◌∷◌, ℕ, ◌+◌}
-use Rattle.model.specs.Base.{if◌then◌else◌}
+use Rattle.std.specs.Prelude.{Bool, List, [], ◌∷◌, ℕ, ◌+◌, if◌then◌else◌}
 use Rattle.model.specs.Rows.{Row, has, has_id}
 use Rattle.model.specs.Areas.{ascends}
 

@@ -9,7 +9,8 @@ use lib.Dec.{leb}
 use lib.ListN.{length}
 use Rattle.model.specs.Octets.{eq_bytes}
 use Rattle.model.specs.Limits.{fresh_bytes, last_number}
-use Rattle.model.specs.Base.{if◌then◌else◌, all}
+use Rattle.std.specs.Prelude.{if◌then◌else◌}
+use Rattle.model.specs.Base.{all}
 use Rattle.model.specs.Schema.{Schema, Database}
 use Rattle.model.specs.Rows.{Row}
 use Rattle.model.specs.Sane.{sane}

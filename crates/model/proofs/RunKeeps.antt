@@ -9,7 +9,8 @@ use borrow.Author.Tests.{not-true, lt-ltb, ltb-true, leb-true}
 use lib.Dec.{eqb, ltb, leb}
 use lib.ListN.{length, take, drop, length-take, length-drop}
 use Rattle.model.specs.Octets.{value}
-use Rattle.model.specs.Base.{if◌then◌else◌, any, all}
+use Rattle.std.specs.Prelude.{if◌then◌else◌}
+use Rattle.model.specs.Base.{any, all}
 use Rattle.model.specs.Limits.{most_request_bytes, most_operations, fresh_bytes}
 use Rattle.model.specs.Json.{Json, Named, text_at}
 use Rattle.model.specs.Nav.{is_read}

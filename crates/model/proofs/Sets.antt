@@ -7,7 +7,8 @@ use native.Mathlib.Omega.{arith}
 use borrow.Author.Tests.{not-true}
 use lib.ListN.{length, take}
 use Rattle.model.specs.Octets.{eq_bytes}
-use Rattle.model.specs.Base.{if◌then◌else◌, all, keep, member, distinct}
+use Rattle.std.specs.Prelude.{if◌then◌else◌}
+use Rattle.model.specs.Base.{all, keep, member, distinct}
 use Rattle.model.specs.Schema.{Base}
 use Rattle.model.specs.Value.{less_atom, ascending, placed, sorted, well_atom, byte_atom, union, without}
 use Rattle.model.proofs.Tests.{split, clash, and_l, and_r, or_l, or_r, bytes_same}

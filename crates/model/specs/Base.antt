@@ -1,17 +1,10 @@
 -- Small things that every part of the model uses: a choice, and tests over lists. Assumes nothing: these are definitions.
-use Rattle.std.specs.Prelude.{ℕ, zero, suc, Bool, true, false, not, ◌&&◌, ◌||◌, List, [], ◌∷◌, ◌++◌}
+use Rattle.std.specs.Prelude.{ℕ, zero, suc, Bool, true, false, not, ◌&&◌, ◌||◌, List, [], ◌∷◌, ◌++◌, cond}
 use Rattle.std.proofs.Math.Option.{Option, none, some}
 use Prim.Native.String as Str
 use Prim.Native.String.{String}
 use Prim.Native.Char.{code}
 use Rattle.model.specs.Octets.{eq_bytes}
-
--- the one choice by a test; both sides are computed, so that no side may be a long recursion
-module _ {ℓ} {A : Type ℓ} where
-  infixr 10 if◌then◌else◌
-  abbrev pub if◌then◌else◌ : Bool → A → A → A
-  if true then a else b = a
-  if false then a else b = b
 
 module _ {ℓ} {A : Type ℓ} where
   -- some element, every element, the elements that pass, and how many pass
@@ -25,11 +18,11 @@ module _ {ℓ} {A : Type ℓ} where
 
   abbrev pub keep : (A → Bool) → List A → List A
   keep p [] = []
-  keep p (a ∷ l) = if p a then a ∷ keep p l else keep p l
+  keep p (a ∷ l) = cond (p a) (a ∷ keep p l) (keep p l)
 
   abbrev pub count : (A → Bool) → List A → ℕ
   count p [] = 0
-  count p (a ∷ l) = if p a then suc (count p l) else count p l
+  count p (a ∷ l) = cond (p a) (suc (count p l)) (count p l)
 
 -- every test of a list passes
 abbrev pub every : List Bool → Bool

@@ -1,9 +1,9 @@
 -- Conditions: [column, function, value] (RFC 7047, 5.1), and the rows that meet them. Assumes nothing: these are definitions.
-use Rattle.std.specs.Prelude.{ℕ, Bool, true, false, not, ◌&&◌, ◌||◌, List, [], ◌∷◌, eqb, ℤ, pos, get_or}
+use Rattle.std.specs.Prelude.{ℕ, Bool, true, false, not, ◌&&◌, ◌||◌, List, [], ◌∷◌, eqb, ℤ, pos, get_or, if◌then◌else◌}
 use Rattle.std.proofs.Math.Option.{Option, none, some}
 use Rattle.std.specs.Int.Signed.{lt_z, le_z}
 use Rattle.model.specs.Octets.{eq_bytes}
-use Rattle.model.specs.Base.{if◌then◌else◌, any, all, member, eq_lists, ascii, nth}
+use Rattle.model.specs.Base.{any, all, member, eq_lists, ascii, nth}
 use Rattle.model.specs.Json.{Json}
 use Rattle.model.specs.Schema.{Base, integer, boolean, text, uuid, plain, Column, scalar, column_named}
 use Rattle.model.specs.Value.{Value, elements, blank, int_of, uuid_atom, sorted, value_of}

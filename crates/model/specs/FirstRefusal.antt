@@ -1,9 +1,9 @@
 -- Which refusal a call gets: for each call when each refusal applies, and the first that does, by document 01's numbers. Assumes nothing: these are definitions.
-use Rattle.std.specs.Prelude.{ℕ, suc, ◌+◌, Bool, true, false, not, ◌&&◌, List, [], ◌∷◌, eqb, leb, length}
+use Rattle.std.specs.Prelude.{ℕ, suc, ◌+◌, Bool, true, false, not, ◌&&◌, List, [], ◌∷◌, eqb, leb, length, if◌then◌else◌}
 use Rattle.std.proofs.Math.Option.{Option, none, some}
 use Rattle.model.specs.Octets.{eq_bytes}
 use Rattle.model.specs.Limits.{store_bytes, mirror_bytes, fresh_bytes, least_records, least_answer, least_mark, last_number}
-use Rattle.model.specs.Base.{if◌then◌else◌, every, is_some}
+use Rattle.model.specs.Base.{every, is_some}
 use Rattle.model.specs.Schema.{Schema}
 use Rattle.model.specs.SchemaText.{read_schema}
 use Rattle.model.specs.Transact.{read_request, fresh_ids, ids_good}

@@ -1,8 +1,8 @@
 -- The mirror: what it answers to an arrival and to a question, and what it is then (document 01, "What a mirror doesn't refuse it has heard .."). Assumes nothing: these are definitions.
-use Rattle.std.specs.Prelude.{ℕ, suc, max, Bool, true, false, not, ◌&&◌, ◌||◌, List, [], ◌∷◌, eqb, leb, replicate}
+use Rattle.std.specs.Prelude.{ℕ, suc, max, Bool, true, false, not, ◌&&◌, ◌||◌, List, [], ◌∷◌, eqb, leb, replicate, if◌then◌else◌}
 use Rattle.std.proofs.Math.Option.{Option, none, some}
 use Rattle.model.specs.Limits.{value_width}
-use Rattle.model.specs.Base.{if◌then◌else◌, nth}
+use Rattle.model.specs.Base.{nth}
 use Rattle.model.specs.Schema.{Schema}
 use Rattle.model.specs.Value.{Value}
 use Rattle.model.specs.Rows.{Row, key_of, find, has}

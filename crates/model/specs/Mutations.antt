@@ -1,9 +1,9 @@
 -- Mutations: [column, mutator, value] (RFC 7047, 5.1), and a step, which is one mutation on one row. Assumes nothing: these are definitions.
-use Rattle.std.specs.Prelude.{ℕ, Bool, true, false, not, ◌&&◌, List, [], ◌∷◌, map, eqb, leb, ℤ, pos, negsuc, ◌+ℤ◌, ◌-ℤ◌, ◌*ℤ◌, length}
+use Rattle.std.specs.Prelude.{ℕ, Bool, true, false, not, ◌&&◌, List, [], ◌∷◌, map, eqb, leb, ℤ, pos, negsuc, ◌+ℤ◌, ◌-ℤ◌, ◌*ℤ◌, length, if◌then◌else◌}
 use Rattle.std.proofs.Math.Option.{Option, none, some}
 use Rattle.std.specs.Int.Signed.{le_z, quot_z, rem_z}
 use Rattle.model.specs.Octets.{eq_bytes}
-use Rattle.model.specs.Base.{if◌then◌else◌, all, ascii, nth, distinct}
+use Rattle.model.specs.Base.{all, ascii, nth, distinct}
 use Rattle.model.specs.Limits.{most_elements}
 use Rattle.model.specs.Json.{Json}
 use Rattle.model.specs.Schema.{integer, Column, scalar, column_named}

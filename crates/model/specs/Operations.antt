@@ -1,8 +1,8 @@
 -- Operations, on working rows. Assumes nothing: these are definitions.
-use Rattle.std.specs.Prelude.{ℕ, Bool, true, false, not, ◌&&◌, ◌||◌, List, [], ◌∷◌, ◌++◌, map, eqb, ltb, length}
+use Rattle.std.specs.Prelude.{ℕ, Bool, true, false, not, ◌&&◌, ◌||◌, List, [], ◌∷◌, ◌++◌, map, eqb, ltb, length, if◌then◌else◌}
 use Rattle.std.proofs.Math.Option.{Option, none, some}
 use Rattle.model.specs.Octets.{eq_bytes}
-use Rattle.model.specs.Base.{if◌then◌else◌, any, all, keep, count, member, distinct, is_some, ascii}
+use Rattle.model.specs.Base.{any, all, keep, count, member, distinct, is_some, ascii}
 use Rattle.model.specs.Limits.{most_rows}
 use Rattle.model.specs.Json.{Json, Named}
 use Rattle.model.specs.Schema.{Column, Schema, columns_of, table_named, column_named}

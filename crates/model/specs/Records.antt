@@ -1,9 +1,9 @@
 -- Change records and marks: what a commit writes, what each does to rows, and their bytes (document 01, "Records on the line"). Assumes nothing: these are definitions.
-use Rattle.std.specs.Prelude.{ℕ, zero, suc, ◌^◌, Bool, true, false, not, ◌&&◌, List, [], ◌∷◌, ◌++◌, eqb, ltb, length, get_or, take, drop}
+use Rattle.std.specs.Prelude.{ℕ, zero, suc, ◌^◌, Bool, true, false, not, ◌&&◌, List, [], ◌∷◌, ◌++◌, eqb, ltb, length, get_or, take, drop, if◌then◌else◌}
 use Rattle.std.proofs.Math.Option.{Option, none, some}
 use Rattle.model.specs.Octets.{big, value, part, chunks}
 use Rattle.model.specs.Limits.{most_rows, most_elements, atom_bytes, row_record_bytes, column_record_bytes, end_bytes}
-use Rattle.model.specs.Base.{if◌then◌else◌, flat}
+use Rattle.model.specs.Base.{flat}
 use Rattle.model.specs.Schema.{Column, Schema, columns_of}
 use Rattle.model.specs.Value.{Value, same_value, canonical_for}
 use Rattle.model.specs.Rows.{Row, key_of, key, find, has, has_id, add, remove, change, initials}

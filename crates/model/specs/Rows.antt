@@ -1,7 +1,7 @@
 -- Rows, kept in the order of their tables and, in a table, of their ids. Assumes nothing: these are definitions.
-use Rattle.std.specs.Prelude.{ℕ, ◌+◌, ◌*◌, Bool, false, ◌||◌, List, [], ◌∷◌, map, eqb, ltb, get_or, set}
+use Rattle.std.specs.Prelude.{ℕ, ◌+◌, ◌*◌, Bool, false, ◌||◌, List, [], ◌∷◌, map, eqb, ltb, get_or, set, if◌then◌else◌}
 use Rattle.std.proofs.Math.Option.{Option, none, some}
-use Rattle.model.specs.Base.{if◌then◌else◌, keep}
+use Rattle.model.specs.Base.{keep}
 use Rattle.model.specs.Schema.{Schema, columns_of}
 use Rattle.model.specs.Value.{Value, value_of, initial}
 

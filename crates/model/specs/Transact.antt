@@ -1,8 +1,8 @@
 -- A request run on a store's rows: operations in order, then the commit. Assumes nothing: these are definitions.
-use Rattle.std.specs.Prelude.{ℕ, zero, suc, Bool, true, false, not, ◌&&◌, List, [], ◌∷◌, ◌++◌, map, eqb, leb, length, get_or, take, drop}
+use Rattle.std.specs.Prelude.{ℕ, zero, suc, Bool, true, false, not, ◌&&◌, List, [], ◌∷◌, ◌++◌, map, eqb, leb, length, get_or, take, drop, if◌then◌else◌}
 use Rattle.std.proofs.Math.Option.{Option, none, some}
 use Rattle.model.specs.Octets.{value, eq_bytes}
-use Rattle.model.specs.Base.{if◌then◌else◌, any, ascii}
+use Rattle.model.specs.Base.{any, ascii}
 use Rattle.model.specs.Limits.{most_request_bytes, most_operations}
 use Rattle.model.specs.Scan.{Parsed}
 use Rattle.model.specs.Json.{Json, Named, text_at}

@@ -1,9 +1,9 @@
 -- Values: atoms, their order, the canonical form, and what meets a type. Assumes nothing: these are definitions.
-use Rattle.std.specs.Prelude.{ℕ, suc, ◌-◌, Bool, true, false, not, ◌&&◌, List, [], ◌∷◌, ◌++◌, eqb, ltb, leb, ℤ, pos, negsuc, length, get_or, take, drop, replicate}
+use Rattle.std.specs.Prelude.{ℕ, suc, ◌-◌, Bool, true, false, not, ◌&&◌, List, [], ◌∷◌, ◌++◌, eqb, ltb, leb, ℤ, pos, negsuc, length, get_or, take, drop, replicate, if◌then◌else◌}
 use Rattle.std.proofs.Math.Option.{none, some}
 use Rattle.std.specs.Int.Signed.{lt_z, le_z}
 use Rattle.model.specs.Octets.{big, value, twos, lt_bytes}
-use Rattle.model.specs.Base.{if◌then◌else◌, eq_lists, all, keep, member, every}
+use Rattle.model.specs.Base.{eq_lists, all, keep, member, every}
 use Rattle.model.specs.Limits.{most_elements, most_text_bytes, atom_bytes}
 use Rattle.model.specs.Strings.{Range, in_range, forms, rest_of}
 use Rattle.model.specs.Text.{chars}

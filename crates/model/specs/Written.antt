@@ -1,7 +1,7 @@
 -- Values as written in a request: elements, atoms by type, and what is judged of them as they stand. Assumes nothing: these are definitions.
-use Rattle.std.specs.Prelude.{ℕ, suc, ◌+◌, ◌*◌, Bool, true, false, not, ◌&&◌, ◌||◌, List, [], ◌∷◌, eqb, ltb, leb, length, get_or}
+use Rattle.std.specs.Prelude.{ℕ, suc, ◌+◌, ◌*◌, Bool, true, false, not, ◌&&◌, ◌||◌, List, [], ◌∷◌, eqb, ltb, leb, length, get_or, if◌then◌else◌}
 use Rattle.std.proofs.Math.Option.{Option, none, some}
-use Rattle.model.specs.Base.{if◌then◌else◌, any, distinct, ascii}
+use Rattle.model.specs.Base.{any, distinct, ascii}
 use Rattle.model.specs.Limits.{most_elements, most_text_bytes}
 use Rattle.model.specs.Strings.{hex_of}
 use Rattle.model.specs.Json.{Json, null, bool, num, str, arr, obj, Named}

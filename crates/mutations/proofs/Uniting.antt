@@ -6,7 +6,8 @@ use native.Mathlib.Numerals.{add-one}
 use native.Mathlib.Omega.{arith}
 use lib.ListN.{length, get_or, take, drop, replicate, take-append-drop, length-append, length-replicate}
 use lib.Seq.{take-suc, take_all, take-append_seam, drop-append_seam, length-take-le}
-use Rattle.model.specs.Base.{if◌then◌else◌, member}
+use Rattle.std.specs.Prelude.{if◌then◌else◌}
+use Rattle.model.specs.Base.{member}
 use Rattle.model.specs.Schema.{Base}
 use Rattle.model.specs.Value.{blank, placed, union}
 use Rattle.model.proofs.Sets.{union_length}

@@ -1,8 +1,7 @@
 -- Mutations by places of the text. Assumes nothing: these are definitions.
-use Rattle.std.specs.Prelude.{ℕ, ◌≤◌, ◌<◌, ◌≡◌, true, false, List, [], map, eqb, length, get_or, take}
+use Rattle.std.specs.Prelude.{ℕ, ◌≤◌, ◌<◌, ◌≡◌, true, false, List, [], map, eqb, length, get_or, take, if◌then◌else◌}
 use Rattle.std.proofs.Math.Option.{Option, none, some}
 use Rattle.model.specs.Limits.{most_elements}
-use Rattle.model.specs.Base.{if◌then◌else◌}
 use Rattle.model.specs.Json.{Json}
 use Rattle.inner.specs.Positions.{well_at, tree_at, items_from}
 use Rattle.model.specs.Schema.{Base, Column}

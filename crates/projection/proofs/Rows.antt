@@ -7,7 +7,8 @@ use native.Mathlib.Nat.{add-zero}
 use native.Mathlib.Omega.{arith}
 use lib.ListN.{length, take, drop, get_or, length-drop, length-map}
 use lib.Seq.{drop-cons, drop-drop, get_or-drop, length-take-le}
-use Rattle.model.specs.Base.{ascii, if◌then◌else◌}
+use Rattle.std.specs.Prelude.{if◌then◌else◌}
+use Rattle.model.specs.Base.{ascii}
 use Rattle.model.specs.Schema.{Column, Schema, columns_of}
 use Rattle.model.specs.Catalog.{base_numbered, column_count}
 use Rattle.model.specs.Catalog.{entry_name, column_from, column_place, table_from}

@@ -12,7 +12,8 @@ use Rattle.model.specs.declared.Fault.{Fault}
 use Rattle.model.specs.declared.Fault.TheVariants.{Fine, Syntax, Resources, Duplicate, Constraint, Domain, Range, Aborted, Integrity}
 use Rattle.model.specs.declared.Found.{Found}
 use Rattle.model.specs.declared.Found.TheVariants.{At, Nothing}
-use Rattle.model.specs.Base.{if◌then◌else◌, is_some}
+use Rattle.std.specs.Prelude.{if◌then◌else◌}
+use Rattle.model.specs.Base.{is_some}
 use Rattle.model.specs.Json.{Json, Named, member_at, value_at}
 use Rattle.inner.specs.Positions.{tree_at, well_at, first_of, next_member, members_from, members_fine}
 use Rattle.model.specs.Members.{members_in, has_member, member_value as last_of}

@@ -11,7 +11,8 @@ use lib.Dec.{eqb}
 use lib.ListN.{length, get_or, take, set, length-set, length-map}
 use lib.Seq.{take-set-lt, length-take-le, get_or-take, set-get_or}
 use Rattle.model.specs.declared.Fault.{Fault}
-use Rattle.model.specs.Base.{if◌then◌else◌, all}
+use Rattle.std.specs.Prelude.{if◌then◌else◌}
+use Rattle.model.specs.Base.{all}
 use Rattle.model.specs.Schema.{Column, Schema, columns_of}
 use Rattle.model.specs.Value.{Value}
 use Rattle.model.specs.Rows.{Row}

@@ -15,7 +15,8 @@ use Rattle.model.specs.declared.Fault.TheVariants.{Fine, Syntax, Resources, Cons
 use Rattle.model.specs.declared.Function.{Function}
 use Rattle.model.specs.declared.Mutator.{Mutator}
 use Rattle.model.specs.declared.Mutator.TheVariants.{Add, Subtract, Multiply, Divide, Remainder, Insert, Delete}
-use Rattle.model.specs.Base.{if◌then◌else◌, any, is_some, distinct}
+use Rattle.std.specs.Prelude.{if◌then◌else◌}
+use Rattle.model.specs.Base.{any, is_some, distinct}
 use Rattle.model.specs.Json.{Json}
 use Rattle.model.specs.Schema.{Base, Column, scalar}
 use Rattle.model.specs.Value.{blank, value_of, all_in_limits, count_in_limits}

@@ -1,9 +1,8 @@
 // Values as written in a request: how each is judged, and its atoms where there is no fault.
 #![tactic(auto)]
 
-ghost use Rattle.std.specs.Prelude.{◌≡◌, true, ◌≤◌, eqb};
+ghost use Rattle.std.specs.Prelude.{◌≡◌, true, ◌≤◌, eqb, if◌then◌else◌};
 ghost use Rattle.model.specs.Limits.{most_elements};
-ghost use Rattle.model.specs.Base.{if◌then◌else◌};
 ghost use Rattle.inner.specs.Positions.{well_at, tree_at};
 ghost use Rattle.model.specs.Schema.{scalar};
 ghost use Rattle.model.specs.Catalog.{base_numbered};

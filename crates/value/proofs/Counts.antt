@@ -8,7 +8,8 @@ use native.Mathlib.Omega.{arith}
 use lib.ListN.{length, take, get_or}
 use lib.Seq.{take-suc}
 use Rattle.model.specs.Octets.{eq_bytes}
-use Rattle.model.specs.Base.{if◌then◌else◌, member}
+use Rattle.std.specs.Prelude.{if◌then◌else◌}
+use Rattle.model.specs.Base.{member}
 use Rattle.model.specs.Schema.{Base}
 use Rattle.model.specs.Value.{less_atom, placed, union}
 use Rattle.model.proofs.Tests.{split, bytes_same}

@@ -8,7 +8,8 @@ use borrow.Author.Tests.{lt-leb, le-leb, eq-eqb, ne_eqb, not-true}
 use lib.Dec.{eqb, leb}
 use lib.ListN.{length, take, drop, get_or, take-append-drop}
 use lib.Seq.{take-suc}
-use Rattle.model.specs.Base.{if◌then◌else◌, all}
+use Rattle.std.specs.Prelude.{if◌then◌else◌}
+use Rattle.model.specs.Base.{all}
 use Rattle.model.specs.Schema.{Base, Column, scalar}
 use Rattle.model.specs.Value.{Value, zeros, well_atom, byte_atom, ascending, canonical_for}
 use Rattle.model.proofs.Tests.{split, clash, and_l, and_r}

@@ -8,7 +8,8 @@ use native.Mathlib.Numerals.{add-one}
 use native.Mathlib.Omega.{arith}
 use lib.ListN.{length, take, drop, set, get_or, replicate, take-append-drop, drop_of_length-le, length-drop, length-append}
 use lib.Seq.{take-suc, drop-cons, set_at, length-take-le, take-take, take_all, get_or-take, take-append_seam, drop-append_seam, drop-append-le}
-use Rattle.model.specs.Base.{if◌then◌else◌, keep, member}
+use Rattle.std.specs.Prelude.{if◌then◌else◌}
+use Rattle.model.specs.Base.{keep, member}
 use Rattle.model.specs.Schema.{Base}
 use Rattle.model.specs.Value.{blank, placed, sorted, value_of, without}
 use Rattle.model.proofs.Tests.{split}

@@ -1,6 +1,5 @@
 -- Where an atom stands among atoms in order. Assumes nothing: these are definitions.
-use Rattle.std.specs.Prelude.{ℕ, suc, List, [], ◌∷◌}
-use Rattle.model.specs.Base.{if◌then◌else◌}
+use Rattle.std.specs.Prelude.{ℕ, suc, List, [], ◌∷◌, if◌then◌else◌}
 use Rattle.model.specs.Schema.{Base}
 use Rattle.model.specs.Value.{less_atom}
 

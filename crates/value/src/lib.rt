@@ -1,9 +1,9 @@
 // Sets of atoms, and the canonical form of a value.
 #![tactic(auto)]
 
-ghost use Rattle.std.specs.Prelude.{◌≡◌, true, [], ◌∷◌, ◌++◌, ◌≤◌, length, take, drop};
+ghost use Rattle.std.specs.Prelude.{◌≡◌, true, [], ◌∷◌, ◌++◌, ◌≤◌, length, take, drop, if◌then◌else◌};
 ghost use Rattle.model.specs.Limits.{most_elements};
-ghost use Rattle.model.specs.Base.{if◌then◌else◌, all, member, distinct, eq_lists};
+ghost use Rattle.model.specs.Base.{all, member, distinct, eq_lists};
 ghost use Rattle.model.specs.Schema.{Base, Column, scalar};
 ghost use Rattle.model.specs.Catalog.{base_numbered};
 ghost use Rattle.model.specs.Value.{zeros, ascending, placed, sorted, well_atom, byte_atom, canonical_for, value_of, union};

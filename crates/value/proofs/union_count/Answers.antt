@@ -6,7 +6,8 @@ use Prim.Native.Nat.{ℕ, ◌+◌}
 use native.Mathlib.Omega.{arith}
 use lib.ListN.{length, take, get_or, length-take}
 use lib.Seq.{take_all}
-use Rattle.model.specs.Base.{if◌then◌else◌, member}
+use Rattle.std.specs.Prelude.{if◌then◌else◌}
+use Rattle.model.specs.Base.{member}
 use Rattle.model.specs.Value.{union}
 use Rattle.value.proofs.Counts.{union_on, one_small, take_nil}
 use Rattle.value.proofs.union_count.Goals as goal
