@@ -78,6 +78,9 @@ fn index_fits(text: &[u8], ends: &[u16], at: usize, columns: usize) -> bool
     }
 }
 
+// The most indexes that a table has.
+const MOST_INDEXES: usize = INDEXES;
+
 // Whether the items of the value at `at` are at most two indexes.
 fn few_fit(text: &[u8], ends: &[u16], at: usize, columns: usize) -> bool
     requires says { Says text.now ends.now }
@@ -91,7 +94,7 @@ fn few_fit(text: &[u8], ends: &[u16], at: usize, columns: usize) -> bool
     loop {
         match g {
             Found::At(p) => {
-                if INDEXES <= n {
+                if MOST_INDEXES <= n {
                     return false;
                 }
                 let ok = index_fits(text, ends, p, columns);

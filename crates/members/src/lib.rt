@@ -47,6 +47,9 @@ pub fn choose(text: &[u8], at: usize, words: &[u8]) -> usize
     WORDS
 }
 
+// Members are noted in all slots: those of listed words, and the last one for all others.
+const NOTED: usize = SLOTS;
+
 // Where the last value of each word begins in the object at `at`.
 pub fn fields(text: &[u8], ends: &[u16], at: usize, words: &[u8]) -> Places
     requires says { Says text.now ends.now }
@@ -62,7 +65,7 @@ pub fn fields(text: &[u8], ends: &[u16], at: usize, words: &[u8]) -> Places
             Found::At(p) => {
                 let k = choose(text, p, words);
                 let v = nav::member_value(text, ends, p);
-                if k < SLOTS {
+                if k < NOTED {
                     slots[k] = v;
                 }
                 g = nav::next_past(text, ends, p, v);

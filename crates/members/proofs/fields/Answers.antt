@@ -36,8 +36,8 @@ loop-g-preserved c =
     let k = kept_pass s ws c.requires.words_value c.requires.words_len_bound c.in-At.is c.loop-g.invariant.1 c.loop-g.invariant.0 in
     let ce = c.choose-k.ensures in
     let me = c.member_value-v.ensures in
-    let e : c.if-k-lt-SLOTS.slots ≡ set c.loop-g.slots c.choose-k.result c.member_value-v.result =
-    ⊎_elim (λ w. w.slots-is) (λ w. w.slots-is ∙ sym (set_out c.loop-g.slots _ _ (let z = w.if-k-lt-SLOTS.false in let y = c.loop-g.invariant.0.size in omega arith))) c.if-k-lt-SLOTS.branch-raw in
+    let e : c.if-k-lt-NOTED.slots ≡ set c.loop-g.slots c.choose-k.result c.member_value-v.result =
+    ⊎_elim (λ w. w.slots-is) (λ w. w.slots-is ∙ sym (set_out c.loop-g.slots _ _ (let z = w.if-k-lt-NOTED.false in let y = c.loop-g.invariant.0.size in omega arith))) c.if-k-lt-NOTED.branch-raw in
     rw c.next_past-g.ensures (rw (e, ce, me) k, pass_fine s c.in-At.is c.loop-g.invariant.1)
 
 pub returns-in-Nothing : goal.returns-in-Nothing
