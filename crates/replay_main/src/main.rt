@@ -102,8 +102,18 @@ fn is_accepted(a: Status) -> bool {
 
 // ── arguments and files ──
 
-// A file that is open, read to its end.
-fn read_open(file: &mut File, buf: &mut [u8]) -> Filled
+// To standard error: a path and what the system says.
+fn say_error(rt: &HostRuntime, path: &[u8], error: &std::io::Error) {
+    say(path);
+    say(b": ");
+    match eprintln!(rt; "{error}") {
+        Ok(()) => {}
+        Err(_) => {}
+    }
+}
+
+// The file of a path that is open, read to its end; what fails at once is said.
+fn read_open(rt: &HostRuntime, path: &[u8], file: &mut File, buf: &mut [u8]) -> Filled
     ensures { result.size ≤ length buf.new }
 {
     let mut size = 0;
@@ -111,30 +121,33 @@ fn read_open(file: &mut File, buf: &mut [u8]) -> Filled
         match file.read(&mut buf[size..]) {
             Ok(0) => return Filled { good: true, size },
             Ok(n) => size += n,
-            Err(_) => {
-                return Filled {
-                    good: 0 < size,
-                    size,
-                };
+            Err(error) => {
+                if size == 0 {
+                    say_error(rt, path, &error);
+                    return Filled { good: false, size };
+                }
+                return Filled { good: true, size };
             }
         }
     }
     Filled { good: true, size }
 }
 
-// To standard error: a path and what failed there.
-fn say_failed(path: &[u8], what: &[u8]) {
-    say(path);
-    say(b": ");
-    say(what);
-    say(b"\n");
-}
-
-// The file of a path, where the path is text.
+// The file of a path, which is text; what fails is said.
 fn open(rt: &HostRuntime, path: &[u8]) -> Option<File> {
     match str::from_utf8(path) {
-        Ok(text) => File::open(rt, text).ok(),
-        Err(_) => None,
+        Ok(text) => match File::open(rt, text) {
+            Ok(file) => Some(file),
+            Err(error) => {
+                say_error(rt, path, &error);
+                None
+            }
+        },
+        Err(_) => {
+            say(path);
+            say(b": not UTF-8\n");
+            None
+        }
     }
 }
 
@@ -143,20 +156,17 @@ fn read_path(rt: &HostRuntime, path: &[u8], buf: &mut [u8]) -> Filled
     ensures { result.size ≤ length buf.new }
 {
     let Some(mut file) = open(rt, path) else {
-        say_failed(path, b"cannot be opened");
         return Filled {
             good: false,
             size: 0,
         };
     };
-    let r = read_open(&mut file, buf);
-    if !r.good {
-        say_failed(path, b"cannot be read");
-    }
+    let r = read_open(rt, path, &mut file, buf);
     if r.size < buf.len() {
         return r;
     }
-    say_failed(path, b"longer than 65535 bytes");
+    say(path);
+    say(b": longer than 65535 bytes\n");
     Filled {
         good: false,
         size: 0,
