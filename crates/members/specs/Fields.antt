@@ -19,7 +19,7 @@ words_from (suc n) (k ∷ bs) = elim (leb k (length bs)) [ true ↦ take k bs �
 unfoldable pub words_of : List ℕ → List (List ℕ)
 words_of bs = words_from (length bs) bs
 
--- the number of the word that a value is, of which the first has the number k; mostWords where it is none
+-- the number of the word that a value is, of which the first has the number k; most_words where it is none
 unfoldable pub choice_from : ℕ → Json → List (List ℕ) → ℕ
 choice_from k j [] = most_words
 choice_from k j (w ∷ ws) = elim (is_word w j) [ true ↦ k | false ↦ choice_from (suc k) j ws ]

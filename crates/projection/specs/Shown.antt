@@ -1,4 +1,4 @@
--- The object of a selected row, by flags for what is shown: 0 for "_uuid", 1 + c for column c. `Rattle.projection.proofs.Rows` says that it is the model's rowText. Assumes nothing: these are definitions.
+-- The object of a selected row, by flags for what is shown: 0 for "_uuid", 1 + c for column c. `Rattle.projection.proofs.Rows` says that it is the model's row_text. Assumes nothing: these are definitions.
 use Rattle.std.specs.Prelude.{ℕ, zero, suc, ◌+◌, Bool, true, false, not, List, [], ◌∷◌, ◌++◌, get_or}
 use Rattle.model.specs.Base.{ascii}
 use Rattle.model.specs.Catalog.{base_numbered, base_offset, entry_name, column_place, column_count}
