@@ -127,12 +127,6 @@ write_part done piece xs cur at n l c =
     ∙ ap (λ (a : List ℕ). done ++ (piece ++ a)) (drop-drop n at xs)
     ∙ sym (append_assoc done piece (drop (at + n) xs))
 
--- what it is lent
-pub part_lent : (cur : List ℕ) (at n : ℕ) → at + n ≤ length cur → length (take (at + n - at) (drop at cur)) ≡ n
-part_lent cur at n h =
-    let e : at + n - at ≡ n = omega arith in
-    ap (λ (m : ℕ). length (take m (drop at cur))) e ∙ length-take-le n (drop at cur) (omega (arith, length-drop at cur))
-
 -- ── written row by row ──
 bytes_append : (l m : List (List (List ℕ))) → bytes_of (l ++ m) ≡ bytes_of l ++ bytes_of m
 bytes_append [] m = refl

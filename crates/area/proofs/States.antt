@@ -1,8 +1,8 @@
 -- The state of a mirror's and of a store's area, by the tests that the code makes of it. Assumes nothing.
+use Rattle.std.specs.Prelude.{None}
 use mathlib.Core.Path.{◌≡◌, refl, sym, ap, ◌∙◌}
 use mathlib.Core.Bool.{Bool, true, false, not, ◌&&◌, ◌||◌}
 use mathlib.Core.List.{List, [], ◌∷◌, ◌++◌, append-nil}
-use mathlib.Core.Option.{none}
 use Prim.Native.Nat.{ℕ, zero, suc, ◌^◌, ◌≤◌}
 use native.Mathlib.Omega.{arith}
 use borrow.Author.Tests.{leb-true, lt-ltb}
@@ -237,7 +237,7 @@ module _ (schema : List (List ℕ)) (a : List ℕ) (size : store_bytes ≤ lengt
 
 -- ── what is in no good order by its length or its schema ──
 module _ {S : Type 0} (encode : S → List ℕ) (decode : List ℕ → S) (good : S → Bool) (a : List ℕ) where
-  state_none : (encode (decode a) ≡ a → good (decode a) ≡ true → ⊥) → state_of encode decode good a ≡ none
+  state_none : (encode (decode a) ≡ a → good (decode a) ≡ true → ⊥) → state_of encode decode good a ≡ None
   state_none f = state_when encode decode good a false (λ h. absurd (clash false h refl)) (λ e g. absurd (f e g))
 
 module _ (a : List ℕ) where
@@ -268,14 +268,14 @@ module _ (a : List ℕ) where
       let x = and_l (heads && rows) (lawful (decode_store a).database.tables (decode_store a).rows) g in
       pass_fits (decode_store a) (and_l heads rows x) (meets_pass (decode_store a).database.tables (decode_store a).rows (and_r heads rows x))
 
-  pub mirror_refused : is_accepted (entries_in a) ≡ false → mirror_of a ≡ none
+  pub mirror_refused : is_accepted (entries_in a) ≡ false → mirror_of a ≡ None
   unfolding mirror_of
   mirror_refused h = state_none encode_mirror decode_mirror mirror_good a (λ e g. clash (is_accepted (entries_in a)) (mirror_accepted e g) h)
 
-  pub store_refused : is_accepted (entries_in a) ≡ false → store_of a ≡ none
+  pub store_refused : is_accepted (entries_in a) ≡ false → store_of a ≡ None
   unfolding store_of
   store_refused h = state_none encode_store decode_store store_good a (λ e g. clash (is_accepted (entries_in a)) (encoded_accepted [] (store_fits g) (append-nil (encode_store (decode_store a)) ∙ e)) h)
 
-  pub store_other : (length a ≡ store_bytes → ⊥) → store_of a ≡ none
+  pub store_other : (length a ≡ store_bytes → ⊥) → store_of a ≡ None
   unfolding store_of
   store_other h = state_none encode_store decode_store store_good a (λ e g. h (ap length (sym e) ∙ store_of_length (encode_store (decode_store a)) (decode_store a) (store_of_encode (decode_store a) g)))

@@ -7,8 +7,8 @@ use native.Mathlib.Numerals.{add-one}
 use native.Mathlib.Omega.{arith}
 use borrow.Author.Tests.{ltb-true, ltb-false}
 use lib.Dec.{ltb}
-use lib.ListN.{length, take, drop, get_or, drop_of_length-le}
-use lib.Seq.{drop-cons, length-take-le, get_or-take}
+use lib.ListN.{length, drop, get_or, drop_of_length-le}
+use lib.Seq.{drop-cons}
 use Rattle.model.specs.Base.{all}
 use Rattle.model.specs.Schema.{Schema}
 use Rattle.model.specs.Rows.{Row, has_id}
@@ -31,9 +31,6 @@ module _ {A : Type 0} (q : A → Bool) (d : A) (l : List A) (i : ℕ) where
 
   pub all_end : length l ≤ i → all q (drop i l) ≡ true
   all_end h = rw (drop_of_length-le l {i = i} h)
-
-  pub all_off : i < length l → q (get_or l i d) ≡ false → all q (drop i l) ≡ false
-  all_off h e = all_step h ∙ ap (λ (b : Bool). b && all q (drop (i + 1) l)) e
 
   pub all_on : i < length l → q (get_or l i d) ≡ true → all q (drop i l) ≡ all q (drop (i + 1) l)
   all_on h e = all_step h ∙ ap (λ (b : Bool). b && all q (drop (i + 1) l)) e
@@ -77,14 +74,3 @@ module _ (s : Schema) (cells : List (List (List ℕ))) (n : ℕ) (h : n ≤ leng
 
   pub distinct_end : n ≤ i → distinct_ids (rest i) ≡ true
   distinct_end l = rw (working_end s cells n h i l)
-
--- the same over the first n elements
-module _ {A : Type 0} (q : A → Bool) (d : A) (l : List A) (n i : ℕ) (h : n ≤ length l) where
-  pub front_on : i < n → q (get_or l i d) ≡ true → all q (drop i (take n l)) ≡ all q (drop (i + 1) (take n l))
-  front_on g e = all_on q d (take n l) i (omega (arith, length-take-le n l h)) (ap q (get_or-take n l i d g) ∙ e)
-
-  pub front_off : i < n → q (get_or l i d) ≡ false → all q (drop i (take n l)) ≡ false
-  front_off g e = all_off q d (take n l) i (omega (arith, length-take-le n l h)) (ap q (get_or-take n l i d g) ∙ e)
-
-  pub front_end : n ≤ i → all q (drop i (take n l)) ≡ true
-  front_end g = all_end q d (take n l) i (omega (arith, length-take-le n l h))

@@ -1,6 +1,5 @@
 -- What is read of an area's numbers and flags, and what is written to it part by part. Assumes nothing: these are definitions.
-use Rattle.std.specs.Prelude.{ℕ, ◌+◌, ◌-◌, ◌*◌, Bool, true, false, not, ◌&&◌, ◌||◌, List, [], ◌∷◌, ◌++◌, eqb, leb, get_or, take, drop, replicate}
-use Rattle.std.proofs.Math.Option.{Option, none, some}
+use Rattle.std.specs.Prelude.{ℕ, ◌+◌, ◌-◌, ◌*◌, Bool, true, false, not, ◌&&◌, ◌||◌, List, [], ◌∷◌, ◌++◌, eqb, leb, get_or, take, drop, replicate, Option, Some, None}
 use Rattle.model.specs.Octets.{big, value, part}
 use Rattle.model.specs.Limits.{most_rows, number_bytes, row_bytes, number_offset, top_offset, heard_offset, whole_offset}
 use Rattle.model.specs.Schema.{Database}
@@ -39,5 +38,5 @@ store_in d run number n cells = record { run = run; number = number; database = 
 
 -- a state where a test passes, or none
 abbrev pub when : {S : Type 0} → Bool → S → Option S
-when true s = some s
-when false s = none
+when true s = Some s
+when false s = None

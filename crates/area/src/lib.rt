@@ -23,18 +23,14 @@ use model::{
     RUN_OFFSET, Row, STORE_BYTES, TOP_OFFSET, WHOLE_OFFSET,
 };
 
-// A cell in an area.
-fn cell_at(area: &[u8], at: usize) -> Atom
-    requires { at + atom_bytes ≤ length area.now }
-    ensures { result ≡ part at atom_bytes area.now }
+// The N bytes at a place.
+fn bytes_at<const N: usize>(area: &[u8], at: usize) -> [u8; N]
+    requires { at + N ≤ length area.now }
+    ensures { result ≡ part at N area.now }
 {
-    let mut cell = [0u8; ATOM];
-    let mut k = 0;
-    while k < ATOM {
-        cell[k] = area[at + k];
-        k += 1;
-    }
-    cell
+    let mut bytes = [0u8; N];
+    bytes.copy_from_slice(&area[at..at + N]);
+    bytes
 }
 
 // A row in an area.
@@ -43,11 +39,8 @@ fn row_at(area: &[u8], at: usize) -> Row
     ensures { result ≡ cut row_cell_count (drop at area.now) }
 {
     let mut row = [[0u8; ATOM]; CELLS];
-    let mut j = 0;
-    while j < CELLS {
-        let cell = cell_at(area, at + ATOM * j);
-        row[j] = cell;
-        j += 1;
+    for j in 0..CELLS {
+        row[j] = bytes_at(area, at + ATOM * j);
     }
     row
 }
@@ -57,11 +50,8 @@ pub fn read_rows(area: &[u8], at: usize, rows: &mut [Row], n: usize)
     requires { (at + row_bytes * n ≤ length area.now) × (n ≤ length rows.old) }
     ensures { rows.new ≡ rows_in n (drop at area.now) ++ drop n rows.old }
 {
-    let mut i = 0;
-    while i < n {
-        let row = row_at(area, at + ROW_BYTES * i);
-        rows[i] = row;
-        i += 1;
+    for i in 0..n {
+        rows[i] = row_at(area, at + ROW_BYTES * i);
     }
 }
 
@@ -80,10 +70,10 @@ fn atoms_at(area: &[u8], at: usize) -> Atoms
     ensures { result ≡ cut most_elements (drop at area.now) }
 {
     [
-        cell_at(area, at),
-        cell_at(area, at + ATOM),
-        cell_at(area, at + 2 * ATOM),
-        cell_at(area, at + 3 * ATOM),
+        bytes_at(area, at),
+        bytes_at(area, at + ATOM),
+        bytes_at(area, at + 2 * ATOM),
+        bytes_at(area, at + 3 * ATOM),
     ]
 }
 
@@ -97,20 +87,7 @@ pub fn same_column(area: &[u8], i: usize, row: &Row, c: usize) -> bool
         return false;
     }
     let atoms = atoms_at(area, at + ATOM * (1 + ELEMENTS * c));
-    value::equal(&atoms[..], rows::atoms_in(row, c))
-}
-
-// A cell written over a part of its length, by a copy of its own.
-fn put_cell(out: &mut [u8], cell: &Atom)
-    requires { length out.old ≡ atom_bytes }
-    ensures { out.new ≡ cell.now }
-{
-    let c = cell_at(&cell[..], 0);
-    let mut k = 0;
-    while k < ATOM {
-        out[k] = c[k];
-        k += 1;
-    }
+    value::equal(&atoms, rows::atoms_in(row, c))
 }
 
 // A row written to the front of a buffer.
@@ -118,11 +95,11 @@ fn put_row(out: &mut [u8], row: &[Atom])
     requires { (length row.now ≡ row_cell_count) × (row_bytes ≤ length out.old) }
     ensures { (out.new ≡ flat row.now ++ drop row_bytes out.old) × (length (flat row.now) ≡ row_bytes) }
 {
-    let mut j = 0;
-    while j < CELLS {
+    for j in 0..CELLS {
         let at = ATOM * j;
-        put_cell(&mut out[at..at + ATOM], &row[j]);
-        j += 1;
+        // From a copy of its own: 32 rows then take 4933 instructions, and 12262 straight from the row.
+        let cell = row[j];
+        out[at..at + ATOM].copy_from_slice(&cell);
     }
 }
 
@@ -131,23 +108,18 @@ fn put_rows(out: &mut [u8], rows: &[Row], n: usize)
     requires { (n ≤ length rows.now) × (row_bytes * n ≤ length out.old) }
     ensures { Rows n rows.now out.old out.new }
 {
-    let mut i = 0;
-    while i < n {
-        let row = &rows[i];
-        put_row(&mut out[ROW_BYTES * i..], &row[..]);
-        i += 1;
+    for i in 0..n {
+        put_row(&mut out[ROW_BYTES * i..], &rows[i]);
     }
 }
 
-// Whether all bytes from a place on are zero.
+// Whether all bytes from a place on are zero, by a loop with no early end: it is compiled to compares of many bytes.
 pub fn zeros_from(area: &[u8], at: usize) -> bool
     ensures { result ≡ zeros (drop at area.now) }
 {
     let mut ok = true;
-    let mut i = at;
-    while i < area.len() {
-        ok = ok & (area[i] == 0);
-        i += 1;
+    for i in at..area.len() {
+        ok &= area[i] == 0;
     }
     ok
 }
@@ -157,14 +129,7 @@ fn blank_cells(cells: &[Atom], at: usize) -> bool
     requires { at ≤ length cells.now }
     ensures { result ≡ all zeros (drop at cells.now) }
 {
-    let mut i = at;
-    while i < cells.len() {
-        if !atom::blank_from(&cells[i], 0) {
-            return false;
-        }
-        i += 1;
-    }
-    true
+    cells[at..].iter().all(|cell| atom::blank_from(cell, 0))
 }
 
 // Whether a row with k columns leaves its other counts and cells zero.
@@ -172,10 +137,7 @@ pub fn tidy_row(row: &Row, k: usize) -> bool
     requires { k ≤ most_columns }
     ensures { result ≡ tidy_from k row.now }
 {
-    if !atom::blank_from(&row[0], COUNTS_OFFSET + k) {
-        return false;
-    }
-    blank_cells(&row[..], 1 + ELEMENTS * k)
+    atom::blank_from(&row[0], COUNTS_OFFSET + k) && blank_cells(row, 1 + ELEMENTS * k)
 }
 
 // Whether rows are in the order of their keys.
@@ -183,12 +145,10 @@ pub fn ascending(rows: &[Row], n: usize) -> bool
     requires { n ≤ length rows.now }
     ensures { (s : Schema) → result ≡ ascends (working s n rows.now) }
 {
-    let mut i = 0;
-    while i + 1 < n {
-        if !rows::less(&rows[i], &rows[i + 1]) {
+    for i in 1..n {
+        if !rows::less(&rows[i - 1], &rows[i]) {
             return false;
         }
-        i += 1;
     }
     true
 }
@@ -198,12 +158,11 @@ fn again(rows: &[Row], n: usize, row: &Row, at: usize) -> bool
     requires { (n ≤ length rows.now) × (at ≤ n) }
     ensures { (s : Schema) → result ≡ has_id (id_in row.now) (drop at (working s n rows.now)) }
 {
-    let mut i = at;
-    while i < n {
+    // A counted loop: slower as `any` over a part of the rows, 4876 instructions in place of 3943 for the ids of 32 rows.
+    for i in at..n {
         if rows::same_id(row, &rows[i]) {
             return true;
         }
-        i += 1;
     }
     false
 }
@@ -213,12 +172,10 @@ pub fn distinct(rows: &[Row], n: usize) -> bool
     requires { n ≤ length rows.now }
     ensures { (s : Schema) → result ≡ distinct_ids (working s n rows.now) }
 {
-    let mut i = 0;
-    while i < n {
+    for i in 0..n {
         if again(rows, n, &rows[i], i + 1) {
             return false;
         }
-        i += 1;
     }
     true
 }
@@ -241,12 +198,10 @@ fn canonical_row(cells: &[Entry], row: &Row) -> bool
     requires { length cells.now ≤ most_columns }
     ensures { result ≡ canonical_from 0 cells.now row.now }
 {
-    let mut c = 0;
-    while c < cells.len() {
-        if !canonical_column(&cells[c], row, c) {
+    for (c, cell) in cells.iter().enumerate() {
+        if !canonical_column(cell, row, c) {
             return false;
         }
-        c += 1;
     }
     true
 }
@@ -260,14 +215,8 @@ fn row_good(schema: &Catalog, row: &Row) -> bool
     if catalog::table_count(&schema[0]) <= t {
         return false;
     }
-    if !rows::has_some_id(row) {
-        return false;
-    }
     let cells = catalog::columns_of(schema, leaf::wide(t));
-    if !tidy_row(row, cells.len()) {
-        return false;
-    }
-    canonical_row(cells, row)
+    rows::has_some_id(row) && tidy_row(row, cells.len()) && canonical_row(cells, row)
 }
 
 // Whether each row passes.
@@ -276,14 +225,7 @@ fn each_good(schema: &Catalog, rows: &[Row], n: usize) -> bool
     requires n_in_bounds { n ≤ length rows.now }
     ensures { result ≡ all (row_good schema.now) (take n rows.now) }
 {
-    let mut i = 0;
-    while i < n {
-        if !row_good(schema, &rows[i]) {
-            return false;
-        }
-        i += 1;
-    }
-    true
+    rows[..n].iter().all(|row| row_good(schema, row))
 }
 
 // Whether rows pass: each by itself, in order, and with ids all different.
@@ -292,13 +234,7 @@ pub fn rows_good(schema: &Catalog, rows: &[Row], n: usize) -> bool
     requires n_in_bounds { n ≤ length rows.now }
     ensures { result ≡ rows_good schema.now n rows.now }
 {
-    if !each_good(schema, rows, n) {
-        return false;
-    }
-    if !ascending(rows, n) {
-        return false;
-    }
-    distinct(rows, n)
+    each_good(schema, rows, n) && ascending(rows, n) && distinct(rows, n)
 }
 
 // How many rows there are.
@@ -317,30 +253,13 @@ fn rest_blank(area: &[u8], n: usize) -> bool
     zeros_from(&area[ROWS_OFFSET + ROW_BYTES * n..STORE_BYTES], 0)
 }
 
-// An entry in an area.
-fn entry_at(area: &[u8], at: usize) -> Entry
-    requires { at + entry_bytes ≤ length area.now }
-    ensures { result ≡ part at entry_bytes area.now }
-{
-    let mut entry = [0u8; ENTRY];
-    let mut k = 0;
-    while k < ENTRY {
-        entry[k] = area[at + k];
-        k += 1;
-    }
-    entry
-}
-
 // The catalog of an area, read into entries.
 pub fn read_catalog(area: &[u8], catalog: &mut [Entry])
     requires { (store_bytes ≤ length area.now) × (length catalog.old ≡ entry_count) }
     ensures { catalog.new ≡ entries_in area.now }
 {
-    let mut j = 0;
-    while j < ENTRIES {
-        let entry = entry_at(area, CATALOG_OFFSET + ENTRY * j);
-        catalog[j] = entry;
-        j += 1;
+    for j in 0..ENTRIES {
+        catalog[j] = bytes_at(area, CATALOG_OFFSET + ENTRY * j);
     }
 }
 
@@ -351,10 +270,7 @@ pub fn part_good(area: &[u8], schema: &Catalog, rows: &mut [Row]) -> bool
     ensures { PartRead area.now schema.now rows.old rows.new result }
 {
     let n = row_count(area);
-    if ROWS < n {
-        return false;
-    }
-    if !rest_blank(area, n) {
+    if ROWS < n || !rest_blank(area, n) {
         return false;
     }
     read_rows(area, ROWS_OFFSET, rows, n);
@@ -394,6 +310,7 @@ pub fn top_of(area: &[u8]) -> u32
 }
 
 // Whether a mirror's own bytes are in good order.
+#[tactic(auto, unfolding(crate::specs::Writing::tail_good))]
 pub fn mirror_part(area: &[u8]) -> bool
     requires { mirror_bytes ≤ length area.now }
     ensures { result ≡ tail_good area.now }
@@ -402,8 +319,7 @@ pub fn mirror_part(area: &[u8]) -> bool
     let top = top_of(area);
     let heard = area[HEARD_OFFSET];
     let whole = area[WHOLE_OFFSET];
-    let flags = (heard <= 1) & (whole <= 1) & (n <= top);
-    flags & ((heard == 1) | (top == 0)) & ((whole == 1) | (n != 0))
+    heard <= 1 && whole <= 1 && n <= top && (heard == 1 || top == 0) && (whole == 1 || n != 0)
 }
 
 // The first n bytes are zero.
@@ -411,20 +327,7 @@ fn put_zeros(out: &mut [u8], n: usize)
     requires { n ≤ length out.old }
     ensures { out.new ≡ replicate n 0 ++ drop n out.old }
 {
-    octets::clear(&mut out[0..n]);
-}
-
-// An entry written over a part of its length, by a copy of its own.
-fn put_entry(out: &mut [u8], entry: &Entry)
-    requires { length out.old ≡ entry_bytes }
-    ensures { out.new ≡ entry.now }
-{
-    let e = entry_at(&entry[..], 0);
-    let mut k = 0;
-    while k < ENTRY {
-        out[k] = e[k];
-        k += 1;
-    }
+    octets::clear(&mut out[..n]);
 }
 
 // A catalog to the front of a buffer.
@@ -432,11 +335,11 @@ fn put_catalog(out: &mut [u8], catalog: &[Entry])
     requires { (length catalog.now ≡ entry_count) × (catalog_bytes ≤ length out.old) }
     ensures { (out.new ≡ flat catalog.now ++ drop catalog_bytes out.old) × (length (flat catalog.now) ≡ catalog_bytes) }
 {
-    let mut j = 0;
-    while j < ENTRIES {
+    for j in 0..ENTRIES {
         let at = ENTRY * j;
-        put_entry(&mut out[at..at + ENTRY], &catalog[j]);
-        j += 1;
+        // From a copy of its own, as a cell.
+        let entry = catalog[j];
+        out[at..at + ENTRY].copy_from_slice(&entry);
     }
 }
 

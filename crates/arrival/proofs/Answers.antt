@@ -1,8 +1,8 @@
 -- What a mirror answers, by the tests that the code makes. Assumes nothing.
+use Rattle.std.specs.Prelude.{Option, Some, None}
 use mathlib.Core.Path.{◌≡◌, refl, sym, ap, ◌∙◌}
 use mathlib.Core.Bool.{Bool, true, false, not, ◌&&◌, ◌||◌}
 use mathlib.Core.List.{List}
-use mathlib.Core.Option.{Option, none, some}
 use Prim.Native.Nat.{ℕ, suc, ◌+◌, ◌-◌, ◌≤◌, ◌<◌, max}
 use native.Mathlib.Omega.{arith}
 use borrow.Author.Tests.{eq-eqb, ne_eqb, le-leb, lt-leb, eqb-true, eqb-false, leb-true, leb-false, not-true, not-false}
@@ -24,43 +24,43 @@ use Rattle.arrival.specs.declared.Numbers.{Numbers}
 module _ (s : Schema) (n : ℕ) (rows : List Row) where
   pub bad_unsound : (o : Option Record) → sound_record s o ≡ false → bad_record s n rows o ≡ true
   unfolding sound_record bad_record
-  bad_unsound none h = refl
-  bad_unsound (some (numbered u k e)) h = rw h
-  bad_unsound (some (mark u k)) h = absurd (clash true refl h)
+  bad_unsound None h = refl
+  bad_unsound (Some (numbered u k e)) h = rw h
+  bad_unsound (Some (mark u k)) h = absurd (clash true refl h)
 
   pub bad_mark : (o : Option Record) → (head_of o).marks ≡ true → bad_record s n rows o ≡ false
   unfolding head_of bad_record
-  bad_mark none h = absurd (clash false h refl)
-  bad_mark (some (numbered u k e)) h = absurd (clash false h refl)
-  bad_mark (some (mark u k)) h = refl
+  bad_mark None h = absurd (clash false h refl)
+  bad_mark (Some (numbered u k e)) h = absurd (clash false h refl)
+  bad_mark (Some (mark u k)) h = refl
 
   pub bad_zero : (o : Option Record) → (head_of o).marks ≡ false → (head_of o).number ≡ 0 → bad_record s n rows o ≡ true
   unfolding head_of bad_record
-  bad_zero none h z = refl
-  bad_zero (some (numbered u k e)) h z = rw (eq-eqb k 0 z, or_true (not (sound s e)))
-  bad_zero (some (mark u k)) h z = absurd (clash true refl h)
+  bad_zero None h z = refl
+  bad_zero (Some (numbered u k e)) h z = rw (eq-eqb k 0 z, or_true (not (sound s e)))
+  bad_zero (Some (mark u k)) h z = absurd (clash true refl h)
 
   pub bad_later : (o : Option Record) → sound_record s o ≡ true → (head_of o).marks ≡ false → ((head_of o).number ≡ 0 → ⊥) → ((head_of o).number - 1 ≡ n → ⊥) → bad_record s n rows o ≡ false
   unfolding head_of sound_record bad_record
-  bad_later none h m z l = absurd (clash false h refl)
-  bad_later (some (numbered u k e)) h m z l = let x : k ≡ suc n → ⊥ = λ p. l (omega arith) in rw (h, ne_eqb k 0 z, ne_eqb k (suc n) x)
-  bad_later (some (mark u k)) h m z l = absurd (clash true refl m)
+  bad_later None h m z l = absurd (clash false h refl)
+  bad_later (Some (numbered u k e)) h m z l = let x : k ≡ suc n → ⊥ = λ p. l (omega arith) in rw (h, ne_eqb k 0 z, ne_eqb k (suc n) x)
+  bad_later (Some (mark u k)) h m z l = absurd (clash true refl m)
 
   pub bad_next : (o : Option Record) → sound_record s o ≡ true → (head_of o).marks ≡ false → ((head_of o).number ≡ 0 → ⊥) → (head_of o).number - 1 ≡ n → bad_record s n rows o ≡ not (fits_record rows o)
   unfolding head_of sound_record bad_record fits_record
-  bad_next none h m z l = absurd (clash false h refl)
-  bad_next (some (numbered u k e)) h m z l = let x : k ≡ suc n = omega arith in rw (h, ne_eqb k 0 z, eq-eqb k (suc n) x)
-  bad_next (some (mark u k)) h m z l = absurd (clash true refl m)
+  bad_next None h m z l = absurd (clash false h refl)
+  bad_next (Some (numbered u k e)) h m z l = let x : k ≡ suc n = omega arith in rw (h, ne_eqb k 0 z, eq-eqb k (suc n) x)
+  bad_next (Some (mark u k)) h m z l = absurd (clash true refl m)
 
   -- the next record, not refused, is sound and fits
   pub welcome : (o : Option Record) → bad_record s n rows o ≡ false → (head_of o).marks ≡ false → (head_of o).number ≡ suc n → Welcome s rows o
   unfolding head_of sound_record bad_record fits_record
-  welcome none h m l = absurd (clash true refl h)
-  welcome (some (numbered u k e)) h m l =
+  welcome None h m l = absurd (clash true refl h)
+  welcome (Some (numbered u k e)) h m l =
       let p = or_l (not (sound s e) || eqb k 0) (eqb k (suc n) && not (fits e rows)) h in
       let q : not (fits e rows) ≡ false = rw (eq-eqb k (suc n) l) at (or_r (not (sound s e) || eqb k 0) (eqb k (suc n) && not (fits e rows)) h) in
       record { sound = not-false (sound s e) (or_l (not (sound s e)) (eqb k 0) p); fits = not-false (fits e rows) q }
-  welcome (some (mark u k)) h m l = absurd (clash true refl m)
+  welcome (Some (mark u k)) h m l = absurd (clash true refl m)
 
 -- ── the answers ──
 module _ (s : Schema) (run : ℕ) (m : Numbers) (rows : List Row) where
@@ -72,43 +72,43 @@ module _ (s : Schema) (run : ℕ) (m : Numbers) (rows : List Row) where
 
   pub refused : (o : Option Record) → bad_record s m.n rows o ≡ true → on_read s run was o ≡ record { status = BadRecord; next = was }
   unfolding bad_record
-  refused none h = refl
-  refused (some (numbered u k e)) h = rw h
-  refused (some (mark u k)) h = absurd (clash false h refl)
+  refused None h = refl
+  refused (Some (numbered u k e)) h = rw h
+  refused (Some (mark u k)) h = absurd (clash false h refl)
 
   pub stranger : (o : Option Record) → Fine o → ((head_of o).run ≡ run → ⊥) → on_read s run was o ≡ record { status = OtherRun; next = was }
   unfolding head_of bad_record
-  stranger none h x = absurd (clash true refl h)
-  stranger (some (numbered u k e)) h x = rw (h, ne_eqb u run x)
-  stranger (some (mark u k)) h x = rw (ne_eqb u run x)
+  stranger None h x = absurd (clash true refl h)
+  stranger (Some (numbered u k e)) h x = rw (h, ne_eqb u run x)
+  stranger (Some (mark u k)) h x = rw (ne_eqb u run x)
 
   pub marked : (o : Option Record) → (head_of o).run ≡ run → (head_of o).marks ≡ true → on_read s run was o ≡ record { status = Heard; next = mirror_of (hears_of m (head_of o).number) rows }
   unfolding head_of hears_of
-  marked none x y = absurd (clash false y refl)
-  marked (some (numbered u k e)) x y = absurd (clash false y refl)
-  marked (some (mark u k)) x y = rw (eq-eqb u run x)
+  marked None x y = absurd (clash false y refl)
+  marked (Some (numbered u k e)) x y = absurd (clash false y refl)
+  marked (Some (mark u k)) x y = rw (eq-eqb u run x)
 
   pub repeated : (o : Option Record) → Fine o → (head_of o).run ≡ run → (head_of o).marks ≡ false → (head_of o).number ≤ m.n → on_read s run was o ≡ record { status = Repeat; next = was }
   unfolding head_of bad_record
-  repeated none h x y l = absurd (clash true refl h)
-  repeated (some (numbered u k e)) h x y l = rw (h, eq-eqb u run x, le-leb k m.n l)
-  repeated (some (mark u k)) h x y l = absurd (clash true refl y)
+  repeated None h x y l = absurd (clash true refl h)
+  repeated (Some (numbered u k e)) h x y l = rw (h, eq-eqb u run x, le-leb k m.n l)
+  repeated (Some (mark u k)) h x y l = absurd (clash true refl y)
 
   pub ahead : (o : Option Record) → Fine o → (head_of o).run ≡ run → (head_of o).marks ≡ false → m.n < (head_of o).number → ((head_of o).number - 1 ≡ m.n → ⊥)
       → on_read s run was o ≡ record { status = Behind; next = mirror_of (hears_of m (head_of o).number) rows }
   unfolding head_of bad_record hears_of
-  ahead none h x y l z = absurd (clash true refl h)
-  ahead (some (numbered u k e)) h x y l z = let w : k ≡ suc m.n → ⊥ = λ p. z (omega arith) in rw (h, eq-eqb u run x, lt-leb k m.n l, ne_eqb k (suc m.n) w)
-  ahead (some (mark u k)) h x y l z = absurd (clash true refl y)
+  ahead None h x y l z = absurd (clash true refl h)
+  ahead (Some (numbered u k e)) h x y l z = let w : k ≡ suc m.n → ⊥ = λ p. z (omega arith) in rw (h, eq-eqb u run x, lt-leb k m.n l, ne_eqb k (suc m.n) w)
+  ahead (Some (mark u k)) h x y l z = absurd (clash true refl y)
 
   pub applied : (o : Option Record) → Fine o → (head_of o).run ≡ run → (head_of o).marks ≡ false → (head_of o).number ≡ suc m.n
       → on_read s run was o ≡ record { status = Applied; next = mirror_of (applies_of m (head_of o).number (head_of o).ends) (act_record s o rows) }
   unfolding head_of bad_record applies_of act_record
-  applied none h x y l = absurd (clash true refl h)
-  applied (some (numbered u k e)) h x y l =
+  applied None h x y l = absurd (clash true refl h)
+  applied (Some (numbered u k e)) h x y l =
       rw (h, eq-eqb u run x, lt-leb k m.n (omega arith), eq-eqb k (suc m.n) l)
       (ap (λ (j : ℕ). record { status = Applied; next = record { rows = act s e rows; n = j; top = max m.top j; heard = true; whole = is_end e } }) (sym l))
-  applied (some (mark u k)) h x y l = absurd (clash true refl y)
+  applied (Some (mark u k)) h x y l = absurd (clash true refl y)
 
   -- what is read of the bytes is what the model decodes
   pub record Outcome (bytes : List ℕ) (a : Status) (next : Mirror) : Type 0 where

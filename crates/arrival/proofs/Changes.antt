@@ -1,8 +1,8 @@
 -- What a record does to rows in cells. Assumes nothing.
+use Rattle.std.specs.Prelude.{Option, Some, None}
 use mathlib.Core.Path.{◌≡◌, refl, sym, ap, ◌∙◌}
 use mathlib.Core.Bool.{true}
 use mathlib.Core.List.{List, [], ◌∷◌, ◌++◌, append-nil}
-use mathlib.Core.Option.{Option, none, some}
 use Prim.Native.Nat.{ℕ, zero, suc, ◌+◌, ◌-◌, ◌*◌, ◌≤◌, ◌<◌}
 use native.Mathlib.Omega.{arith}
 use borrow.Author.Tests.{eqb-true}
@@ -35,14 +35,14 @@ use Rattle.arrival.proofs.Records.{columns_count}
 
 -- ── a row's column set ──
 -- the row that is found has the key, and is fine where all are
-found : (s : Schema) (k : ℕ) (rows : List Row) (r : Row) → AllFine s rows → find k rows ≡ some r → (k ≡ key r) × Fine s r
+found : (s : Schema) (k : ℕ) (rows : List Row) (r : Row) → AllFine s rows → find k rows ≡ Some r → (k ≡ key r) × Fine s r
 found s k [] r f h = let z : ◌≡◌ {A = ℕ} 0 1 = cc in absurd (omega arith)
 found s k (x ∷ rows) r f h = split (eqb k (key x))
     (λ e. let p : x ≡ r = go e h in (eqb-true k (key x) e ∙ ap key p, rw p at f.0))
     (λ e. found s k rows r f.1 (rw e at h))
   where
-    go : eqb k (key x) ≡ true → find k (x ∷ rows) ≡ some r → x ≡ r
-    go e h = let q : some x ≡ some r = rw e at h in cc
+    go : eqb k (key x) ≡ true → find k (x ∷ rows) ≡ Some r → x ≡ r
+    go e h = let q : Some x ≡ Some r = rw e at h in cc
 
 module _ (s : Schema) (t i : ℕ) (rows : List Row) (p : ℕ) (d : Row) where
   found_table : known s t i ≡ true → Good s rows → Placed (key_of t i) rows p → (get_or rows p d).table ≡ t
@@ -72,29 +72,29 @@ module _ (s : Schema) (t i c : ℕ) (v : Value) (n : ℕ) (cells : List (List (L
 
 -- ── a column of a row in cells ──
 module _ (s : Schema) (row : List (List ℕ)) where
-  nth_columns : (n c : ℕ) (counts : List ℕ) (cells : List (List ℕ)) → c < n → nth (columns_from n counts cells) c ≡ some (record { count = get_or counts c 0; atoms = take 4 (drop (4 * c) cells) })
+  nth_columns : (n c : ℕ) (counts : List ℕ) (cells : List (List ℕ)) → c < n → nth (columns_from n counts cells) c ≡ Some (record { count = get_or counts c 0; atoms = take 4 (drop (4 * c) cells) })
   nth_columns zero c counts cells h = absurd (omega arith)
   nth_columns (suc n) zero counts cells h = refl
   nth_columns (suc n) (suc c) counts cells h =
       let e : 1 + c ≡ suc c = omega arith in
       nth_columns n c (drop 1 counts) (drop 4 cells) (omega arith)
-      ∙ (λ j. some (record { count = (get_or-drop 1 counts c 0 ∙ ap (λ (k : ℕ). get_or counts k 0) e) j; atoms = take 4 ((drop-drop (4 * c) 4 cells ∙ ap (λ (k : ℕ). drop k cells) g) j) }))
+      ∙ (λ j. Some (record { count = (get_or-drop 1 counts c 0 ∙ ap (λ (k : ℕ). get_or counts k 0) e) j; atoms = take 4 ((drop-drop (4 * c) 4 cells ∙ ap (λ (k : ℕ). drop k cells) g) j) }))
     where
       g : 4 + 4 * c ≡ 4 * suc c
       g = omega arith
 
-  nth_none : (n c : ℕ) (counts : List ℕ) (cells : List (List ℕ)) → n ≤ c → nth (columns_from n counts cells) c ≡ none
+  nth_none : (n c : ℕ) (counts : List ℕ) (cells : List (List ℕ)) → n ≤ c → nth (columns_from n counts cells) c ≡ None
   nth_none zero c counts cells h = refl
   nth_none (suc n) zero counts cells h = absurd (omega arith)
   nth_none (suc n) (suc c) counts cells h = nth_none n c (drop 1 counts) (drop 4 cells) (omega arith)
 
-  column_there : (c : ℕ) → c < length (columns_of s (table_in row)) → nth (row_from s row).columns c ≡ some (value_in c row)
+  column_there : (c : ℕ) → c < length (columns_of s (table_in row)) → nth (row_from s row).columns c ≡ Some (value_in c row)
   unfolding row_from table_in value_in
   column_there c h =
       nth_columns (length (columns_of s (table_in row))) c (drop 17 (get_or row 0 [])) (drop 1 row) h
-      ∙ (λ j. some (record { count = get_or-drop 17 (get_or row 0 []) c 0 j; atoms = take 4 (drop-drop (4 * c) 1 row j) }))
+      ∙ (λ j. Some (record { count = get_or-drop 17 (get_or row 0 []) c 0 j; atoms = take 4 (drop-drop (4 * c) 1 row j) }))
 
-  column_missing : (c : ℕ) → length (columns_of s (table_in row)) ≤ c → nth (row_from s row).columns c ≡ none
+  column_missing : (c : ℕ) → length (columns_of s (table_in row)) ≤ c → nth (row_from s row).columns c ≡ None
   unfolding row_from table_in
   column_missing c h = nth_none (length (columns_of s (table_in row))) c (drop 17 (get_or row 0 [])) (drop 1 row) h
 

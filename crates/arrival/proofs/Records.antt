@@ -1,8 +1,8 @@
 -- What an arrival carries and asks, by its kind. Assumes nothing.
+use Rattle.std.specs.Prelude.{Option, Some, None}
 use mathlib.Core.Path.{◌≡◌, refl, sym, ap, ◌∙◌}
 use mathlib.Core.Bool.{Bool, true, false, not, ◌&&◌}
 use mathlib.Core.List.{List, [], ◌∷◌, map}
-use mathlib.Core.Option.{Option, none, some}
 use Prim.Native.Nat.{ℕ, zero, suc, ◌+◌, ◌*◌, ◌≤◌, ◌<◌}
 use native.Mathlib.Omega.{arith}
 use borrow.Author.Tests.{ltb-true}
@@ -55,15 +55,15 @@ module _ (cells : List (List ℕ)) (held : Accepted cells) where
       ap length (columns_in cells t h) ∙ length-map (columns_at cells t) column_from ∙ cells_length cells t held.size (omega arith) (few_columns_lem _ (held) t (omega arith))
 
   -- column c of table t is in its entry
-  pub column_in_lem : (t c : ℕ) → t < tables → c < columns t → nth (columns_of s t) c ≡ some (column_from (get_or cells (column_place t c) []))
+  pub column_in_lem : (t c : ℕ) → t < tables → c < columns t → nth (columns_of s t) c ≡ Some (column_from (get_or cells (column_place t c) []))
   column_in_lem t c h g =
       let f = few_tables _ (held) in
       let l = cells_length cells t held.size (omega arith) (few_columns_lem _ (held) t (omega arith)) in
       ap (λ (x : List Column). nth x c) (columns_in cells t h)
       ∙ nth_map (columns_at cells t) c (omega arith)
-      ∙ ap (λ (x : List ℕ). some (column_from x)) (get_or-take (columns t) (drop (5 + 6 * t) cells) c [] g ∙ get_or-drop (5 + 6 * t) cells c [])
+      ∙ ap (λ (x : List ℕ). Some (column_from x)) (get_or-take (columns t) (drop (5 + 6 * t) cells) c [] g ∙ get_or-drop (5 + 6 * t) cells c [])
     where
-      nth_map : (l : List (List ℕ)) (c : ℕ) → c < length l → nth (map column_from l) c ≡ some (column_from (get_or l c []))
+      nth_map : (l : List (List ℕ)) (c : ℕ) → c < length l → nth (map column_from l) c ≡ Some (column_from (get_or l c []))
       nth_map [] c h = absurd (omega arith)
       nth_map (x ∷ l) zero h = refl
       nth_map (x ∷ l) (suc c) h = nth_map l c (omega arith)
@@ -118,9 +118,9 @@ module _ (cells : List (List ℕ)) (held : Accepted cells) where
 module _ (s : Schema) where
   pub sound_is : (o : Option Record) → sound_record s o ≡ (listed_record (column_counts s) o && canonical_record s o)
   unfolding sound_record listed_record canonical_record
-  sound_is none = refl
-  sound_is (some (numbered u k e)) = sound_listed s e
-  sound_is (some (mark u k)) = refl
+  sound_is None = refl
+  sound_is (Some (numbered u k e)) = sound_listed s e
+  sound_is (Some (mark u k)) = refl
 
   pub sound_not : (o : Option Record) → listed_record (column_counts s) o ≡ false → sound_record s o ≡ false
   sound_not o h = sound_is o ∙ ap (λ (b : Bool). b && canonical_record s o) h

@@ -1,6 +1,5 @@
 -- What an arrival asks of working rows, and what it leaves (document 01, "What a mirror doesn't refuse it has heard .."). Assumes nothing: these are definitions.
-use Rattle.std.specs.Prelude.{◌≡◌, Bool, true, false, not, ◌&&◌, List, [], ℕ, ◌+◌, ◌≤◌, max, eqb, leb, length, take, if◌then◌else◌}
-use Rattle.std.proofs.Math.Option.{Option, none, some}
+use Rattle.std.specs.Prelude.{◌≡◌, Bool, true, false, not, ◌&&◌, List, [], ℕ, ◌+◌, ◌≤◌, max, eqb, leb, length, take, if◌then◌else◌, Option, Some, None}
 use Rattle.model.specs.Base.{nth}
 use Rattle.model.specs.Limits.{most_rows}
 use Rattle.model.specs.Schema.{Schema}
@@ -20,39 +19,39 @@ use Rattle.arrival.specs.declared.Outcome.{Outcome}
 -- ── what a record carries ──
 -- its run and its number, whether it is a mark, whether it ends a commit
 unfoldable pub head_of : Option Record → Head
-head_of none = record { run = 0; number = 0; marks = false; ends = false }
-head_of (some (numbered u k e)) = record { run = u; number = k; marks = false; ends = is_end e }
-head_of (some (mark u k)) = record { run = u; number = k; marks = true; ends = false }
+head_of None = record { run = 0; number = 0; marks = false; ends = false }
+head_of (Some (numbered u k e)) = record { run = u; number = k; marks = false; ends = is_end e }
+head_of (Some (mark u k)) = record { run = u; number = k; marks = true; ends = false }
 
 -- refusal 8, "a value that isn't in canonical form for its type": the opposite
 unfoldable pub canonical_record : Schema → Option Record → Bool
-canonical_record s none = true
-canonical_record s (some (numbered u k e)) = canonical_in s e
-canonical_record s (some (mark u k)) = true
+canonical_record s None = true
+canonical_record s (Some (numbered u k e)) = canonical_in s e
+canonical_record s (Some (mark u k)) = true
 
 -- refusal 8, "a table or column the schema lacks, a value that isn't in canonical form for its type": the opposite
 unfoldable pub sound_record : Schema → Option Record → Bool
-sound_record s none = false
-sound_record s (some (numbered u k e)) = sound s e
-sound_record s (some (mark u k)) = true
+sound_record s None = false
+sound_record s (Some (numbered u k e)) = sound s e
+sound_record s (Some (mark u k)) = true
 
 -- refusal 8, "fit the rows"
 unfoldable pub fits_record : List Row → Option Record → Bool
-fits_record rows none = true
-fits_record rows (some (numbered u k e)) = fits e rows
-fits_record rows (some (mark u k)) = true
+fits_record rows None = true
+fits_record rows (Some (numbered u k e)) = fits e rows
+fits_record rows (Some (mark u k)) = true
 
 -- refusal 8, all of it, for a mirror that has applied n records
 unfoldable pub bad_record : Schema → ℕ → List Row → Option Record → Bool
-bad_record s n rows none = true
-bad_record s n rows (some (numbered u k e)) = bad s (record { rows = rows; n = n; top = 0; heard = false; whole = false }) k e
-bad_record s n rows (some (mark u k)) = false
+bad_record s n rows None = true
+bad_record s n rows (Some (numbered u k e)) = bad s (record { rows = rows; n = n; top = 0; heard = false; whole = false }) k e
+bad_record s n rows (Some (mark u k)) = false
 
 -- "record n+1, which acts on the rows"
 unfoldable pub act_record : Schema → Option Record → List Row → List Row
-act_record s none rows = rows
-act_record s (some (numbered u k e)) rows = act s e rows
-act_record s (some (mark u k)) rows = rows
+act_record s None rows = rows
+act_record s (Some (numbered u k e)) rows = act s e rows
+act_record s (Some (mark u k)) rows = rows
 
 -- ── a mirror is its numbers and its rows ──
 abbrev pub mirror_of : Numbers → List Row → Mirror

@@ -1,7 +1,7 @@
 // An arrival at a mirror, on working rows: whether it is refused, what it does to the rows, and what the mirror's numbers are then; and what a mirror tells of itself.
 #![tactic(auto)]
 
-ghost use Rattle.std.specs.Prelude.{◌≡◌, true, false, List, ℕ, ◌+◌, ◌-◌, ◌≤◌, ◌<◌, max, length, take};
+ghost use Rattle.std.specs.Prelude.{◌≡◌, true, false, List, ℕ, ◌+◌, ◌-◌, ◌≤◌, ◌<◌, length, take};
 ghost use Rattle.model.specs.Limits.{most_rows, most_columns, row_record_bytes, value_width};
 ghost use Rattle.model.specs.Octets.{value};
 ghost use Rattle.model.specs.Schema.{Schema, columns_of};
@@ -15,7 +15,7 @@ ghost use Rattle.record.specs.Reading.{Sized as Long};
 ghost use Rattle.catalog.specs.Accepted.{Accepted};
 ghost use Rattle.arrival.specs.Steps.{head_of, canonical_record, sound_record, fits_record, bad_record, act_record, level_of, column_in, column_of, hears_of, applies_of, is_next, heard_of, Ready, Welcome, Left, Acted, Stepped};
 
-use model::{Atom, Atoms, Catalog, Entry, Found, ID, ROW_RECORD, ROWS, Row, Status, TABLES};
+use model::{Atom, Atoms, Catalog, Entry, ID, ROW_RECORD, ROWS, Row, Status, TABLES};
 use record::{Arrival, ID_AT};
 
 // A mirror's numbers: n, the highest heard, whether anything was heard, whether n is 0 or ends a commit.
@@ -57,6 +57,7 @@ fn head_with(run: u32, number: u32, ends: bool) -> Head
 }
 
 // What a record carries.
+#[tactic(auto, unfolding(crate::specs::Steps::head_of, record::specs::Reading::arrival_record))]
 fn head_of(arrival: Arrival) -> Head
     ensures { (bytes : List ℕ) → result ≡ head_of (arrival_record arrival bytes) }
 {
@@ -122,6 +123,7 @@ fn canonical_by(entry: &Entry, count: u8, atoms: &[Atom]) -> bool
 }
 
 // Whether the value of a record is in canonical form for its column.
+#[tactic(auto, unfolding(crate::specs::Steps::canonical_record, record::specs::Reading::canonical_in, record::specs::Reading::arrival_record, record::specs::Reading::Sized))]
 fn canonical(schema: &Catalog, arrival: Arrival, bytes: &[u8]) -> bool
     requires accepted { Accepted schema.now }
     requires long { Long arrival (length bytes.now) }
@@ -129,17 +131,13 @@ fn canonical(schema: &Catalog, arrival: Arrival, bytes: &[u8]) -> bool
     ensures { result ≡ canonical_record (packed_tables schema.now) (arrival_record arrival bytes.now) }
 {
     match arrival {
-        Arrival::Born(_) => true,
-        Arrival::Gone(_) => true,
         Arrival::Column(r) => {
             let t = leaf::wide(r.table);
             let c = leaf::wide(r.column);
             let atoms = record::atoms(bytes);
             canonical_by(catalog::column(schema, t, c), r.count, &atoms[..])
         }
-        Arrival::End(_) => true,
-        Arrival::Mark(_) => true,
-        Arrival::Bad => true,
+        _ => true,
     }
 }
 
@@ -149,35 +147,21 @@ fn sound(schema: &Catalog, arrival: Arrival, bytes: &[u8]) -> bool
     requires long { Long arrival (length bytes.now) }
     ensures { result ≡ sound_record (packed_tables schema.now) (arrival_record arrival bytes.now) }
 {
-    if !listed(schema, arrival, bytes) {
-        return false;
-    }
-    canonical(schema, arrival, bytes)
+    listed(schema, arrival, bytes) && canonical(schema, arrival, bytes)
 }
 
 // Whether a record's change fits the rows: one that is born has a new id and room, any other one its row.
+#[tactic(auto, unfolding(crate::specs::Steps::fits_record, record::specs::Reading::arrival_record, record::specs::Reading::Sized))]
 fn fits(rows: &[Row], count: usize, arrival: Arrival, bytes: &[u8]) -> bool
     requires ready { Ready count rows.now }
     requires long { Long arrival (length bytes.now) }
     ensures { (s : Schema) → result ≡ fits_record (working s count rows.now) (arrival_record arrival bytes.now) }
 {
     match arrival {
-        Arrival::Born(_) => {
-            let id = id_of(bytes);
-            let there = rows::has_id(rows, count, &id);
-            !there & (count < ROWS)
-        }
-        Arrival::Gone(r) => {
-            let id = id_of(bytes);
-            rows::has_row(rows, count, r.table, &id)
-        }
-        Arrival::Column(r) => {
-            let id = id_of(bytes);
-            rows::has_row(rows, count, r.table, &id)
-        }
-        Arrival::End(_) => true,
-        Arrival::Mark(_) => true,
-        Arrival::Bad => true,
+        Arrival::Born(_) => { !rows::has_id(rows, count, &id_of(bytes)) && count < ROWS }
+        Arrival::Gone(r) => rows::has_row(rows, count, r.table, &id_of(bytes)),
+        Arrival::Column(r) => rows::has_row(rows, count, r.table, &id_of(bytes)),
+        Arrival::End(_) | Arrival::Mark(_) | Arrival::Bad => true,
     }
 }
 
@@ -195,57 +179,40 @@ fn bad(schema: &Catalog, rows: &[Row], count: usize, n: u32, arrival: Arrival, b
     if head.marks {
         return false;
     }
-    let number = head.number;
-    if number == 0 {
-        return true;
-    }
-    if number - 1 != n {
-        return false;
-    }
-    !fits(rows, count, arrival, bytes)
-}
-
-// The larger of two numbers.
-fn larger(x: u32, y: u32) -> u32
-    ensures { result ≡ max x y }
-{
-    if x < y {
-        return y;
-    }
-    x
+    head.number == 0 || head.number - 1 == n && !fits(rows, count, arrival, bytes)
 }
 
 // A mirror's numbers once it has heard a number.
+#[tactic(auto, unfolding(crate::specs::Steps::hears_of))]
 fn hears(m: Numbers, number: u32) -> Numbers
     ensures { result ≡ hears_of m number }
 {
-    let top = larger(m.top, number);
     Numbers {
-        n: m.n,
-        top,
+        top: m.top.max(number),
         heard: true,
-        whole: m.whole,
+        ..m
     }
 }
 
 // A mirror's numbers once it has applied the record of a number.
+#[tactic(auto, unfolding(crate::specs::Steps::applies_of))]
 fn applies(m: Numbers, number: u32, ends: bool) -> Numbers
     ensures { result ≡ applies_of m number ends }
 {
-    let top = larger(m.top, number);
     Numbers {
         n: number,
-        top,
+        top: m.top.max(number),
         heard: true,
         whole: ends,
     }
 }
 
 // Whether a mirror is level.
+#[tactic(auto, unfolding(crate::specs::Steps::level_of))]
 pub fn level(m: Numbers) -> bool
     ensures { result ≡ level_of m }
 {
-    m.heard & (m.n == m.top) & m.whole
+    m.heard && m.n == m.top && m.whole
 }
 
 // A new row with the insert defaults.
@@ -267,8 +234,8 @@ fn gone(rows: &mut [Row], count: usize, table: u8, id: &[u8; ID])
 {
     let found = rows::find(rows, count, table, id);
     match found {
-        Found::At(i) => rows::remove_at(rows, count, i),
-        Found::Nothing => {}
+        Some(i) => rows::remove_at(rows, count, i),
+        None => {}
     }
 }
 
@@ -288,12 +255,13 @@ fn set(
 {
     let found = rows::find(rows, count, table, id);
     match found {
-        Found::At(i) => rows::set_column(&mut rows[i], c, elements, atoms),
-        Found::Nothing => {}
+        Some(i) => rows::set_column(&mut rows[i], c, elements, atoms),
+        None => {}
     }
 }
 
 // What a record does to the rows: how many there are then.
+#[tactic(auto, unfolding(crate::specs::Steps::act_record, record::specs::Reading::arrival_record, record::specs::Reading::Sized))]
 fn acts(schema: &Catalog, rows: &mut [Row], count: usize, arrival: Arrival, bytes: &[u8]) -> usize
     requires accepted { Accepted schema.now }
     requires ready { Ready count rows.old }
@@ -326,47 +294,35 @@ fn acts(schema: &Catalog, rows: &mut [Row], count: usize, arrival: Arrival, byte
             );
             count
         }
-        Arrival::End(_) => count,
-        Arrival::Mark(_) => count,
-        Arrival::Bad => count,
+        Arrival::End(_) | Arrival::Mark(_) | Arrival::Bad => count,
     }
 }
 
 // Whether a record is the one after those that a mirror has applied, of its run.
+#[tactic(auto, unfolding(crate::specs::Steps::is_next))]
 fn is_next(run: u32, m: Numbers, head: Head) -> bool
     ensures { result ≡ is_next run m head }
 {
-    (head.run == run) & (!head.marks & (head.number as usize == m.n as usize + 1))
+    head.run == run && !head.marks && head.number as usize == m.n as usize + 1
 }
 
 // What another record that is not refused for what it says leaves: rows stay as they are.
+#[tactic(auto, unfolding(crate::specs::Steps::heard_of))]
 fn heard(run: u32, m: Numbers, head: Head, count: usize) -> Outcome
     ensures { result ≡ heard_of run m head count }
 {
-    if head.run != run {
-        return Outcome {
-            status: Status::OtherRun,
-            numbers: m,
-            count,
-        };
-    }
-    if head.marks {
-        return Outcome {
-            status: Status::Heard,
-            numbers: hears(m, head.number),
-            count,
-        };
-    }
-    if head.number <= m.n {
-        return Outcome {
-            status: Status::Repeat,
-            numbers: m,
-            count,
-        };
-    }
+    let (status, numbers) = if head.run != run {
+        (Status::OtherRun, m)
+    } else if head.marks {
+        (Status::Heard, hears(m, head.number))
+    } else if head.number <= m.n {
+        (Status::Repeat, m)
+    } else {
+        (Status::Behind, hears(m, head.number))
+    };
     Outcome {
-        status: Status::Behind,
-        numbers: hears(m, head.number),
+        status,
+        numbers,
         count,
     }
 }
@@ -455,7 +411,7 @@ pub fn column(
     let cells = &schema[..];
     let found = rows::find(rows, count, table, id);
     match found {
-        Found::At(i) => put_column(schema, &rows[i], leaf::wide(c), out),
-        Found::Nothing => octets::clear(out),
+        Some(i) => put_column(schema, &rows[i], leaf::wide(c), out),
+        None => octets::clear(out),
     }
 }

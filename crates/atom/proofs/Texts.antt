@@ -1,22 +1,23 @@
 -- Texts, byte by byte: UTF-8 and the count of characters. Assumes nothing.
+use Rattle.std.specs.Prelude.{None}
 use mathlib.Core.Path.{◌≡◌, refl, sym, ap, ◌∙◌}
 use mathlib.Core.Bool.{Bool, true, false, not, ◌&&◌}
 use mathlib.Core.List.{List, [], ◌∷◌}
 use mathlib.Core.Logic.{inl, inr}
-use mathlib.Core.Option.{none}
 use Prim.Native.Nat.{ℕ, zero, suc, ◌+◌, ◌≤◌, ◌<◌}
 use native.Mathlib.Numerals.{add-one}
 use native.Mathlib.Omega.{arith}
 use lib.Dec.{eqb, ltb, leb}
 use lib.ListN.{length, drop, get_or, drop_of_length-le}
 use lib.Seq.{drop-cons}
-use borrow.Author.Tests.{ne_eqb, lt-ltb, le-ltb, ltb-true, ltb-false, eqb-true, eqb-false, not-true}
+use borrow.Author.Tests.{ne_eqb, lt-ltb, le-ltb, le-leb, lt-leb, ltb-true, ltb-false, eqb-false}
+use mir.Val.{bool_byte}
 use Rattle.model.specs.Strings.{Range, in_range, forms, rest_of}
 use Rattle.model.specs.Text.{begins, chars}
 use Rattle.model.specs.Value.{utf8_from}
-use Rattle.model.proofs.Tests.{split, and_l, and_r}
+use Rattle.model.proofs.Tests.{split}
 use Rattle.model.proofs.Utf8.{Lead, one, two, three_low, three, three_cut, three_high, four_low, four, four_high, lead_at, no_lead, rest_of_lem}
-use Rattle.atom.specs.Bytes.{due_ranges, more_after, fits_at, due_after, low_after, high_after, ones}
+use Rattle.atom.specs.Bytes.{due_ranges, more_after, fits_at, due_after, low_after, high_after}
 use Rattle.leaf.specs.Bytes.{second_low, second_high}
 
 -- what follows a byte that fits, and that nothing follows one that does not
@@ -81,7 +82,7 @@ module _ (low high b : ℕ) (bs : List ℕ) where
       let d = due_of l (eqb-false b 0 a) in
       rw (utf8_from, a, rest_of_lem l) (ap (λ (ys : List Range). utf8_from ys bs) d.3 ∙ sym (lead d.0 d.1 d.2))
 
-  stop_step : eqb b 0 ≡ false → rest_of b forms ≡ none → more_after b ≡ 4 → utf8_from [] (b ∷ bs) ≡ after 0 low high b bs
+  stop_step : eqb b 0 ≡ false → rest_of b forms ≡ None → more_after b ≡ 4 → utf8_from [] (b ∷ bs) ≡ after 0 low high b bs
   stop_step a r m = rw (utf8_from, a, r) (sym (stop m))
 
   first_step : utf8_from [] (b ∷ bs) ≡ after 0 low high b bs
@@ -133,31 +134,36 @@ module _ (t : List ℕ) (i k low high : ℕ) where
       last (suc k) = sym (ne_eqb (suc k) 0 (λ e. omega arith))
 
 -- a byte of ASCII where none is due
-plain_fits : (low high b : ℕ) → ltb b 128 ≡ true → eqb b 0 ≡ false → (fits_at 0 low high b ≡ true) × (due_after 0 b ≡ 0)
+plain_fits : (low high b : ℕ) → 1 ≤ b → b < 128 → (fits_at 0 low high b ≡ true) × (due_after 0 b ≡ 0)
 unfolding fits_at due_after more_after
-plain_fits low high b h n = (rw (fits_at, more_after, n, h), rw (due_after, more_after, n, h))
+plain_fits low high b n h =
+    let z : eqb b 0 ≡ false = ne_eqb b 0 (λ e. omega arith) in
+    (rw (fits_at, more_after, z, lt-ltb b 128 h), rw (due_after, more_after, z, lt-ltb b 128 h))
 
-pub utf8_plain : (t : List ℕ) (i k low high : ℕ) → i < length t → ((eqb k 0 && ltb (get_or t i 0) 128) && not (eqb (get_or t i 0) 0)) ≡ true
+pub utf8_plain : (t : List ℕ) (i k low high : ℕ) → i < length t → k ≡ 0 → 1 ≤ get_or t i 0 → get_or t i 0 < 128
     → utf8_from (due_ranges k low high) (drop i t) ≡ utf8_from (due_ranges k low high) (drop (i + 1) t)
-utf8_plain t i k low high h e =
+utf8_plain t i k low high h z n l =
     let b = get_or t i 0 in
-    let f = and_l (eqb k 0 && ltb b 128) (not (eqb b 0)) e in
-    let z : k ≡ 0 = eqb-true k 0 (and_l (eqb k 0) (ltb b 128) f) in
-    let p = plain_fits low high b (and_r (eqb k 0) (ltb b 128) f) (not-true _ (and_r (eqb k 0 && ltb b 128) (not (eqb b 0)) e)) in
+    let p = plain_fits low high b n l in
     ap (λ (n : ℕ). utf8_from (due_ranges n low high) (drop i t)) z
     ∙ utf8_on t i 0 low high h p.0
     ∙ ap (λ (n : ℕ). utf8_from (due_ranges n (low_after 0 b) (high_after 0 b)) (drop (i + 1) t)) p.1
     ∙ ap (λ (n : ℕ). utf8_from (due_ranges n low high) (drop (i + 1) t)) (sym z)
 
--- one byte more counted
-pub chars_on : (t : List ℕ) (i n : ℕ) → i < length t → n + chars (drop i t) ≡ (n + ones (get_or t i 0)) + chars (drop (i + 1) t)
-unfolding ones chars
-chars_on t i n h = rw (drop-cons t i 0 h, add-one i) (split (begins (get_or t i 0)) (λ e. rw (ones, chars, e) (omega arith)) (λ e. rw (ones, chars, e) (omega arith)))
+-- one byte more counted: one in 80 to BF begins no character
+pub chars_on : (t : List ℕ) (i n : ℕ) → i < length t
+    → n + chars (drop i t) ≡ (n + bool_byte (not (leb 128 (get_or t i 0) && ltb (get_or t i 0) 192))) + chars (drop (i + 1) t)
+unfolding chars begins
+chars_on t i n h =
+    let b = get_or t i 0 in
+    rw (drop-cons t i 0 h, add-one i) (split (ltb b 128)
+    (λ e. rw (chars, begins, e, lt-leb 128 b (ltb-true b 128 e)) (omega arith))
+    (λ e. rw (chars, begins, e, le-leb 128 b (ltb-false b 128 e)) (split (ltb b 192) (λ f. rw f (omega arith)) (λ f. rw f (omega arith)))))
 
 pub chars_end : (t : List ℕ) (i n : ℕ) → length t ≤ i → n + chars (drop i t) ≡ n
 unfolding chars
 chars_end t i n h = rw (drop_of_length-le t {i = i} h) (omega arith)
 
-pub ones_small : (b : ℕ) → ones b ≤ 1
-unfolding ones
-ones_small b = split (begins b) (λ e. rw (ones, e) (omega arith)) (λ e. rw (ones, e) (omega arith))
+pub byte_small : (b : Bool) → bool_byte b ≤ 1
+byte_small true = omega arith
+byte_small false = omega arith

@@ -1,15 +1,13 @@
 -- Base types by their numbers, and the order of integers as that of 64 bits. Assumes nothing.
 use mathlib.Core.Path.{◌≡◌, sym, ◌∙◌}
-use mathlib.Core.List.{List}
 use Prim.Native.Nat.{ℕ, ◌+◌, ◌-◌, ◌≤◌, ◌<◌}
 use native.Mathlib.Omega.{arith}
-use lib.Dec.{eqb, ltb}
+use lib.Dec.{ltb}
 use lib.Signed.{lt_z}
 use borrow.Author.Tests.{ne_eqb, lt-ltb, le-ltb, ltb-true, ltb-false}
-use Rattle.model.specs.Octets.{lt_bytes}
 use Rattle.model.specs.Schema.{integer, boolean, text, uuid}
 use Rattle.model.specs.Catalog.{base_numbered}
-use Rattle.model.specs.Value.{from_twos, less_atom}
+use Rattle.model.specs.Value.{from_twos}
 use Rattle.model.proofs.Tests.{split}
 use Rattle.leaf.specs.Bytes.{halves}
 
@@ -28,11 +26,6 @@ base_text k h = rw h
 pub base_uuid : (k : ℕ) → (k ≡ 0 → ⊥) → (k ≡ 1 → ⊥) → (k ≡ 2 → ⊥) → base_numbered k ≡ uuid
 unfolding base_numbered
 base_uuid k a b c = rw (base_numbered, ne_eqb k 0 a, ne_eqb k 1 b, ne_eqb k 2 c)
-
--- truth values and ids are in the order of their bytes
-pub by_bytes : (k : ℕ) (a b : List ℕ) → (k ≡ 0 → ⊥) → (k ≡ 2 → ⊥) → less_atom (base_numbered k) a b ≡ lt_bytes a b
-unfolding base_numbered
-by_bytes k a b h g = split (eqb k 1) (λ e. rw (base_numbered, ne_eqb k 0 h, e)) (λ e. rw (base_numbered, ne_eqb k 0 h, e, ne_eqb k 2 g))
 
 -- two tests of an order that go together
 ltb_same : (a b c d : ℕ) → (a < b → c < d) → (b ≤ a → d ≤ c) → ltb a b ≡ ltb c d

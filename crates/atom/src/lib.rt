@@ -7,8 +7,7 @@ ghost use Rattle.model.specs.Schema.{integer, boolean, text};
 ghost use Rattle.model.specs.Catalog.{base_numbered};
 ghost use Rattle.model.specs.Text.{chars};
 ghost use Rattle.model.specs.Value.{zeros, text_of, is_utf8, less_atom, well_atom, byte_atom};
-ghost use Rattle.atom.specs.Bytes.{more_after, fits_at, due_after, low_after, high_after, ones, Typed};
-ghost use Rattle.leaf.specs.Bytes.{halves, second_low, second_high};
+ghost use Rattle.atom.specs.Bytes.{more_after, fits_at, due_after, low_after, high_after, Typed};
 
 use model::{ATOM, Atom, ID, TEXT};
 
@@ -16,15 +15,7 @@ use model::{ATOM, Atom, ID, TEXT};
 pub fn same(a: &Atom, b: &Atom) -> bool
     ensures { result ≡ eq_bytes a.now b.now }
 {
-    let x = &a[..];
-    let y = &b[..];
-    let mut ok = true;
-    let mut k = 0;
-    while k < ATOM {
-        ok = ok & (x[k] == y[k]);
-        k += 1;
-    }
-    ok
+    a == b
 }
 
 // Whether an atom's bytes from `at` on are zero; and what its type says of it.
@@ -32,12 +23,10 @@ pub fn blank_from(a: &Atom, at: usize) -> bool
     ensures value { result ≡ zeros (drop at a.now) }
     ensures typed { Typed at a.now }
 {
-    let x = &a[..];
+    let rest = a.get(at..).unwrap_or(&[]);
     let mut ok = true;
-    let mut k = at;
-    while k < ATOM {
-        ok = ok & (x[k] == 0);
-        k += 1;
+    for b in rest {
+        ok &= *b == 0;
     }
     ok
 }
@@ -46,21 +35,14 @@ pub fn blank_from(a: &Atom, at: usize) -> bool
 pub fn text_size(a: &Atom) -> usize
     ensures { result ≡ length (text_of a.now) }
 {
-    let x = &a[..];
-    let n = leaf::wide(x[0]);
-    if TEXT < n {
-        return TEXT;
-    }
-    n
+    leaf::wide(a[0]).min(TEXT)
 }
 
 // The text of an atom.
 pub fn text_of<'a>(a: &'a Atom) -> &'a [u8]
     ensures { result.now ≡ text_of a.now }
 {
-    let n = text_size(a);
-    let t = &a[..];
-    &t[1..1 + n]
+    &a[1..1 + text_size(a)]
 }
 
 // The order of integers: of their bytes as 64 bits, the upper half of which is negative.
@@ -71,78 +53,70 @@ pub fn less_integers(a: &Atom, b: &Atom) -> bool
 }
 
 // Whether a is before b, of a base type by its number.
+#[tactic(auto, unfolding(model::specs::Catalog::base_numbered))]
 pub fn less(kind: u8, a: &Atom, b: &Atom) -> bool
     ensures { result ≡ less_atom (base_numbered kind) a.now b.now }
 {
-    if kind == 0 {
-        return less_integers(a, b);
+    match kind {
+        0 => less_integers(a, b),
+        2 => octets::less(text_of(a), text_of(b)),
+        _ => octets::less(a, b),
     }
-    if kind == 2 {
-        return octets::less(text_of(a), text_of(b));
-    }
-    octets::less(a, b)
 }
 
 // How many more bytes the character has that begins with b; 4 where none does.
+#[tactic(auto, unfolding(crate::specs::Bytes::more_after))]
 fn more(b: u8) -> u8
     ensures { result ≡ more_after b }
 {
-    if b == 0 {
-        return 4;
+    match b {
+        1..=127 => 0,
+        194..=223 => 1,
+        224..=239 => 2,
+        240..=244 => 3,
+        _ => 4,
     }
-    if b < 128 {
-        return 0;
-    }
-    if b < 194 {
-        return 4;
-    }
-    if b < 224 {
-        return 1;
-    }
-    if b < 240 {
-        return 2;
-    }
-    if b < 245 {
-        return 3;
-    }
-    4
 }
 
 // A byte of a text of which `due` more bytes of a character are due, the next of them from low to high: whether it fits, and what is due after it.
+#[tactic(auto, unfolding(crate::specs::Bytes::fits_at))]
 fn fits(due: u8, low: u8, high: u8, b: u8) -> bool
     ensures { result ≡ fits_at due low high b }
 {
     if due == 0 {
-        return more(b) != 4;
+        more(b) != 4
+    } else {
+        (low..=high).contains(&b)
     }
-    (low <= b) & (b <= high)
 }
 
+#[tactic(auto, unfolding(crate::specs::Bytes::due_after))]
 fn due_after(due: u8, b: u8) -> u8
     ensures { result ≡ due_after due b }
 {
-    if due == 0 {
-        return more(b);
-    }
-    due - 1
+    if due == 0 { more(b) } else { due - 1 }
 }
 
+#[tactic(auto, unfolding(crate::specs::Bytes::low_after))]
 fn low_after(due: u8, b: u8) -> u8
     ensures { result ≡ low_after due b }
 {
     if due == 0 {
-        return leaf::second_low(b as u16);
+        leaf::second_low(u16::from(b))
+    } else {
+        128
     }
-    128
 }
 
+#[tactic(auto, unfolding(crate::specs::Bytes::high_after))]
 fn high_after(due: u8, b: u8) -> u8
     ensures { result ≡ high_after due b }
 {
     if due == 0 {
-        return leaf::second_high(b as u16);
+        leaf::second_high(u16::from(b))
+    } else {
+        191
     }
-    191
 }
 
 // Whether a text is UTF-8 without 00. A byte of ASCII where none is due passes at once.
@@ -152,35 +126,18 @@ pub fn is_utf8(t: &[u8]) -> bool
     let mut due = 0;
     let mut low = 0;
     let mut high = 0;
-    let mut i = 0;
-    while i < t.len() {
-        let b = t[i];
-        if (due == 0) & (b < 128) & (b != 0) {
-            i += 1;
-        } else {
-            if !fits(due, low, high, b) {
-                return false;
-            }
-            low = low_after(due, b);
-            high = high_after(due, b);
-            due = due_after(due, b);
-            i += 1;
+    for b in t {
+        if due == 0 && (1..128).contains(b) {
+            continue;
         }
+        if !fits(due, low, high, *b) {
+            return false;
+        }
+        low = low_after(due, *b);
+        high = high_after(due, *b);
+        due = due_after(due, *b);
     }
     due == 0
-}
-
-// 1 where a byte begins a character.
-fn begun(b: u8) -> usize
-    ensures { result ≡ ones b }
-{
-    if b < 128 {
-        return 1;
-    }
-    if b < 192 {
-        return 0;
-    }
-    1
 }
 
 // The length of a text in characters.
@@ -188,10 +145,8 @@ pub fn count_chars(t: &[u8]) -> usize
     ensures { result ≡ chars t.now }
 {
     let mut n = 0;
-    let mut i = 0;
-    while i < t.len() {
-        n = n + begun(t[i]);
-        i += 1;
+    for b in t {
+        n += usize::from(!(128..192).contains(b));
     }
     n
 }
@@ -200,8 +155,7 @@ fn well_boolean(a: &Atom) -> bool
     ensures value { result ≡ well_atom boolean a.now }
     ensures a_value { result ≡ true → byte_atom a.now ≡ true }
 {
-    let z = blank_from(a, 1);
-    (a[0] < 2) & z
+    a[0] < 2 && blank_from(a, 1)
 }
 
 fn well_text(a: &Atom) -> bool
@@ -209,27 +163,19 @@ fn well_text(a: &Atom) -> bool
     ensures a_value { result ≡ true → byte_atom a.now ≡ true }
 {
     let n = leaf::wide(a[0]);
-    if TEXT < n {
-        return false;
-    }
-    let u = is_utf8(text_of(a));
-    let z = blank_from(a, 1 + n);
-    u & z
+    n <= TEXT && is_utf8(text_of(a)) && blank_from(a, 1 + n)
 }
 
 // Whether an atom is well formed for a base type by its number; such a one is bytes, as many as an atom has.
+#[tactic(auto, unfolding(model::specs::Catalog::base_numbered))]
 pub fn well_atom(kind: u8, a: &Atom) -> bool
     ensures value { result ≡ well_atom (base_numbered kind) a.now }
     ensures a_value { result ≡ true → byte_atom a.now ≡ true }
 {
-    if kind == 0 {
-        return blank_from(a, 8);
+    match kind {
+        0 => blank_from(a, 8),
+        1 => well_boolean(a),
+        2 => well_text(a),
+        _ => blank_from(a, ID),
     }
-    if kind == 1 {
-        return well_boolean(a);
-    }
-    if kind == 2 {
-        return well_text(a);
-    }
-    blank_from(a, ID)
 }

@@ -1,8 +1,8 @@
 -- A mirror in good order has rows only of the tables of its schema, with as many values as columns: a table or a column from 255 on tells nothing. Assumes nothing.
+use Rattle.std.specs.Prelude.{Option, Some, None}
 use mathlib.Core.Path.{◌≡◌, refl, sym, ◌∙◌, ap}
 use mathlib.Core.Bool.{Bool, true, false}
 use mathlib.Core.List.{List, [], ◌∷◌}
-use mathlib.Core.Option.{Option, none, some}
 use Prim.Native.Nat.{ℕ, zero, suc, ◌+◌, ◌*◌, ◌≤◌, ◌<◌, min}
 use native.Mathlib.Omega.{arith}
 use borrow.Author.Tests.{ltb-true, ltb-false, ne_eqb}
@@ -42,12 +42,12 @@ module _ (s : Schema) (t i : ℕ) (l : length s ≤ t) where
   has_beyond [] f = refl
   has_beyond (r ∷ rs) f = rw (key_beyond r f.0) (has_beyond rs f.1)
 
-  find_beyond : (rows : List Row) → AllFine s rows → find (key_of t i) rows ≡ none
+  find_beyond : (rows : List Row) → AllFine s rows → find (key_of t i) rows ≡ None
   find_beyond [] f = refl
   find_beyond (r ∷ rs) f = rw (key_beyond r f.0) (find_beyond rs f.1)
 
 -- ── a column that the table lacks ──
-nth_beyond : (vs : List Value) (c : ℕ) → length vs ≤ c → nth vs c ≡ none
+nth_beyond : (vs : List Value) (c : ℕ) → length vs ≤ c → nth vs c ≡ None
 nth_beyond [] c l = refl
 nth_beyond (v ∷ vs) zero l = absurd (omega (arith, l))
 nth_beyond (v ∷ vs) (suc c) l = nth_beyond vs c (omega (arith, l))
@@ -68,7 +68,7 @@ alike f a h t =
     (λ e. let q : t ≡ min t 255 = omega (arith, ltb-true t 255 e) in ap f q)
     (λ e. let q : 255 ≤ min t 255 = omega (arith, ltb-false t 255 e) in h t (omega (arith, ltb-false t 255 e)) ∙ sym (h (min t 255) q))
 
-module _ (a : List ℕ) (m : MirrorState) (e : mirror_of a ≡ some m) where
+module _ (a : List ℕ) (m : MirrorState) (e : mirror_of a ≡ Some m) where
   fine : AllFine m.database.tables m.mirror.rows
   fine = (mirror_parts m (mirror_of_is a m e).1).rows.fine
 
@@ -90,19 +90,19 @@ module _ (a : List ℕ) (m : MirrorState) (e : mirror_of a ≡ some m) where
 -- ── questions ──
 module _ {A : Type 0} (refuse : Status → A) where
   chosen : (Mirror → A) → Option MirrorState → A
-  chosen f o = elim o [ none ↦ refuse Disordered | some m ↦ f m.mirror ]
+  chosen f o = elim o [ None ↦ refuse Disordered | Some m ↦ f m.mirror ]
 
-  chosen_same : (a : List ℕ) (f g : Mirror → A) → ((m : MirrorState) → mirror_of a ≡ some m → f m.mirror ≡ g m.mirror) → (o : Option MirrorState) → mirror_of a ≡ o → chosen f o ≡ chosen g o
+  chosen_same : (a : List ℕ) (f g : Mirror → A) → ((m : MirrorState) → mirror_of a ≡ Some m → f m.mirror ≡ g m.mirror) → (o : Option MirrorState) → mirror_of a ≡ o → chosen f o ≡ chosen g o
   unfolding chosen
-  chosen_same a f g h none e = refl
-  chosen_same a f g h (some m) e = h m e
+  chosen_same a f g h None e = refl
+  chosen_same a f g h (Some m) e = h m e
 
   asked_is : (a : List ℕ) (f : Mirror → A) → asked a refuse f ≡ elim (eqb (length a) mirror_bytes) [ true ↦ chosen f (mirror_of a) | false ↦ refuse WrongLength ]
   unfolding chosen
   asked_is a f = refl
 
   -- two questions of which every mirror in good order tells the same
-  asked_same : (a : List ℕ) (f g : Mirror → A) → ((m : MirrorState) → mirror_of a ≡ some m → f m.mirror ≡ g m.mirror) → asked a refuse f ≡ asked a refuse g
+  asked_same : (a : List ℕ) (f g : Mirror → A) → ((m : MirrorState) → mirror_of a ≡ Some m → f m.mirror ≡ g m.mirror) → asked a refuse f ≡ asked a refuse g
   asked_same a f g h = asked_is a f ∙ ap (λ (x : A). elim (eqb (length a) mirror_bytes) [ true ↦ x | false ↦ refuse WrongLength ]) (chosen_same a f g h (mirror_of a) refl) ∙ sym (asked_is a g)
 
 pub row_small : (a : List ℕ) (t : ℕ) (id : List ℕ) → mirror_has_row a t id ≡ mirror_has_row a (min t 255) id

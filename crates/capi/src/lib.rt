@@ -38,20 +38,14 @@ fn number(a: Status) -> u32
 fn flag(b: bool) -> u8
     ensures { result ≡ bit b }
 {
-    if b {
-        return 1;
-    }
-    0
+    u8::from(b)
 }
 
 // A table or column by its number; those above 255 are in no schema, and neither is 255.
 fn small(x: u32) -> u8
     ensures { result ≡ min x 255 }
 {
-    if x < 255 {
-        return x as u8;
-    }
-    255
+    x.min(255) as u8
 }
 
 #[unsafe(no_mangle)]

@@ -1,8 +1,8 @@
 -- The tests of a table's entry, of the database's and of one that is not in use are that the entry keeps the rules and has no other bytes. Assumes nothing.
+use Rattle.std.specs.Prelude.{Option, Some, None}
 use mathlib.Core.Path.{◌≡◌, refl, sym, ap, ◌∙◌}
 use mathlib.Core.Bool.{true, false}
 use mathlib.Core.List.{List, [], ◌∷◌, ◌++◌, map, append_assoc, append-nil}
-use mathlib.Core.Option.{Option, none, some}
 use Prim.Native.Nat.{ℕ, zero, suc, ◌+◌, ◌-◌, ◌*◌, ◌≤◌}
 use native.Mathlib.Omega.{arith}
 use borrow.Author.Tests.{eq-eqb, eqb-true, leb-true, le-leb}
@@ -22,7 +22,7 @@ use Rattle.catalog.proofs.Columns.{both, same_bytes, bit_is, bit_few, one_more, 
 
 -- ── maxRows ──
 abbrev rows_of : ℕ → ℕ → Option ℕ
-rows_of limited most = elim (eqb limited 1) [ true ↦ some most | false ↦ none ]
+rows_of limited most = elim (eqb limited 1) [ true ↦ Some most | false ↦ None ]
 
 record Rows (limited most : ℕ) : Type 0 where
   flag : bit (is_some (rows_of limited most)) ≡ limited
@@ -259,8 +259,8 @@ module _ (e : List ℕ) (size : length e ≡ 48) where
         rw (nm, p.1.0, root, rows, le-leb k 2 kl, t.0, t.1, eq-eqb (get_or e 45 0) 0 (z 0), eq-eqb (get_or e 46 0) 0 (z 1), eq-eqb (get_or e 47 0) 0 (z 2))
       where
         rows_number : (m : Option ℕ) → max_rows_sane m ≡ true → big 8 (number_or0 m) ≡ part 28 8 e → number_or0 m ≡ value (part 28 8 e)
-        rows_number none h q = sym (ap value (sym q))
-        rows_number (some x) h q = sym (value_big_fits 8 x (omega (arith, leb-true x 9223372036854775807 (and_r (leb 1 x) _ h)))) ∙ ap value q
+        rows_number None h q = sym (ap value (sym q))
+        rows_number (Some x) h q = sym (value_big_fits 8 x (omega (arith, leb-true x 9223372036854775807 (and_r (leb 1 x) _ h)))) ∙ ap value q
 
     pub head_is : head_test e ≡ is_head e
     head_is = both (head_test e) (is_head e) head_to head_from

@@ -5,7 +5,6 @@ pub mod Writing
 pub mod Ids
 pub mod Twos
 pub mod Names
-pub mod Distinct
 pub mod Columns
 pub mod Heads
 pub mod Tables

@@ -1,36 +1,33 @@
 -- A name looked up in cells, one after another. Assumes nothing.
+use Rattle.std.specs.Prelude.{Option, Some, None}
 use mathlib.Core.Path.{◌≡◌, refl, sym, ap, ◌∙◌}
 use mathlib.Core.List.{List, [], ◌∷◌, map}
 use mathlib.Core.Bool.{true, false}
-use mathlib.Core.Option.{Option, none, some}
 use Prim.Native.Nat.{ℕ, suc, ◌+◌, ◌<◌, ◌≤◌}
 use native.Mathlib.Numerals.{add-one}
 use native.Mathlib.Omega.{arith}
 use lib.ListN.{length, get_or, drop, drop_of_length-le}
 use lib.Seq.{drop-cons}
-use Rattle.model.specs.declared.Found.{Found}
-use Rattle.model.specs.declared.Found.TheVariants.{At, Nothing}
 use Rattle.model.specs.Octets.{eq_bytes}
 use Rattle.model.specs.Base.{member, place_of}
 use Rattle.model.specs.Schema.{Column}
 use Rattle.model.specs.Catalog.{entry_name, column_from}
 use Rattle.model.proofs.Tests.{split}
-use Rattle.catalog.specs.Entries.{found_at, is_found, entry_named}
+use Rattle.catalog.specs.Entries.{is_found, entry_named}
 
 -- a place found from i on
-abbrev pub found_from : ℕ → Option ℕ → Found
-found_from i none = Nothing
-found_from i (some k) = At (i + k)
+abbrev pub found_from : ℕ → Option ℕ → Option ℕ
+found_from i None = None
+found_from i (Some k) = Some (i + k)
 
 -- one place more is passed
-past : (i : ℕ) (o : Option ℕ) → found_from i (elim o [ none ↦ none | some k ↦ some (suc k) ]) ≡ found_from (i + 1) o
-past i none = refl
-past i (some k) = ap At (omega arith)
+past : (i : ℕ) (o : Option ℕ) → found_from i (elim o [ None ↦ None | Some k ↦ Some (suc k) ]) ≡ found_from (i + 1) o
+past i None = refl
+past i (Some k) = ap Some (omega arith)
 
-from_start : (o : Option ℕ) → found_at o ≡ found_from 0 o
-unfolding found_at
-from_start none = refl
-from_start (some k) = ap At (omega arith)
+from_start : (o : Option ℕ) → o ≡ found_from 0 o
+from_start None = refl
+from_start (Some k) = ap Some (omega arith)
 
 module _ (cells : List (List ℕ)) (w : List ℕ) where
   abbrev pub left : ℕ → Option ℕ
@@ -40,29 +37,29 @@ module _ (cells : List (List ℕ)) (w : List ℕ) where
   unfolding entry_named
   named_start = from_start (place_of w (map entry_name cells))
 
-  pub named_end : (i : ℕ) → length cells ≤ i → found_from i (left i) ≡ Nothing
+  pub named_end : (i : ℕ) → length cells ≤ i → found_from i (left i) ≡ None
   named_end i h = rw (drop_of_length-le cells h)
 
   module _ (i : ℕ) (h : i < length cells) where
     next : drop i cells ≡ get_or cells i [] ∷ drop (i + 1) cells
     next = drop-cons cells i [] h ∙ ap (λ (k : ℕ). get_or cells i [] ∷ drop k cells) (sym (add-one i))
 
-    pub named_here : eq_bytes w (entry_name (get_or cells i [])) ≡ true → found_from i (left i) ≡ At i
-    named_here e = rw (next, place_of, e) (ap At (omega arith))
+    pub named_here : eq_bytes w (entry_name (get_or cells i [])) ≡ true → found_from i (left i) ≡ Some i
+    named_here e = rw (next, place_of, e) (ap Some (omega arith))
 
     pub named_next : eq_bytes w (entry_name (get_or cells i [])) ≡ false → found_from i (left i) ≡ found_from (i + 1) (left (i + 1))
     named_next e = rw (next, place_of, e) (past i (left (i + 1)))
 
 -- a place is found exactly of what is there
-pub found_member : (w : List ℕ) (ws : List (List ℕ)) → is_found (found_at (place_of w ws)) ≡ member w ws
-unfolding is_found found_at
+pub found_member : (w : List ℕ) (ws : List (List ℕ)) → is_found ((place_of w ws)) ≡ member w ws
+unfolding is_found
 found_member w [] = refl
 found_member w (x ∷ ws) =
     split (eq_bytes w x) (λ e. rw (place_of, e)) (λ e. rw (place_of, e) (later (place_of w ws) ∙ found_member w ws))
   where
-    later : (o : Option ℕ) → is_found (found_at (elim o [ none ↦ none | some k ↦ some (suc k) ])) ≡ is_found (found_at o)
-    later none = refl
-    later (some k) = refl
+    later : (o : Option ℕ) → is_found ((elim o [ None ↦ None | Some k ↦ Some (suc k) ])) ≡ is_found (o)
+    later None = refl
+    later (Some k) = refl
 
 -- the names in entries are those of the columns that they say
 pub cells_names : (l : List (List ℕ)) → map entry_name l ≡ map (λ (c : Column). c.name) (map column_from l)

@@ -10,11 +10,6 @@ use Rattle.model.specs.Schema.{Column}
 use Rattle.model.specs.Catalog.{column_from}
 use Rattle.inner.specs.Working.{minimums}
 
-pub take_short : {A : Type 0} (n : ℕ) (l : List A) → length (take n l) ≤ n
-take_short zero l = omega arith
-take_short (suc n) [] = omega arith
-take_short (suc n) (a ∷ l) = omega (arith, take_short n l)
-
 abbrev pub mins_of : List (List ℕ) → List ℕ
 mins_of cells = map (λ (x : Column). x.min) (map column_from cells)
 

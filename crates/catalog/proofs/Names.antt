@@ -1,6 +1,6 @@
 -- The name in an entry, as the code reads it, and against the bytes that it was made of. Assumes nothing.
 use mathlib.Core.Path.{◌≡◌, refl, sym, ap, ◌∙◌}
-use mathlib.Core.Bool.{Bool, true, false, ◌&&◌}
+use mathlib.Core.Bool.{true, false, ◌&&◌}
 use mathlib.Core.List.{List, [], ◌∷◌, ◌++◌}
 use Prim.Native.Nat.{ℕ, suc, ◌+◌, ◌-◌, ◌≤◌, ◌<◌}
 use native.Mathlib.Omega.{arith}
@@ -33,13 +33,13 @@ module _ (e : List ℕ) (size : length e ≡ 48) where
   unfolding name_fine
   name_long h = rw (id_long (entry_name e) (omega (arith, length-take (get_or e 0 0) (drop 1 e), length-drop 1 e)))
 
-  pub name_code : (n : ℕ) → n ≡ get_or e 0 0 → (id clear : Bool) → id ≡ is_id (take (1 + n - 1) (drop 1 e)) → clear ≡ all is_zero (take (25 - (1 + n)) (drop (1 + n) e)) → (id && clear) ≡ name_fine e
+  pub name_code : (n : ℕ) → n ≡ get_or e 0 0 → name_fine e ≡ (is_id (take (1 + n - 1) (drop 1 e)) && all is_zero (take (25 - (1 + n)) (drop (1 + n) e)))
   unfolding name_fine
-  name_code n q id clear f g =
+  name_code n q =
       let a : 1 + n - 1 ≡ get_or e 0 0 = omega arith in
       let b : 25 - (1 + n) ≡ 24 - get_or e 0 0 = omega arith in
       let d : 1 + n ≡ 1 + get_or e 0 0 = omega arith in
-      rw (f, g, a, b, d)
+      rw (a, b, d)
 
   -- an id is short
   pub name_short : is_id (entry_name e) ≡ true → get_or e 0 0 ≤ 24

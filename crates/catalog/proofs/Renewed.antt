@@ -1,9 +1,8 @@
 -- Entries made anew from what they say. Assumes nothing.
-use mathlib.Core.Path.{◌≡◌, refl, sym, ap, ◌∙◌}
+use mathlib.Core.Path.{◌≡◌, sym, ap, ◌∙◌}
 use mathlib.Core.List.{List, [], ◌∷◌, ◌++◌, append_assoc, append-nil}
-use Prim.Native.Nat.{ℕ, zero, suc, ◌+◌, ◌-◌, ◌≤◌, ◌<◌}
+use Prim.Native.Nat.{ℕ, zero, suc, ◌+◌, ◌-◌, ◌≤◌}
 use native.Mathlib.Omega.{arith}
-use borrow.Author.Tests.{ne_eqb}
 use lib.Dec.{eqb}
 use borrow.Rule.Slice.PartMut.{mid_of, put_mid}
 use lib.ListN.{length, get_or, set, drop, replicate, length-append, length-take}
@@ -47,40 +46,9 @@ module _ (e : List ℕ) (size : length e ≡ 48) (short : get_or e 0 0 ≤ 24) w
       λ j. sym n j ∷ (append-nil ys ∙ r) j
 
 -- ── what follows a column's name ──
-pub base_low : (k : ℕ) → k ≤ 3 → k ≡ base_number (base_numbered k)
-unfolding base_numbered base_number
-base_low zero h = refl
-base_low (suc zero) h = refl
-base_low (suc (suc zero)) h = refl
-base_low (suc (suc (suc zero))) h = refl
-base_low (suc (suc (suc (suc k)))) h = absurd (omega arith)
-
-pub base_high : (k : ℕ) → 3 < k → 3 ≡ base_number (base_numbered k)
-unfolding base_numbered base_number
-base_high k h = rw (base_numbered, ne_eqb k 0 (λ e. omega arith), ne_eqb k 1 (λ e. omega arith), ne_eqb k 2 (λ e. omega arith))
-
-pub how_low : (how t : ℕ) → how ≤ 2 → how ≡ how_refers (refers_from how t)
-unfolding refers_from
-how_low zero t h = refl
-how_low (suc zero) t h = refl
-how_low (suc (suc zero)) t h = refl
-how_low (suc (suc (suc k))) t h = absurd (omega arith)
-
-pub how_high : (how t : ℕ) → 2 < how → 2 ≡ how_refers (refers_from how t)
-unfolding refers_from
-how_high how t h = rw (refers_from, ne_eqb how 0 (λ e. omega arith), ne_eqb how 1 (λ e. omega arith))
-
 how_any : (how s t : ℕ) → how_refers (refers_from how s) ≡ how_refers (refers_from how t)
 unfolding refers_from
 how_any how s t = split (eqb how 0) (λ a. rw (refers_from, a)) (λ a. split (eqb how 1) (λ b. rw (refers_from, a, b)) (λ b. rw (refers_from, a, b)))
-
-pub target_none : (how t : ℕ) → how ≡ 0 → 0 ≡ target (refers_from how t)
-unfolding refers_from
-target_none how t h = rw h
-
-pub target_some : (how t : ℕ) → (how ≡ 0 → ⊥) → t ≡ target (refers_from how t)
-unfolding refers_from
-target_some how t h = split (eqb how 1) (λ b. rw (refers_from, ne_eqb how 0 h, b)) (λ b. rw (refers_from, ne_eqb how 0 h, b))
 
 -- what follows the name, and the last byte
 rest_is : (e : List ℕ) → rest_bytes e ++ (0 ∷ []) ≡

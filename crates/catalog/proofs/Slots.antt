@@ -1,9 +1,9 @@
 -- A table's entry written anew: its head, and each index in its slot. Assumes nothing.
+use Rattle.std.specs.Prelude.{Some, None}
 use mathlib.Core.Path.{◌≡◌, refl, sym, ap, ◌∙◌}
 use mathlib.Core.Bool.{Bool, true, false}
 use mathlib.Core.List.{List, [], ◌∷◌, ◌++◌, map, append_assoc, append-nil}
-use mathlib.Core.Option.{none, some}
-use Prim.Native.Nat.{ℕ, zero, suc, ◌+◌, ◌-◌, ◌*◌, ◌≤◌, ◌<◌}
+use Prim.Native.Nat.{ℕ, zero, suc, ◌+◌, ◌-◌, ◌*◌, ◌≤◌}
 use native.Mathlib.Omega.{arith}
 use borrow.Author.Tests.{leb-true, lt-ltb}
 use lib.Dec.{leb, ltb}
@@ -12,7 +12,7 @@ use lib.Seq.{sets, sets-eq, take_at}
 use Rattle.model.specs.Octets.{big, value, part}
 use Rattle.model.specs.Base.{all, is_some, flat}
 use Rattle.model.specs.Catalog.{entry_name, name_bytes, bit, is_set, number_or0, index_bytes, index_from, indexes_from, max_rows_from}
-use Rattle.model.proofs.Tests.{and_l, and_r, clash}
+use Rattle.model.proofs.Tests.{and_l, and_r}
 use Rattle.model.proofs.Catalogs.{name_length, drop_past}
 use Rattle.catalog.specs.Writing.{head_bytes}
 use Rattle.catalog.specs.Slots.{kept_where, slot_bytes}
@@ -89,36 +89,10 @@ slots_are e (suc (suc (suc k))) =
     rw (lt-ltb 0 (suc (suc (suc k))) (omega arith), lt-ltb 1 (suc (suc (suc k))) (omega arith))
     (append-nil (index_bytes (index_from e 37) ++ (index_bytes (index_from e 41) ++ [])) ∙ ap (λ (l : List ℕ). index_bytes (index_from e 37) ++ l) (append-nil (index_bytes (index_from e 41))))
 
--- how many there are
-pub count_less : (e : List ℕ) (k : ℕ) → k < 2 → k ≡ length (take k (index_from e 37 ∷ index_from e 41 ∷ []))
-count_less e zero h = refl
-count_less e (suc zero) h = refl
-count_less e (suc (suc k)) h = absurd (omega arith)
-
-pub count_more : (e : List ℕ) (k : ℕ) → 2 ≤ k → 2 ≡ length (take k (index_from e 37 ∷ index_from e 41 ∷ []))
-count_more e zero h = absurd (omega arith)
-count_more e (suc zero) h = absurd (omega arith)
-count_more e (suc (suc zero)) h = refl
-count_more e (suc (suc (suc k))) h = refl
-
 -- ── the whole ──
-flag_is : (b : Bool) (v : ℕ) → bit b ≡ bit (is_some {A = ℕ} (elim b [ true ↦ some v | false ↦ none ]))
+flag_is : (b : Bool) (v : ℕ) → bit b ≡ bit (is_some {A = ℕ} (elim b [ true ↦ Some v | false ↦ None ]))
 flag_is true v = refl
 flag_is false v = refl
-
-number_set : (b : Bool) (v : ℕ) → b ≡ true → v ≡ number_or0 (elim b [ true ↦ some v | false ↦ none ])
-number_set true v h = refl
-number_set false v h = absurd (clash false h refl)
-
-number_none : (b : Bool) (v : ℕ) → b ≡ false → 0 ≡ number_or0 (elim b [ true ↦ some v | false ↦ none ])
-number_none true v h = absurd (clash true refl h)
-number_none false v h = refl
-
-pub most_set : (e : List ℕ) → is_set e 27 ≡ true → value (part 28 8 e) ≡ number_or0 (max_rows_from e)
-most_set e h = number_set (is_set e 27) (value (part 28 8 e)) h
-
-pub most_none : (e : List ℕ) → is_set e 27 ≡ false → 0 ≡ number_or0 (max_rows_from e)
-most_none e h = number_none (is_set e 27) (value (part 28 8 e)) h
 
 module _ (e : List ℕ) (short : get_or e 0 0 ≤ 24) where
   abbrev head_of : List ℕ

@@ -1,6 +1,6 @@
 -- The tests of the tables, as the code makes them. Assumes nothing.
 use mathlib.Core.Path.{◌≡◌}
-use mathlib.Core.Bool.{Bool, true, false, ◌&&◌}
+use mathlib.Core.Bool.{true, false, ◌&&◌}
 use mathlib.Core.List.{List, [], map}
 use Prim.Native.Nat.{ℕ, suc, ◌+◌, ◌-◌, ◌*◌, ◌≤◌, ◌<◌}
 use native.Mathlib.Omega.{arith}
@@ -20,14 +20,13 @@ pub few_database : (e : List ℕ) → is_database e ≡ true → get_or e 25 0 �
 unfolding is_database
 few_database e h = leb-true (get_or e 25 0) 4 (parts (database_tests e) h).1.0
 
-pub table_code : (n : ℕ) (cells : List (List ℕ)) (t k : ℕ) {fine apart blank : Bool} {cols : List (List ℕ)}
-    → is_head (get_or cells (1 + t) []) ≡ true → k ≡ column_count cells t → cols ≡ columns_at cells t → fine ≡ all (is_column n) cols → apart ≡ distinct (map entry_name cols)
-    → blank ≡ all is_blank (take (5 + 6 * t + 6 - (5 + 6 * t + k)) (drop (5 + 6 * t + k) cells)) → (fine && (apart && blank)) ≡ is_table n cells t
+pub table_code : (n : ℕ) (cells : List (List ℕ)) (t k : ℕ) {cols : List (List ℕ)} → is_head (get_or cells (1 + t) []) ≡ true → k ≡ column_count cells t → cols ≡ columns_at cells t
+    → is_table n cells t ≡ (all (is_column n) cols && (distinct (map entry_name cols) && all is_blank (take (5 + 6 * t + 6 - (5 + 6 * t + k)) (drop (5 + 6 * t + k) cells))))
 unfolding is_table
-table_code n cells t k h e c f d b =
+table_code n cells t k h e c =
     let q : 5 + 6 * t + 6 - (5 + 6 * t + k) ≡ 6 - column_count cells t = omega arith in
     let r : 5 + 6 * t + k ≡ column_place t (column_count cells t) = omega arith in
-    rw (h, f, d, b, c, q, r)
+    rw (h, c, q, r)
 
 pub table_not : (n : ℕ) (cells : List (List ℕ)) (t : ℕ) → is_head (get_or cells (1 + t) []) ≡ false → is_table n cells t ≡ false
 unfolding is_table

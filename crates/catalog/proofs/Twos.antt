@@ -5,6 +5,7 @@ use Prim.Native.Nat.{ℕ, ◌+◌, ◌-◌, ◌^◌, ◌≤◌, ◌<◌}
 use native.Mathlib.Omega.{arith}
 use lib.Dec.{ltb, leb}
 use lib.Signed.{lt_z, le_z}
+use Rattle.std.proofs.lemmas.Bool.Decides.{nat_tests}
 use borrow.Author.Tests.{lt-ltb, le-ltb, ltb-true, ltb-false, leb-true}
 use Rattle.model.specs.Octets.{twos}
 use Rattle.model.specs.SchemaText.{least, greatest}
@@ -29,8 +30,10 @@ halves_less x y h g = split (ltb x 9223372036854775808)
     let b = ltb-false y 9223372036854775808 f in
     rw (halves, e, f) (ltb_same (x - 9223372036854775808) (y - 9223372036854775808) (18446744073709551615 - y) (18446744073709551615 - x) (λ p. omega arith) (λ p. omega arith))))
 
-pub at_most_is : (x y : ℕ) → x < 18446744073709551616 → y < 18446744073709551616 → not (ltb (halves y) (halves x)) ≡ le_z (from_twos x) (from_twos y)
-at_most_is x y h g = ap not (halves_less y x g h) ∙ sym (le_z_is (from_twos x) (from_twos y))
+pub at_most_is : (x y : ℕ) → x < 18446744073709551616 → y < 18446744073709551616 → leb (halves x) (halves y) ≡ le_z (from_twos x) (from_twos y)
+at_most_is x y h g =
+    let e : leb (halves x) (halves y) ≡ not (ltb (halves y) (halves x)) = grind (arith, nat_tests) in
+    e ∙ ap not (halves_less y x g h) ∙ sym (le_z_is (from_twos x) (from_twos y))
 
 -- 64 bits as an integer and back
 pub twos_back : (z : ℕ) → z < 256 ^ 8 → twos 64 (from_twos z) ≡ z

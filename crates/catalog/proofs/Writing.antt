@@ -1,20 +1,8 @@
 -- Bytes written one after another. Assumes nothing.
-use mathlib.Core.Path.{◌≡◌, refl, ap}
-use mathlib.Core.List.{List, [], ◌∷◌, ◌++◌}
-use Prim.Native.Nat.{ℕ, ◌≤◌}
-use native.Mathlib.Omega.{arith}
-use lib.ListN.{length, get_or, set, drop}
-use lib.Seq.{sets}
-
--- six bytes at the front
-pub six : (l : List ℕ) (a b c d e f : ℕ) → 6 ≤ length l → set (set (set (set (set (set l 0 a) 1 b) 2 c) 3 d) 4 e) 5 f ≡ (a ∷ b ∷ c ∷ d ∷ e ∷ f ∷ []) ++ drop 6 l
-six (u ∷ v ∷ w ∷ x ∷ y ∷ z ∷ l) a b c d e f h = refl
-six [] a b c d e f h = absurd (omega arith)
-six (u ∷ []) a b c d e f h = absurd (omega arith)
-six (u ∷ v ∷ []) a b c d e f h = absurd (omega arith)
-six (u ∷ v ∷ w ∷ []) a b c d e f h = absurd (omega arith)
-six (u ∷ v ∷ w ∷ x ∷ []) a b c d e f h = absurd (omega arith)
-six (u ∷ v ∷ w ∷ x ∷ y ∷ []) a b c d e f h = absurd (omega arith)
+use Rattle.std.proofs.Common.{◌≡◌, ℕ, ◌+◌, List, [], ◌∷◌, ◌++◌, length, take, drop, sym, ◌∙◌, arith, append_assoc, length-append, drop-drop}
+use Rattle.std.proofs.lemmas.Slice.{take-put_mid, drop-put_mid}
+use Rattle.std.proofs.lemmas.List.Edits.{sets, sets-eq}
+use borrow.Rule.Slice.PartMut.{put_mid}
 
 -- an array of four
 pub data Four : List ℕ → Type 0 where
@@ -28,15 +16,12 @@ is_four (a ∷ b ∷ c ∷ []) h = absurd (omega arith)
 is_four (a ∷ b ∷ c ∷ d ∷ []) h = four a b c d
 is_four (a ∷ b ∷ c ∷ d ∷ e ∷ l) h = absurd (omega arith)
 
--- nine bytes stored one by one
-each : List ℕ → List ℕ → List ℕ
-each a b = get_or a 0 0 ∷ get_or a 1 0 ∷ get_or a 2 0 ∷ get_or a 3 0 ∷ get_or b 0 0 ∷ get_or b 1 0 ∷ get_or b 2 0 ∷ get_or b 3 0 ∷ []
-
-each_is : {a b : List ℕ} → Four a → Four b → each a b ≡ a ++ b
-unfolding each
-each_is (four x y z w) (four p q r s) = refl
-
-pub stored : (cell : List ℕ) (n : ℕ) (a b : List ℕ) → length a ≡ 4 → length b ≡ 4 →
-    sets cell 36 (n ∷ get_or a 0 0 ∷ get_or a 1 0 ∷ get_or a 2 0 ∷ get_or a 3 0 ∷ get_or b 0 0 ∷ get_or b 1 0 ∷ get_or b 2 0 ∷ get_or b 3 0 ∷ []) ≡ sets cell 36 (n ∷ (a ++ b))
-unfolding each
-stored cell n a b ha hb = ap (λ (l : List ℕ). sets cell 36 (n ∷ l)) (each_is (is_four a ha) (is_four b hb))
+-- two pieces of four bytes, one after the other
+pub stored : (l a b : List ℕ) → length l ≡ 48 → length a ≡ 4 → length b ≡ 4 → put_mid 41 4 (put_mid 37 4 l a) b ≡ sets l 37 (a ++ b)
+stored l a b hl ha hb =
+    let x = put_mid 37 4 l a in
+    let front : take 41 x ≡ take 37 l ++ a = take-put_mid 37 4 l a 41 (omega arith) (omega arith) in
+    let back : drop 45 x ≡ drop 45 l = drop-put_mid 37 4 l a 45 (omega arith) (omega arith) ha in
+    let n : 37 + length (a ++ b) ≡ 45 = omega (arith, length-append a b) in
+    let whole : sets l 37 (a ++ b) ≡ (take 37 l ++ a) ++ (b ++ drop 45 l) = rw (sets-eq (a ++ b) l 37 (omega arith), n) (simp append_assoc) in
+    (λ j. front j ++ (b ++ (drop-drop 4 41 x ∙ back) j)) ∙ sym whole

@@ -1,8 +1,5 @@
 -- The entries of a catalog, by table and by name. Assumes nothing: these are definitions.
-use Rattle.std.specs.Prelude.{ℕ, ◌+◌, ◌*◌, Bool, true, false, List, map, take, drop}
-use Rattle.std.proofs.Math.Option.{Option, none, some}
-use Rattle.model.specs.declared.Found.{Found}
-use Rattle.model.specs.declared.Found.TheVariants.{At, Nothing}
+use Rattle.std.specs.Prelude.{ℕ, ◌+◌, ◌*◌, Bool, true, false, List, map, take, drop, Option, Some, None}
 use Rattle.model.specs.Base.{place_of}
 use Rattle.model.specs.Limits.{most_tables, most_columns}
 use Rattle.model.specs.Catalog.{column_count, entry_name}
@@ -11,14 +8,10 @@ use Rattle.model.specs.Catalog.{column_count, entry_name}
 abbrev pub columns_at : List (List ℕ) → ℕ → List (List ℕ)
 columns_at catalog t = take (column_count catalog t) (drop (1 + most_tables + most_columns * t) catalog)
 
-unfoldable pub found_at : Option ℕ → Found
-found_at none = Nothing
-found_at (some k) = At k
-
-unfoldable pub is_found : Found → Bool
-is_found (At k) = true
-is_found Nothing = false
+unfoldable pub is_found : Option ℕ → Bool
+is_found (Some k) = true
+is_found None = false
 
 -- the place of a name among the names of entries
-unfoldable pub entry_named : List (List ℕ) → List ℕ → Found
-entry_named entries w = found_at (place_of w (map entry_name entries))
+unfoldable pub entry_named : List (List ℕ) → List ℕ → Option ℕ
+entry_named entries w = place_of w (map entry_name entries)

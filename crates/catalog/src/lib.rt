@@ -17,7 +17,7 @@ ghost use Rattle.inner.specs.Working.{minimums};
 ghost use Rattle.catalog.specs.Entries.{columns_at, is_found, entry_named};
 ghost use Rattle.catalog.specs.Writing.{column_end, limit_bytes, column_bytes, head_bytes};
 
-use model::{ATOM, Atom, COLUMNS, Catalog, ENTRY, Entry, Found, INDEX_COLUMNS, TABLES, Whole};
+use model::{ATOM, Atom, COLUMNS, Catalog, ENTRY, Entry, INDEX_COLUMNS, TABLES, Whole};
 
 // Where the parts of a column's entry lie, behind the name.
 const KIND: usize = ATOM;
@@ -65,8 +65,7 @@ fn number_at(entry: &Entry, at: usize) -> u64
     requires { at + 8 ≤ entry_bytes }
     ensures { result ≡ value (part at 8 entry.now) }
 {
-    let b = &entry[..];
-    octets::number(&b[at..at + 8], 8)
+    octets::number(&entry[at..at + 8], 8)
 }
 
 // The base type of a column, by its number: 0 integer, 1 boolean, 2 string, 3 uuid.
@@ -107,7 +106,7 @@ pub fn maximum(entry: &Entry) -> u8
 pub fn is_scalar(entry: &Entry) -> bool
     ensures { result ≡ scalar (column_from entry.now) }
 {
-    (entry[MIN] == 1) & (entry[MAX] == 1)
+    entry[MIN] == 1 && entry[MAX] == 1
 }
 
 // Whether a column may be changed.
@@ -175,36 +174,29 @@ pub fn table_count(entry: &Entry) -> u8
 pub fn name_of<'a>(entry: &'a Entry) -> &'a [u8]
     ensures { result.now ≡ entry_name entry.now }
 {
-    let t = &entry[..];
-    let n = leaf::wide(t[0]);
-    if ENTRY - 1 < n {
-        return &t[1..ENTRY];
-    }
-    &t[1..1 + n]
+    let n = leaf::wide(entry[0]).min(ENTRY - 1);
+    &entry[1..1 + n]
 }
 
 // The place of a name among the names of entries.
-pub fn named(entries: &[Entry], name: &[u8]) -> Found
+pub fn named(entries: &[Entry], name: &[u8]) -> Option<usize>
     ensures { result ≡ entry_named entries.now name.now }
 {
-    let mut i = 0;
-    while i < entries.len() {
-        let same = octets::equal(name, name_of(&entries[i]));
-        if same {
-            return Found::At(i);
+    for (i, entry) in entries.iter().enumerate() {
+        if octets::equal(name, name_of(entry)) {
+            return Some(i);
         }
-        i += 1;
     }
-    Found::Nothing
+    None
 }
 
 // Whether a place was found.
-pub fn is_found(f: Found) -> bool
+pub fn is_found(f: Option<usize>) -> bool
     ensures { result ≡ is_found f }
 {
     match f {
-        Found::At(_) => true,
-        Found::Nothing => false,
+        Some(_) => true,
+        None => false,
     }
 }
 
@@ -213,10 +205,9 @@ pub fn columns_of<'s>(catalog: &'s Catalog, t: usize) -> &'s [Entry]
     requires { (t < most_tables) × (column_count catalog.now t ≤ most_columns) }
     ensures { (result.now ≡ columns_at catalog.now t) × (length result.now ≤ most_columns) }
 {
-    let entries = &catalog[..];
     let k = leaf::wide(catalog[1 + t][WIDTH]);
-    let first = 1 + TABLES + COLUMNS * t;
-    &entries[first..first + k]
+    let first = FIRST_COLUMN + COLUMNS * t;
+    &catalog[first..first + k]
 }
 
 // The minimums of columns.
@@ -225,10 +216,8 @@ pub fn minimums_of(columns: &[Entry]) -> [u8; COLUMNS]
     ensures { result ≡ minimums (map column_from columns.now) }
 {
     let mut mins = [0u8; COLUMNS];
-    let mut c = 0;
-    while c < columns.len() {
-        mins[c] = columns[c][MIN];
-        c += 1;
+    for (c, column) in columns.iter().enumerate() {
+        mins[c] = column[MIN];
     }
     mins
 }
@@ -249,12 +238,7 @@ fn put_six(out: &mut [u8], base: u8, how: u8, target: u8, min: u8, max: u8, muta
     requires { 6 ≤ length out.old }
     ensures { out.new ≡ (base ∷ how ∷ target ∷ min ∷ max ∷ mutable ∷ []) ++ drop 6 out.old }
 {
-    out[0] = base;
-    out[1] = how;
-    out[2] = target;
-    out[3] = min;
-    out[4] = max;
-    out[5] = mutable;
+    out[..6].copy_from_slice(&[base, how, target, min, max, mutable]);
 }
 
 // What a column's entry says behind its name.
@@ -276,9 +260,7 @@ fn put_shape(out: &mut [u8], s: Shape)
     ensures { out.new ≡ column_bytes s ++ drop 22 out.old }
 {
     put_six(out, s.base, s.how, s.target, s.min, s.max, s.mutable);
-    let low = s.low;
-    let high = s.high;
-    put_limits(&mut out[6..], low, high);
+    put_limits(&mut out[6..], s.low, s.high);
 }
 
 // The entry of a column.
@@ -307,14 +289,8 @@ pub fn with_indexes(entry: Entry, n: u8, a: [u8; INDEX], b: [u8; INDEX]) -> Entr
 {
     let mut c = entry;
     c[INDEX_COUNT] = n;
-    c[FIRST_INDEX] = a[0];
-    c[FIRST_INDEX + 1] = a[1];
-    c[FIRST_INDEX + 2] = a[2];
-    c[FIRST_INDEX + 3] = a[3];
-    c[SECOND_INDEX] = b[0];
-    c[SECOND_INDEX + 1] = b[1];
-    c[SECOND_INDEX + 2] = b[2];
-    c[SECOND_INDEX + 3] = b[3];
+    c[FIRST_INDEX..SECOND_INDEX].copy_from_slice(&a);
+    c[SECOND_INDEX..SECOND_INDEX + INDEX].copy_from_slice(&b);
     c
 }
 
@@ -323,7 +299,7 @@ pub fn name_entry(name: &Atom) -> Entry
     ensures { result ≡ name.now ++ replicate (entry_bytes - atom_bytes) 0 }
 {
     let mut entry = [0u8; ENTRY];
-    octets::put_bytes(&mut entry, name);
+    entry[..ATOM].copy_from_slice(name);
     entry
 }
 
@@ -332,8 +308,7 @@ pub fn column<'s>(catalog: &'s Catalog, t: usize, c: usize) -> &'s Entry
     requires { (t < most_tables) × (c < most_columns) }
     ensures { result.now ≡ get_or catalog.now (column_place t c) [] }
 {
-    let entries = &catalog[..];
-    &entries[1 + TABLES + COLUMNS * t + c]
+    &catalog[FIRST_COLUMN + COLUMNS * t + c]
 }
 
 // The columns of the index that lies at a place of a table's entry, by their numbers, lent.
@@ -341,13 +316,9 @@ fn index_at<'a>(entry: &'a Entry, at: usize) -> &'a [u8]
     requires { at < entry_bytes }
     ensures { result.now ≡ index_from entry.now at }
 {
-    let t = &entry[..];
-    let n = leaf::wide(t[at]);
     let first = at + 1;
-    if ENTRY - first < n {
-        return &t[first..ENTRY];
-    }
-    &t[first..first + n]
+    let n = leaf::wide(entry[at]).min(ENTRY - first);
+    &entry[first..first + n]
 }
 
 // The columns of a table's first index, and of its second.
@@ -369,11 +340,7 @@ pub fn id_column() -> Entry
 {
     let mut entry = [0u8; ENTRY];
     entry[0] = 5;
-    entry[1] = b'_';
-    entry[2] = b'u';
-    entry[3] = b'u';
-    entry[4] = b'i';
-    entry[5] = b'd';
+    entry[1..6].copy_from_slice(b"_uuid");
     entry[KIND] = 3;
     entry[MIN] = 1;
     entry[MAX] = 1;
@@ -385,7 +352,7 @@ pub fn database_entry(name: &Atom, n: u8) -> Entry
     ensures { (length name.now ≡ atom_bytes) × (result ≡ name.now ++ (n ∷ replicate 22 0)) }
 {
     let mut entry = [0u8; ENTRY];
-    octets::put_bytes(&mut entry, name);
+    entry[..ATOM].copy_from_slice(name);
     entry[TABLE_COUNT] = n;
     entry
 }

@@ -12,8 +12,6 @@ fn database_of(e: &Entry) -> Entry
     requires { length (entry_name e.now) ≤ most_text_bytes }
     ensures { result ≡ database_tidied e.now }
 {
-    // That all its bytes are there is known of the slice.
-    let all = &e[..];
     super::tidied_columns::database_entry_of(e)
 }
 
@@ -23,7 +21,6 @@ fn table_of(e: &Entry) -> Entry
     requires e_value { all (λ (l : List ℕ). leb (length l) most_index_columns) (indexes_from e.now) ≡ true }
     ensures { result ≡ table_tidied e.now }
 {
-    let all = &e[..];
     super::tidied_tables::table_entry(e)
 }
 
@@ -32,7 +29,6 @@ fn column_of(e: &Entry) -> Entry
     requires { length (entry_name e.now) ≤ most_text_bytes }
     ensures { result ≡ column_entry (column_from e.now) }
 {
-    let all = &e[..];
     super::tidied_columns::column_entry(e)
 }
 
@@ -43,9 +39,10 @@ fn table_anew(cells: &Catalog, t: usize) -> Entry
     ensures { result ≡ get_or (catalog_of (database_from cells.now)) (1 + t) [] }
 {
     if t < leaf::wide(super::table_count(&cells[0])) {
-        return table_of(&cells[1 + t]);
+        table_of(&cells[1 + t])
+    } else {
+        [0u8; ENTRY]
     }
-    [0u8; ENTRY]
 }
 
 // The entry of column c of table t written anew, zeros where there is no such column.
@@ -54,12 +51,12 @@ fn column_anew(cells: &Catalog, t: usize, c: usize) -> Entry
     requires t_lt_most_tables { (t < most_tables) × (c < most_columns) }
     ensures { result ≡ get_or (catalog_of (database_from cells.now)) (column_place t c) [] }
 {
-    if t < leaf::wide(super::table_count(&cells[0])) {
-        if c < leaf::wide(super::width(&cells[1 + t])) {
-            return column_of(&cells[1 + TABLES + COLUMNS * t + c]);
-        }
+    let tables = leaf::wide(super::table_count(&cells[0]));
+    if t < tables && c < leaf::wide(super::width(&cells[1 + t])) {
+        column_of(&cells[super::FIRST_COLUMN + COLUMNS * t + c])
+    } else {
+        [0u8; ENTRY]
     }
-    [0u8; ENTRY]
 }
 
 // Entry i written anew: the database's, a table's or a column's.
@@ -69,13 +66,13 @@ fn entry_anew(cells: &Catalog, i: usize) -> Entry
     ensures { result ≡ get_or (catalog_of (database_from cells.now)) i [] }
 {
     if i == 0 {
-        return database_of(&cells[0]);
+        database_of(&cells[0])
+    } else if i <= TABLES {
+        table_anew(cells, i - 1)
+    } else {
+        let k = i - 1 - TABLES;
+        column_anew(cells, k / COLUMNS, k % COLUMNS)
     }
-    if i <= TABLES {
-        return table_anew(cells, i - 1);
-    }
-    let k = i - 1 - TABLES;
-    column_anew(cells, k / COLUMNS, k % COLUMNS)
 }
 
 // All entries written anew.
@@ -84,11 +81,8 @@ pub fn tidied(cells: &Catalog) -> Catalog
     ensures { result ≡ catalog_of (database_from cells.now) }
 {
     let mut out = [[0u8; ENTRY]; ENTRIES];
-    let mut i = 0;
-    while i < ENTRIES {
-        let e = entry_anew(cells, i);
-        out[i] = e;
-        i += 1;
+    for i in 0..ENTRIES {
+        out[i] = entry_anew(cells, i);
     }
     out
 }

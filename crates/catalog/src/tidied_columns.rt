@@ -18,39 +18,32 @@ pub fn named(e: &Entry) -> Entry
     ensures { result ≡ name_bytes (entry_name e.now) ++ replicate (entry_bytes - atom_bytes) 0 }
 {
     let mut out = [0u8; ENTRY];
-    let t = &e[..];
-    out[0] = t[0];
+    out[0] = e[0];
     octets::put_bytes(&mut out[1..], name_of(e));
     out
 }
 
 // The number of a base type, as it is read.
+#[tactic(auto, unfolding(model::specs::Catalog::base_numbered, model::specs::SchemaText::base_number))]
 fn base_of(k: u8) -> u8
     ensures { result ≡ base_number (base_numbered k) }
 {
-    if k <= 3 {
-        return k;
-    }
-    3
+    k.min(3)
 }
 
 // How a column refers, and to which table, as they are read.
+#[tactic(auto, unfolding(model::specs::Catalog::refers_from))]
 fn how_of(how: u8) -> u8
     ensures { result ≡ how_refers (refers_from how 0) }
 {
-    if how <= 2 {
-        return how;
-    }
-    2
+    how.min(2)
 }
 
+#[tactic(auto, unfolding(model::specs::Catalog::refers_from))]
 fn target_of(how: u8, t: u8) -> u8
     ensures { result ≡ target (refers_from how t) }
 {
-    if how == 0 {
-        return 0;
-    }
-    t
+    if how == 0 { 0 } else { t }
 }
 
 // The six bytes behind a column's name.

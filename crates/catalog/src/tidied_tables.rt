@@ -18,11 +18,7 @@ use model::{Entry, INDEXES};
 fn most_rows(e: &Entry) -> u64
     ensures { result ≡ number_or0 (max_rows_from e.now) }
 {
-    let limited = is_limited(e);
-    if limited {
-        return max_rows(e);
-    }
-    0
+    if is_limited(e) { max_rows(e) } else { 0 }
 }
 
 // An entry with what stands before the indexes, and nothing else.
@@ -31,11 +27,13 @@ fn headed(e: &Entry) -> Entry
     ensures { result ≡ (name_bytes (entry_name e.now) ++ head_bytes (get_or e.now columns_offset 0) (is_set e.now root_offset) (is_set e.now limited_offset) (number_or0 (max_rows_from e.now))) ++ replicate (entry_bytes - indexes_offset) 0 }
 {
     let mut out = named(e);
-    let n = width(e);
-    let root = says_root(e);
-    let limited = is_limited(e);
-    let most = most_rows(e);
-    put_head(&mut out, n, root, limited, most);
+    put_head(
+        &mut out,
+        width(e),
+        says_root(e),
+        is_limited(e),
+        most_rows(e),
+    );
     out
 }
 
@@ -43,21 +41,15 @@ fn headed(e: &Entry) -> Entry
 fn indexes_in(e: &Entry) -> u8
     ensures { result ≡ length (indexes_from e.now) }
 {
-    let k = index_count(e);
-    if k < INDEXES as u8 {
-        return k;
-    }
-    INDEXES as u8
+    index_count(e).min(INDEXES as u8)
 }
 
 // A byte where a test passes, else zero.
+#[tactic(auto, unfolding(crate::specs::Slots::kept_where))]
 fn kept_where(used: bool, b: u8) -> u8
     ensures { result ≡ kept_where used b }
 {
-    if used {
-        return b;
-    }
-    0
+    if used { b } else { 0 }
 }
 
 // The index that lies at a place, if it is in use.
@@ -66,12 +58,13 @@ fn slot(e: &Entry, used: bool, at: usize) -> [u8; INDEX]
     requires at_bound { kept_where used (get_or e.now at 0) ≤ most_index_columns }
     ensures { result ≡ slot_bytes used e.now at }
 {
-    let b = &e[..];
-    let n = kept_where(used, b[at]);
-    let x = kept_where(0 < n, b[at + 1]);
-    let y = kept_where(1 < n, b[at + 2]);
-    let z = kept_where(2 < n, b[at + 3]);
-    [n, x, y, z]
+    let n = kept_where(used, e[at]);
+    [
+        n,
+        kept_where(0 < n, e[at + 1]),
+        kept_where(1 < n, e[at + 2]),
+        kept_where(2 < n, e[at + 3]),
+    ]
 }
 
 // The entry of a table.
@@ -80,11 +73,8 @@ pub fn table_entry(e: &Entry) -> Entry
     requires e_value { all (λ (l : List ℕ). leb (length l) most_index_columns) (indexes_from e.now) ≡ true }
     ensures { result ≡ table_tidied e.now }
 {
-    let b = &e[..];
-    let k = b[INDEX_COUNT];
-    let out = headed(e);
-    let n = indexes_in(e);
+    let k = index_count(e);
     let first = slot(e, 0 < k, FIRST_INDEX);
     let second = slot(e, 1 < k, SECOND_INDEX);
-    with_indexes(out, n, first, second)
+    with_indexes(headed(e), indexes_in(e), first, second)
 }

@@ -1,4 +1,5 @@
 -- How many rows lie before a key, and where a row in order is found by it. Assumes nothing.
+use Rattle.std.specs.Prelude.{Some, None}
 use mathlib.Core.Path.{◌≡◌, refl, sym, ap, ◌∙◌}
 use mathlib.Core.Bool.{true, false}
 use mathlib.Core.List.{List, [], ◌∷◌}
@@ -15,7 +16,6 @@ use Rattle.model.specs.Areas.{row_from}
 use Rattle.inner.specs.Working.{working, key_in, Ordered, place_from, place}
 use Rattle.inner.proofs.Working.{row_key, working_on, working_end, working_at, working_length}
 use Rattle.inner.proofs.Ordering.{ordered_sorted}
-use Rattle.model.specs.declared.Found.TheVariants.{At, Nothing}
 use Rattle.changes.specs.Walk.{fore}
 
 -- ── counted on from a place ──
@@ -43,7 +43,7 @@ module _ (s : Schema) (cells : List (List (List ℕ))) (n : ℕ) (h : n ≤ leng
   fore_end l = rw (working_end s cells n h i l)
 
 -- ── a row is found there or nowhere ──
-found_there : (j k : ℕ) (rows : List Row) (d : Row) → fore k rows < length rows → eqb k (key (get_or rows (fore k rows) d)) ≡ true → place_from j k rows ≡ At (j + fore k rows)
+found_there : (j k : ℕ) (rows : List Row) (d : Row) → fore k rows < length rows → eqb k (key (get_or rows (fore k rows) d)) ≡ true → place_from j k rows ≡ Some (j + fore k rows)
 found_there j k [] d h e = absurd (omega arith)
 found_there j k (r ∷ rs) d h e = split (ltb (key r) k)
     (λ t.
@@ -51,17 +51,17 @@ found_there j k (r ∷ rs) d h e = split (ltb (key r) k)
     let a : suc (fore k rs) < suc (length rs) = rw (t, fore) at h in
     let b : eqb k (key (get_or rs (fore k rs) d)) ≡ true = rw (t, fore) at e in
     let f : suc j + fore k rs ≡ j + suc (fore k rs) = omega arith in
-    rw (t, n, fore, place_from) (found_there (suc j) k rs d (omega (arith, a)) b ∙ ap At f))
+    rw (t, n, fore, place_from) (found_there (suc j) k rs d (omega (arith, a)) b ∙ ap Some f))
     (λ t.
     let b : eqb k (key r) ≡ true = rw (t, fore) at e in
     let f : j ≡ j + 0 = omega arith in
-    rw (t, b, fore, place_from) (ap At f))
+    rw (t, b, fore, place_from) (ap Some f))
 
-none_above : (j k n : ℕ) (rows : List Row) → k ≤ n → Above n rows → place_from j k rows ≡ Nothing
+none_above : (j k n : ℕ) (rows : List Row) → k ≤ n → Above n rows → place_from j k rows ≡ None
 none_above j k n [] h a = refl
 none_above j k n (r ∷ rs) h a = rw (ne_eqb k (key r) (λ q. omega (arith, q, h, a.0)), place_from) (none_above (suc j) k n rs h a.1)
 
-found_nowhere : (j k : ℕ) (rows : List Row) (d : Row) → Sorted rows → (fore k rows < length rows → eqb k (key (get_or rows (fore k rows) d)) ≡ false) → place_from j k rows ≡ Nothing
+found_nowhere : (j k : ℕ) (rows : List Row) (d : Row) → Sorted rows → (fore k rows < length rows → eqb k (key (get_or rows (fore k rows) d)) ≡ false) → place_from j k rows ≡ None
 found_nowhere j k [] d o e = refl
 found_nowhere j k (r ∷ rs) d o e = split (ltb (key r) k)
     (λ t.
@@ -84,12 +84,12 @@ module _ (s : Schema) (n : ℕ) (cells : List (List (List ℕ))) (o : Ordered n 
   key_there : at < n → key (get_or (working s n cells) (fore k (working s n cells)) none_row) ≡ key_in (get_or cells at [])
   key_there h = ap (λ (i : ℕ). key (get_or (working s n cells) i none_row)) (sym e) ∙ ap key (working_at s cells n o.there at none_row h) ∙ row_key s (get_or cells at [])
 
-  pub place_there : at < n → eqb k (key_in (get_or cells at [])) ≡ true → place k (working s n cells) ≡ At at
+  pub place_there : at < n → eqb k (key_in (get_or cells at [])) ≡ true → place k (working s n cells) ≡ Some at
   unfolding place
   place_there h t =
-      found_there 0 k (working s n cells) none_row (omega (arith, size, e, h)) (ap (eqb k) (key_there h) ∙ t) ∙ ap At (omega (arith, e))
+      found_there 0 k (working s n cells) none_row (omega (arith, size, e, h)) (ap (eqb k) (key_there h) ∙ t) ∙ ap Some (omega (arith, e))
 
-  pub place_nowhere : (at < n → eqb k (key_in (get_or cells at [])) ≡ false) → place k (working s n cells) ≡ Nothing
+  pub place_nowhere : (at < n → eqb k (key_in (get_or cells at [])) ≡ false) → place k (working s n cells) ≡ None
   unfolding place
   place_nowhere t =
       found_nowhere 0 k (working s n cells) none_row (ordered_sorted s n cells o) (λ g. let h : at < n = omega (arith, size, e, g) in ap (eqb k) (key_there h) ∙ t h)

@@ -1,8 +1,8 @@
 -- What a commit writes of each row, one row and one column after another. Assumes nothing.
+use Rattle.std.specs.Prelude.{Option, Some, None}
 use mathlib.Core.Path.{◌≡◌, refl, sym, ap, subst, ◌∙◌}
 use mathlib.Core.Bool.{Bool, true, false}
 use mathlib.Core.List.{List, [], ◌∷◌, ◌++◌}
-use mathlib.Core.Option.{some}
 use Prim.Native.Nat.{ℕ, suc, ◌+◌, ◌≤◌, ◌<◌, min}
 use native.Mathlib.Numerals.{add-one}
 use native.Mathlib.Omega.{arith}
@@ -19,8 +19,6 @@ use Rattle.model.specs.Areas.{row_from}
 use Rattle.inner.specs.Positions.{is_nothing}
 use Rattle.inner.specs.Working.{working, table_in, id_in, key_in, value_in, place}
 use Rattle.model.specs.Records.{Change, born, gone, column, end, gones, writes, never, walk, closed}
-use Rattle.model.specs.declared.Found.{Found}
-use Rattle.model.specs.declared.Found.TheVariants.{At, Nothing}
 use Rattle.model.proofs.Tests.{split}
 use Rattle.inner.proofs.Working.{key_head, row_table, row_id, row_key, working_length, working_at, working_on, working_end}
 use Rattle.inner.proofs.Places.{place_at, place_none}
@@ -109,15 +107,15 @@ all_columns t i c (v ∷ vs) (u ∷ us) [] e = refl
 all_columns t i c (v ∷ vs) (u ∷ us) (w ∷ ws) e = ap (λ (l : List Change). column t i c w ∷ l) (all_columns t i (suc c) vs us ws (omega arith))
 
 -- ── a row, by where the area has it ──
-pub old_at : (a : List ℕ) (old : Found) (i : ℕ) → old ≡ At i → Old a old → (store_bytes ≤ length a) × (i < most_rows)
+pub old_at : (a : List ℕ) (old : Option ℕ) (i : ℕ) → old ≡ Some i → Old a old → (store_bytes ≤ length a) × (i < most_rows)
 unfolding Old
 old_at a old i e h = subst (Old a) e h
 
-pub at_old : (a : List ℕ) (old : Found) (i : ℕ) → old ≡ At i → store_bytes ≤ length a → i < most_rows → Old a old
+pub at_old : (a : List ℕ) (old : Option ℕ) (i : ℕ) → old ≡ Some i → store_bytes ≤ length a → i < most_rows → Old a old
 unfolding Old
 at_old a old i e h g = subst (Old a) (sym e) (h, g)
 
-pub nothing_old : (a : List ℕ) (old : Found) → old ≡ Nothing → Old a old
+pub nothing_old : (a : List ℕ) (old : Option ℕ) → old ≡ None → Old a old
 unfolding Old
 nothing_old a old e = subst (Old a) (sym e) tt
 
@@ -126,24 +124,24 @@ module _ (s : Schema) (a : List ℕ) (m : ℕ) (row : List (List ℕ)) where
   before = working s m (rows_at m a)
 
   -- its columns against those of the row there
-  abbrev pub columns_over : Found → List Change
+  abbrev pub columns_over : Option ℕ → List Change
   columns_over old = writes (skips (is_nothing old)) (table_in row) (id_in row) 0 (row_from s (old_cells a old row)).columns (row_from s row).columns
 
-  pub row_new : place (key_in row) before ≡ Nothing → (born (table_in row) (id_in row) ∷ []) ++ columns_over Nothing ≡ row_written s before (row_from s row)
+  pub row_new : place (key_in row) before ≡ None → (born (table_in row) (id_in row) ∷ []) ++ columns_over None ≡ row_written s before (row_from s row)
   unfolding row_written skips old_cells is_nothing
   row_new e =
       let n : length (row_from s row).columns ≡ length (initials s (table_in row)) = values_length s row ∙ sym (length-map (columns_of s (table_in row)) initial) in
       rw (row_key s row, (place_none (key_in row) before e).find, row_table s row, row_id s row)
       (ap (λ (l : List Change). born (table_in row) (id_in row) ∷ l) (all_columns (table_in row) (id_in row) 0 (row_from s row).columns (initials s (table_in row)) (row_from s row).columns n))
 
-  module _ (i : ℕ) (e : place (key_in row) before ≡ At i) where
+  module _ (i : ℕ) (e : place (key_in row) before ≡ Some i) where
     pub old_within : i < m
     old_within = omega (arith, (place_at (key_in row) before i e).within, working_length s (rows_at m a) m (omega (arith, rows_length m (drop rows_offset a))), rows_length m (drop rows_offset a))
 
-    found_row : find (key_in row) before ≡ some (row_from s (row_at a i))
-    found_row = (place_at (key_in row) before i e).find (row_from s []) ∙ ap some (working_at s (rows_at m a) m (omega (arith, rows_length m (drop rows_offset a))) i (row_from s []) old_within ∙ ap (row_from s) (rows_are a i m old_within))
+    found_row : find (key_in row) before ≡ Some (row_from s (row_at a i))
+    found_row = (place_at (key_in row) before i e).find (row_from s []) ∙ ap Some (working_at s (rows_at m a) m (omega (arith, rows_length m (drop rows_offset a))) i (row_from s []) old_within ∙ ap (row_from s) (rows_are a i m old_within))
 
-    pub row_changed : columns_over (At i) ≡ row_written s before (row_from s row)
+    pub row_changed : columns_over (Some i) ≡ row_written s before (row_from s row)
     unfolding row_written skips old_cells is_nothing
     row_changed = rw (row_key s row, found_row, row_table s row, row_id s row)
 

@@ -1,5 +1,5 @@
 -- The records of a commit as they are written one after another into a buffer (document 01, "Records on the line"). Assumes nothing: these are definitions.
-use Rattle.std.specs.Prelude.{ℕ, suc, ◌+◌, ◌*◌, ◌≤◌, ◌<◌, ◌≡◌, Bool, true, false, List, [], ◌∷◌, ltb, length}
+use Rattle.std.specs.Prelude.{ℕ, suc, ◌+◌, ◌*◌, ◌≤◌, ◌<◌, ◌≡◌, Bool, true, false, List, [], ◌∷◌, ltb, length, Option, Some, None}
 use Rattle.model.specs.Limits.{most_columns, most_rows, store_bytes, row_record_bytes, column_record_bytes, least_records}
 use Rattle.model.specs.Schema.{Schema}
 use Rattle.model.specs.Value.{Value, same_value}
@@ -7,8 +7,6 @@ use Rattle.model.specs.Rows.{Row, key, find}
 use Rattle.model.specs.Records.{Change, never, row_writes, writes, numbered, encode}
 use Rattle.model.specs.Areas.{row_from}
 use Rattle.model.specs.Catalog.{packed_tables}
-use Rattle.model.specs.declared.Found.{Found}
-use Rattle.model.specs.declared.Found.TheVariants.{At, Nothing}
 use Rattle.inner.specs.Positions.{is_nothing}
 use Rattle.inner.specs.Working.{working, table_in, id_in}
 use Rattle.area.specs.Layout.{row_at, rows_at}
@@ -53,14 +51,14 @@ skips false = same_value
 
 -- ── the rows before the commit, which the store's area has ──
 -- a place among them, or none
-unfoldable pub Old : List ℕ → Found → Type 0
-Old a (At i) = (store_bytes ≤ length a) × (i < most_rows)
-Old a Nothing = Unit
+unfoldable pub Old : List ℕ → Option ℕ → Type 0
+Old a (Some i) = (store_bytes ≤ length a) × (i < most_rows)
+Old a None = Unit
 
 -- the row there; where there is none, a new row, of which no column is left out whatever stands here: itself
-unfoldable pub old_cells : List ℕ → Found → List (List ℕ) → List (List ℕ)
-old_cells a (At i) row = row_at a i
-old_cells a Nothing row = row
+unfoldable pub old_cells : List ℕ → Option ℕ → List (List ℕ) → List (List ℕ)
+old_cells a (Some i) row = row_at a i
+old_cells a None row = row
 
 -- how many rows at the front lie before a key
 abbrev pub fore : ℕ → List Row → ℕ
@@ -75,7 +73,7 @@ abbrev pub working_rows : List (List ℕ) → ℕ → List (List (List ℕ)) →
 working_rows schema n rows = working (packed_tables schema) n rows
 
 -- the columns that a row writes beside what was at its place before
-abbrev pub columns_written : List (List ℕ) → List ℕ → Found → List (List ℕ) → List Change
+abbrev pub columns_written : List (List ℕ) → List ℕ → Option ℕ → List (List ℕ) → List Change
 columns_written schema area old row =
     writes (skips (is_nothing old)) (table_in row) (id_in row) 0 (row_from (packed_tables schema) (old_cells area old row)).columns (row_from (packed_tables schema) row).columns
 

@@ -16,7 +16,7 @@ ghost use Rattle.model.specs.Records.{born, gone, column, end, gones, writes, wa
 ghost use Rattle.catalog.specs.Accepted.{Accepted};
 ghost use Rattle.changes.specs.Walk.{Room, Recorded, Old, old_cells, skips, area_rows, working_rows, columns_written, fore, row_written, row_most};
 
-use model::{COUNTS_OFFSET, Catalog, Found, ID_OFFSET, LAST_NUMBER, Row};
+use model::{COUNTS_OFFSET, Catalog, ID_OFFSET, LAST_NUMBER, Row};
 use record::{Born, Column, End, Gone};
 
 // Where the next record goes: how many there are already, and where their bytes end.
@@ -111,50 +111,47 @@ fn put_end(by: Numbering, to: Cursor, records: &mut [u8]) -> Cursor
 }
 
 // Whether column c of a row is left out: never of a new row, and of one that the area has at a place where it is like there.
-fn is_left(area: &[u8], old: Found, row: &Row, c: usize) -> bool
+fn is_left(area: &[u8], old: Option<usize>, row: &Row, c: usize) -> bool
     requires old { Old area.now old }
     requires c_lt_most_columns { c < most_columns }
     ensures { result ≡ skips (is_nothing old) (value_in c (old_cells area.now old row.now)) (value_in c row.now) }
 {
     match old {
-        Found::At(i) => area::same_column(area, i, row, c),
-        Found::Nothing => false,
+        Some(i) => area::same_column(area, i, row, c),
+        None => false,
     }
 }
 
 // The table of a row before the commit.
-fn table_of(area: &[u8], old: Found, row: &Row) -> u8
+fn table_of(area: &[u8], old: Option<usize>, row: &Row) -> u8
     requires { Old area.now old }
     ensures { result ≡ table_in (old_cells area.now old row.now) }
 {
     match old {
-        Found::At(i) => {
+        Some(i) => {
             let key = area::key_at(area, i);
             key[0]
         }
-        Found::Nothing => rows::table_of(row),
+        None => rows::table_of(row),
     }
 }
 
 // How many columns a row has both before and after the commit.
-fn width_of(schema: &Catalog, area: &[u8], old: Found, row: &Row) -> usize
+fn width_of(schema: &Catalog, area: &[u8], old: Option<usize>, row: &Row) -> usize
     requires accepted { Accepted schema.now }
     requires old { Old area.now old }
     ensures { result ≡ min (length (columns_of (packed_tables schema.now) (table_in (old_cells area.now old row.now)))) (length (columns_of (packed_tables schema.now) (table_in row.now))) }
 {
-    let w = references::width(schema, table_of(area, old, row));
-    let x = references::width(schema, rows::table_of(row));
-    if x < w {
-        return x;
-    }
-    w
+    let before = references::width(schema, table_of(area, old, row));
+    let after = references::width(schema, rows::table_of(row));
+    before.min(after)
 }
 
 // The columns of a row in schema order: all of a new row, the changed ones of one that the area has.
 fn put_columns(
     schema: &Catalog,
     area: &[u8],
-    old: Found,
+    old: Option<usize>,
     row: &Row,
     by: Numbering,
     start: Cursor,
@@ -167,13 +164,10 @@ fn put_columns(
 {
     let w = width_of(schema, area, old, row);
     let mut to = start;
-    let mut c = 0;
-    while c < w {
+    for c in 0..w {
         if !is_left(area, old, row, c) {
-            let past = put_column(row, c, by, to, records);
-            to = past;
+            to = put_column(row, c, by, to, records);
         }
-        c += 1;
     }
     to
 }
@@ -194,16 +188,13 @@ fn put_gones(
     ensures { (s : Schema) → Recorded by.run by.number (gones (working s n after.now) (working s m (rows_at m area.now))) (row_record_bytes * m) start records.old result records.new }
 {
     let mut to = start;
-    let mut i = 0;
-    while i < m {
+    for i in 0..m {
         let key = area::key_at(area, i);
         let table = key[0];
         let id = &key[ID_OFFSET..COUNTS_OFFSET];
         if !rows::has_key(after, n, table, id) {
-            let past = put_gone(table, id, by, to, records);
-            to = past;
+            to = put_gone(table, id, by, to, records);
         }
-        i += 1;
     }
     to
 }
@@ -215,34 +206,32 @@ fn skip(area: &[u8], m: usize, j: usize, row: &Row) -> usize
     ensures { (s : Schema) → result ≡ fore (key_in row.now) (working s m (rows_at m area.now)) }
 {
     let key = rows::key_of(row);
+    // A counted loop: the new form is no plainer, since the place where it stops is the answer, found or not.
     let mut k = j;
-    while k < m {
-        if !rows::less_keys(area::key_at(area, k), key) {
-            return k;
-        }
+    while k < m && rows::less_keys(area::key_at(area, k), key) {
         k += 1;
     }
     k
 }
 
 // Where an area has a row, if it has it: at the place of the first that does not lie before it.
-fn old_place(area: &[u8], m: usize, at: usize, row: &Row) -> Found
+fn old_place(area: &[u8], m: usize, at: usize, row: &Row) -> Option<usize>
     requires store_bytes_in_bounds { (store_bytes ≤ length area.now) × (m ≤ most_rows) }
     requires ordered { Ordered m (rows_at m area.now) }
     requires at_value { (s : Schema) → at ≡ fore (key_in row.now) (working s m (rows_at m area.now)) }
     ensures { (s : Schema) → result ≡ place (key_in row.now) (working s m (rows_at m area.now)) }
 {
     if m <= at {
-        return Found::Nothing;
+        return None;
     }
     if rows::same_keys(
         rows::table_of(row),
         rows::id_of(row),
         area::key_at(area, at),
     ) {
-        return Found::At(at);
+        return Some(at);
     }
-    Found::Nothing
+    None
 }
 
 // What a row after the commit writes: born with all its columns, where the area lacks it, else its changed columns.
@@ -250,7 +239,7 @@ fn put_row(
     schema: &Catalog,
     area: &[u8],
     m: usize,
-    old: Found,
+    old: Option<usize>,
     row: &Row,
     by: Numbering,
     to: Cursor,
@@ -263,11 +252,11 @@ fn put_row(
     ensures { Recorded by.run by.number (row_written (packed_tables schema.now) (area_rows schema.now m area.now) (row_from (packed_tables schema.now) row.now)) row_most to records.old result records.new }
 {
     match old {
-        Found::At(_) => put_columns(schema, area, old, row, by, to, records),
-        Found::Nothing => {
+        Some(_) => put_columns(schema, area, old, row, by, to, records),
+        None => {
             let table = rows::table_of(row);
-            let past = put_born(table, rows::id_of(row), by, to, records);
-            put_columns(schema, area, old, row, by, past, records)
+            let to = put_born(table, rows::id_of(row), by, to, records);
+            put_columns(schema, area, old, row, by, to, records)
         }
     }
 }
@@ -291,14 +280,11 @@ fn put_rows(
 {
     let mut to = start;
     let mut j = 0;
-    let mut i = 0;
-    while i < n {
+    for i in 0..n {
         let at = skip(area, m, j, &after[i]);
         let old = old_place(area, m, at, &after[i]);
-        let past = put_row(schema, area, m, old, &after[i], by, to, records);
-        to = past;
+        to = put_row(schema, area, m, old, &after[i], by, to, records);
         j = at;
-        i += 1;
     }
     to
 }

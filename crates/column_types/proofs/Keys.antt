@@ -1,4 +1,5 @@
 -- A key by its slots is the key that the schema's definitions read. Assumes nothing.
+use Rattle.std.specs.Prelude.{Option}
 use mathlib.Core.Path.{◌≡◌, refl, sym, ap, ◌∙◌}
 use mathlib.Core.List.{List, [], ◌∷◌, map}
 use mathlib.Core.Bool.{Bool, true, false, not, ◌&&◌, ◌||◌}
@@ -9,7 +10,6 @@ use lib.Dec.{eqb, ltb}
 use lib.ListN.{length, get_or, length-map}
 use lib.IntN.{ℤ}
 use lib.Signed.{le_z}
-use Rattle.model.specs.declared.Found.{Found}
 use Rattle.model.specs.declared.Whole.{Whole}
 use Rattle.model.specs.declared.Whole.TheVariants.{Plus, Minus}
 use Rattle.model.specs.Base.{all, ascii}
@@ -166,7 +166,7 @@ module _ (s : List ℕ) (cells : List (List ℕ)) (j : Json) (f : List ℕ) (k :
   abbrev high : Whole
   high = bound_in s base (slot 2) (slot 4) (Plus 9223372036854775807)
 
-  abbrev table : Found
+  abbrev table : Option ℕ
   table = table_in s cells (slot 5)
 
   abbrev kind : ℕ

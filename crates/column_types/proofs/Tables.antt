@@ -1,8 +1,8 @@
 -- A string looked up among ids. Assumes nothing.
+use Rattle.std.specs.Prelude.{Option, Some, None}
 use mathlib.Core.Path.{◌≡◌, refl, sym, ap, ◌∙◌}
 use mathlib.Core.List.{List, [], ◌∷◌}
 use mathlib.Core.Bool.{true, false}
-use mathlib.Core.Option.{Option, none, some}
 use Prim.Native.Nat.{ℕ, ◌<◌, ◌≤◌}
 use native.Mathlib.Omega.{arith}
 use borrow.Author.Tests.{lt-ltb, leb-false}
@@ -19,7 +19,7 @@ use Rattle.model.proofs.Tests.{split, clash, and_l, and_r, bytes_same}
 use Rattle.model.proofs.Atoms.{text_of_text_atom}
 use Rattle.model.proofs.SchemaLaws.{place_below}
 use Rattle.names.specs.Names.{short_cell, name_cell}
-use Rattle.catalog.specs.Entries.{found_at, is_found}
+use Rattle.catalog.specs.Entries.{is_found}
 use Rattle.catalog.proofs.Ids.{id_none, id_long}
 use Rattle.catalog.proofs.Lookups.{found_member}
 use Rattle.column_types.specs.Types.{place_byte}
@@ -34,13 +34,13 @@ not_id w (x ∷ ws) h e =
     (λ q. rw q (not_id w ws (and_r (is_id x) _ h) e))
 
 -- what is not there has no place
-none_there : (w : List ℕ) (ws : List (List ℕ)) → member w ws ≡ false → place_of w ws ≡ none
+none_there : (w : List ℕ) (ws : List (List ℕ)) → member w ws ≡ false → place_of w ws ≡ None
 none_there w [] h = refl
 none_there w (x ∷ ws) h =
     split
     (eq_bytes w x)
     (λ e. absurd (clash true refl (rw e at h)))
-    (λ e. let r : place_of w ws ≡ none = none_there w ws (rw e at h) in rw (place_of, e, r))
+    (λ e. let r : place_of w ws ≡ None = none_there w ws (rw e at h) in rw (place_of, e, r))
 
 -- a short string is what its cell says; of a long one, which is no id, the cell says the empty one
 pub data Cell (t : List ℕ) : Type 0 where
@@ -67,9 +67,9 @@ module _ (ws : List (List ℕ)) (ids : all is_id ws ≡ true) where
       go (long n q) = rw q (none_there [] ws none_empty ∙ sym (none_there t ws (not_id t ws ids n)))
 
   -- a string that is one of the names, and where it stands
-  pub one_of : (j : Json) → is_found (found_at (place_of (text_of (name_cell j)) ws)) ≡ is_one_of ws j
+  pub one_of : (j : Json) → is_found ((place_of (text_of (name_cell j)) ws)) ≡ is_one_of ws j
   unfolding name_cell word_in kind_of text_in
-  one_of j = ap (λ (o : Option ℕ). is_found (found_at o)) (cell_place (word_in j)) ∙ found_member (word_in j) ws ∙ go j
+  one_of j = ap (λ (o : Option ℕ). is_found (o)) (cell_place (word_in j)) ∙ found_member (word_in j) ws ∙ go j
     where
       go : (j : Json) → member (word_in j) ws ≡ is_one_of ws j
       go null = none_empty
@@ -79,13 +79,13 @@ module _ (ws : List (List ℕ)) (ids : all is_id ws ≡ true) where
       go (arr xs) = none_empty
       go (obj ms) = none_empty
 
-  pub place_is : (j : Json) → is_one_of ws j ≡ true → length ws ≤ 4 → place_byte (found_at (place_of (text_of (name_cell j)) ws)) ≡ place_or (text_in j) ws
-  unfolding name_cell word_in kind_of text_in place_byte found_at
+  pub place_is : (j : Json) → is_one_of ws j ≡ true → length ws ≤ 4 → place_byte ((place_of (text_of (name_cell j)) ws)) ≡ place_or (text_in j) ws
+  unfolding name_cell word_in kind_of text_in place_byte
   place_is null h few = absurd (clash false h refl)
   place_is (bool b) h few = absurd (clash false h refl)
   place_is (num t) h few = absurd (clash false h refl)
   place_is (str t) h few =
-      let r : (k : ℕ) × (place_of t ws ≡ some k) × (k < length ws) = place_below t ws h in
+      let r : (k : ℕ) × (place_of t ws ≡ Some k) × (k < length ws) = place_below t ws h in
       rw (cell_place t, place_or, r.1, place_byte, lt-ltb r.0 256 (omega (arith, r.2)))
   place_is (arr xs) h few = absurd (clash false h refl)
   place_is (obj ms) h few = absurd (clash false h refl)

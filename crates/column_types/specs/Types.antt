@@ -1,8 +1,6 @@
 -- What a key and a type that were read say. Assumes nothing: these are definitions.
-use Rattle.std.specs.Prelude.{ℕ, ◌≡◌, Bool, true, false, not, ◌&&◌, ◌||◌, List, [], ◌∷◌, eqb, ltb, leb, get_or}
+use Rattle.std.specs.Prelude.{ℕ, ◌≡◌, Bool, true, false, not, ◌&&◌, ◌||◌, List, [], ◌∷◌, eqb, ltb, leb, get_or, Option, Some, None}
 use Rattle.std.specs.Int.Signed.{le_z}
-use Rattle.model.specs.declared.Found.{Found}
-use Rattle.model.specs.declared.Found.TheVariants.{At, Nothing}
 use Rattle.model.specs.declared.Whole.{Whole}
 use Rattle.model.specs.declared.Whole.TheVariants.{Plus, Minus}
 use Rattle.model.specs.Base.{ascii, every}
@@ -30,13 +28,13 @@ unfoldable pub bound_in : List ℕ → ℕ → ℕ → ℕ → Whole → Whole
 bound_in s base p q d = elim (eqb base 0) [ true ↦ limit_in s p d | false ↦ elim (eqb base 2) [ true ↦ limit_in s q d | false ↦ d ] ]
 
 -- the table that a slot names
-unfoldable pub table_in : List ℕ → List (List ℕ) → ℕ → Found
-table_in s tables p = elim (eqb p 0) [ true ↦ Nothing | false ↦ entry_named tables (text_of (name_cell (slot_tree s p))) ]
+unfoldable pub table_in : List ℕ → List (List ℕ) → ℕ → Option ℕ
+table_in s tables p = elim (eqb p 0) [ true ↦ None | false ↦ entry_named tables (text_of (name_cell (slot_tree s p))) ]
 
 -- a place as a byte, 0 where there is none
-unfoldable pub place_byte : Found → ℕ
-place_byte (At k) = elim (ltb k 256) [ true ↦ k | false ↦ 0 ]
-place_byte Nothing = 0
+unfoldable pub place_byte : Option ℕ → ℕ
+place_byte (Some k) = elim (ltb k 256) [ true ↦ k | false ↦ 0 ]
+place_byte None = 0
 
 -- a base by the number of its word, 3 for any that is left
 unfoldable pub base_byte : ℕ → ℕ

@@ -13,7 +13,7 @@ ghost use Rattle.members.specs.Fields.{slot_tree};
 ghost use Rattle.column_types.specs.Types.{limit_in, bound_in, table_in, place_byte, base_byte, how_byte, parts_in, key_allowed, KeyRead, KeyIn, max_in, type_allowed, TypeRead};
 
 use members::{Places, WORDS};
-use model::{ELEMENTS, Entry, Found, Whole};
+use model::{ELEMENTS, Entry, Whole};
 
 // Elements of a set, at most.
 const MOST: u64 = ELEMENTS as u64;
@@ -45,18 +45,15 @@ struct Parts {
     base: u8,
     low: Whole,
     high: Whole,
-    table: Found,
+    table: Option<usize>,
     kind: usize,
 }
 
+#[tactic(auto, unfolding(model::specs::Whole::is_whole))]
 fn is_whole(w: Whole) -> bool
     ensures { result ≡ is_whole w }
 {
-    match w {
-        Whole::Plus(_) => true,
-        Whole::Minus(_) => true,
-        Whole::Other => false,
-    }
+    matches!(w, Whole::Plus(_) | Whole::Minus(_))
 }
 
 // Whether an integer is from one number to another.
@@ -162,28 +159,28 @@ fn limit_fits(text: &[u8], ends: &[u16], p: usize, right: bool) -> bool
 }
 
 // The table that a slot names.
-fn table_in(text: &[u8], tables: &[Entry], p: usize) -> Found
+fn table_in(text: &[u8], tables: &[Entry], p: usize) -> Option<usize>
     ensures { result ≡ table_in text.now tables.now p }
 {
     if p == 0 {
-        return Found::Nothing;
+        return None;
     }
     let name = names::name_at(text, p);
     let t = atom::text_of(&name);
     catalog::named(tables, t)
 }
 
-fn place_byte(f: Found) -> u8
+fn place_byte(f: Option<usize>) -> u8
     ensures { result ≡ place_byte f }
 {
     match f {
-        Found::At(k) => {
+        Some(k) => {
             if k < 256 {
                 return k as u8;
             }
             0
         }
-        Found::Nothing => 0,
+        None => 0,
     }
 }
 

@@ -1,4 +1,5 @@
 -- The members that count, collected one after another. Assumes nothing.
+use Rattle.std.specs.Prelude.{Option, Some, None}
 use mathlib.Core.Path.{◌≡◌, refl, sym, ap, subst, ◌∙◌}
 use mathlib.Core.List.{List, [], ◌∷◌, ◌++◌, map, append_assoc, append-nil}
 use mathlib.Core.Bool.{Bool, true, false, ◌&&◌}
@@ -9,8 +10,6 @@ use borrow.Author.Tests.{lt-leb, eqb-true, eqb-false}
 use lib.Dec.{eqb, leb}
 use lib.ListN.{length, set, take, length-set, length-append, length-map}
 use lib.Seq.{take-suc-set, length-take-le}
-use Rattle.model.specs.declared.Found.{Found}
-use Rattle.model.specs.declared.Found.TheVariants.{At, Nothing}
 use Rattle.model.specs.Octets.{eq_bytes}
 use Rattle.model.specs.Base.{all}
 use Rattle.model.specs.Json.{Json, Named, member_at, value_at}
@@ -34,7 +33,7 @@ abbrev read_at : List ℕ → ℕ → Bool
 read_at s p = is_read (member_at (value_at 12 s) s p).read
 
 -- places gathered so far, and their names in cells: n of them, of the members before g that none before g repeats
-pub record Gathered (s : List ℕ) (most : ℕ) (j : Json) (n : ℕ) (places : List ℕ) (kept-cells : List (List ℕ)) (g : Found) : Type 0 where
+pub record Gathered (s : List ℕ) (most : ℕ) (j : Json) (n : ℕ) (places : List ℕ) (kept-cells : List (List ℕ)) (g : Option ℕ) : Type 0 where
   pub object : is_object (kind_of j) ≡ true
   pub few : n ≤ most
   pub size : length places ≡ 6
@@ -134,8 +133,8 @@ module _ {s : List ℕ} {most : ℕ} {j : Json} (small : most ≤ 6) where
   unfolding parts_few
   not_object places h = refused places (rw h)
 
-  module _ {n : ℕ} {places : List ℕ} {cells : List (List ℕ)} {g : Found} (k : Gathered s most j n places cells g) where
-    pub gather_end : g ≡ Nothing → Collected s most j n places
+  module _ {n : ℕ} {places : List ℕ} {cells : List (List ℕ)} {g : Option ℕ} (k : Gathered s most j n places cells g) where
+    pub gather_end : g ≡ None → Collected s most j n places
     unfolding parts_few
     gather_end e =
         let none : members_from s g ≡ [] = pass_end s e in
@@ -153,7 +152,7 @@ module _ {s : List ℕ} {most : ℕ} {j : Json} (small : most ≤ 6) where
           well = λ h i l. all_at (read_at s) n places i 0 inside l k.well;
         }
 
-    module _ {p : ℕ} (e : g ≡ At p) where
+    module _ {p : ℕ} (e : g ≡ Some p) where
       abbrev w : List ℕ
       w = text_of (name_cell (tree_at s p))
 
@@ -165,7 +164,7 @@ module _ {s : List ℕ} {most : ℕ} {j : Json} (small : most ≤ 6) where
       id_is = ap (λ (x : List ℕ). is_id (text_of x)) cell_is ∙ cell_id (member_of s p).name
 
       here : is_read (member_at (value_at 12 s) s p).read ≡ true
-      here = (members_fine_lem s p (subst (λ (x : Found). members_fine s x ≡ true) e k.fine)).0
+      here = (members_fine_lem s p (subst (λ (x : Option ℕ). members_fine s x ≡ true) e k.fine)).0
 
       pub name_bad : is_id w ≡ false → Collected s most j 9 places
       unfolding parts_few

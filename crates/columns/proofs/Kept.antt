@@ -5,8 +5,8 @@ use mathlib.Core.Bool.{Bool, true, false, ◌||◌}
 use Prim.Native.Nat.{ℕ, zero, suc, ◌+◌, ◌-◌, ◌<◌, ◌≤◌}
 use native.Mathlib.Omega.{arith}
 use native.Mathlib.Numerals.{add-one}
-use lib.ListN.{length, get_or, set, take, drop, length-set, length-append, drop_of_length-le}
-use lib.Seq.{take-suc, take-suc-set, drop-set-lt, drop-drop, drop-cons, get_or-drop, get_or-take, length-take-le}
+use lib.ListN.{length, get_or, take, drop, length-append, length-drop, drop_of_length-le}
+use lib.Seq.{drop-cons, get_or-take, length-take-le, length-paste, take-paste}
 use Rattle.model.specs.Octets.{eq_bytes}
 use Rattle.model.specs.Base.{all}
 use Rattle.model.specs.Json.{Named}
@@ -14,6 +14,7 @@ use Rattle.model.specs.Members.{has_member, counting}
 use Rattle.model.proofs.Tests.{split, clash, and_l, and_r, or_l, or_r, or_true, bytes_same, bytes_self}
 use Rattle.model.proofs.SchemaLaws.{has_or, has_same}
 use Rattle.columns.specs.Parts.{met_at, without, Dropped, Forgotten}
+use Rattle.std.specs.List.{copy_within}
 
 -- ── an entry that goes ──
 module _ {A : Type 0} where
@@ -54,48 +55,24 @@ module _ {A : Type 0} where
   all_at f (suc n) (x ∷ l) zero d h k e = and_l (f x) _ e
   all_at f (suc n) (x ∷ l) (suc i) d h k e = all_at f n l i d (omega arith) (omega arith) (and_r (f x) _ e)
 
-  -- what stood after i moved down as far as k
-  pub record Moving (i n : ℕ) (before : List A) (k : ℕ) (after : List A) : Type 0 where
-    pub size : length after ≡ length before
-    pub from : i ≤ k
-    pub few : k < n
-    pub are : take k after ≡ without i (take (k + 1) before)
-    pub rest : drop k after ≡ drop k before
+  -- what stands after i moves down
+  without_split : (i n : ℕ) (l : List A) → i < n → n ≤ length l → without i (take n l) ≡ take i l ++ take (n - suc i) (drop (suc i) l)
+  without_split i zero l h k = absurd (omega arith)
+  without_split i (suc n) [] h k = absurd (omega arith)
+  without_split zero (suc n) (x ∷ l) h k = let z : n ≡ suc n - 1 = omega arith in ap (λ (m : ℕ). take m l) z
+  without_split (suc i) (suc n) (x ∷ l) h k =
+      let z : n - suc i ≡ suc n - suc (suc i) = omega arith in
+      ap (λ (r : List A). x ∷ r) (without_split i n l (omega arith) (omega arith) ∙ ap (λ (m : ℕ). take i l ++ take m (drop (suc i) l)) z)
 
-  pub move_start : (i n : ℕ) (l : List A) → i < n → Moving i n l i l
-  move_start i n l h = record { size = refl; from = omega arith; few = h; are = rw add-one (sym (without_end i l)); rest = refl }
-
-  module _ {i n : ℕ} {before : List A} {k : ℕ} {after : List A} (m : Moving i n before k after) where
-    pub move_end : n ≤ k + 1 → Dropped i n before after
-    move_end h =
-        let e : k + 1 ≡ n = (let f = m.few in omega arith) in
-        let e1 : n - 1 ≡ k = (let f = m.few in omega arith) in
-        record { size = m.size; are = ap (λ (x : ℕ). take x after) e1 ∙ m.are ∙ ap (λ (x : ℕ). without i (take x before)) e }
-
-    pub move_more : (d : A) → n ≤ length before → k + 1 < n → Moving i n before (k + 1) (set after k (get_or after (k + 1) d))
-    move_more d l h =
-        let v : A = get_or after (k + 1) d in
-        let in_after : k < length after = (let z = m.size in omega arith) in
-        let same : get_or after (k + 1) d ≡ get_or before (k + 1) d =
-        sym (get_or-drop k after 1 d) ∙ ap (λ (x : List A). get_or x 1 d) m.rest ∙ get_or-drop k before 1 d in
-        let in_taken : i < length (take (k + 1) before) = (let z = length-take-le (k + 1) before (omega arith) in let y = m.from in omega arith) in
-        let t : take (k + 1 + 1) before ≡ take (k + 1) before ++ (get_or before (k + 1) d ∷ []) = ap (λ (x : ℕ). take x before) (add-one (k + 1)) ∙ take-suc before (k + 1) d (omega arith) in
-        record {
-          size = length-set after k v ∙ m.size;
-          from = (let y = m.from in omega arith);
-          few = h;
-          are =
-              ap (λ (x : ℕ). take x (set after k v)) (add-one k)
-              ∙ take-suc-set after k v in_after
-              ∙ (λ j. m.are j ++ (same j ∷ []))
-              ∙ sym (without_snoc i (take (k + 1) before) (get_or before (k + 1) d) in_taken)
-              ∙ ap (without i) (sym t);
-          rest =
-              drop-set-lt (k + 1) after k v (omega arith)
-              ∙ sym (drop-drop 1 k after)
-              ∙ ap (drop 1) m.rest
-              ∙ drop-drop 1 k before;
-        }
+  pub moved_down : {i n : ℕ} {before after : List A} → i < n → n ≤ length before → after ≡ copy_within before (i + 1) n i → Dropped i n before after
+  moved_down {i} {n} {before} {after} h k e =
+      let z : i + (n - (i + 1)) ≡ n - 1 = omega arith in
+      let few : n - (i + 1) ≤ length (drop (i + 1) before) = omega (arith, length-drop (i + 1) before) in
+      record {
+        size = ap length e ∙ length-paste before i (drop (i + 1) before) (n - (i + 1)) (omega arith) few;
+        are = ap (take (n - 1)) e ∙ ap (λ (m : ℕ). take m (copy_within before (i + 1) n i)) (sym z)
+            ∙ take-paste before i (drop (i + 1) before) (n - (i + 1)) (omega arith) few ∙ rw add-one (sym (without_split i n before h k));
+      }
 
 pub map_without : {A B : Type 0} (f : A → B) (i : ℕ) (l : List A) → map f (without i l) ≡ without i (map f l)
 map_without f i [] = refl

@@ -15,7 +15,7 @@ ghost use Rattle.columns.specs.Columns.{small, shape_bytes, TypeIn, truth_allowe
 
 use column_types::{Key, Shape};
 use members::{Places, WORDS};
-use model::{ATOM, Atom, COLUMNS, ENTRY, Entry, Found, Kind, Whole};
+use model::{ATOM, Atom, COLUMNS, ENTRY, Entry, Kind, Whole};
 
 // A column: whether it fits, and its cell.
 #[derive(Clone, Copy)]
@@ -27,10 +27,7 @@ pub struct Read {
 fn small(x: u64) -> u8
     ensures { result ≡ small x }
 {
-    if x < 256 {
-        return x as u8;
-    }
-    0
+    if x < 256 { x as u8 } else { 0 }
 }
 
 // The cell of a column.
@@ -38,18 +35,15 @@ fn put_column(out: &mut [u8], name: &Atom, t: Shape, mutable: bool)
     requires { column_end ≤ length out.old }
     ensures { out.new ≡ (name.now ++ shape_bytes t mutable) ++ drop column_end out.old }
 {
-    let k = t.key;
-    let low = k.low;
-    let high = k.high;
     let s = catalog::Shape {
-        base: k.base,
-        how: k.how,
-        target: k.target,
+        base: t.key.base,
+        how: t.key.how,
+        target: t.key.target,
         min: small(t.min),
         max: small(t.max),
         mutable: leaf::bit(mutable),
-        low,
-        high,
+        low: t.key.low,
+        high: t.key.high,
     };
     catalog::put_column(out, name, s);
 }
@@ -82,9 +76,10 @@ fn type_in(text: &[u8], ends: &[u16], tables: &[Entry], p: usize) -> Shape
     ensures { TypeIn text.now (map entry_name tables.now) p result }
 {
     if p == 0 {
-        return no_type();
+        no_type()
+    } else {
+        column_types::read_type(text, ends, tables, p)
     }
-    column_types::read_type(text, ends, tables, p)
 }
 
 // Whether a slot is empty, or holds true or false.
@@ -97,12 +92,11 @@ fn truth_fits(text: &[u8], p: usize) -> bool
 }
 
 // Whether a column fits: f has its slots, and typed says whether its type fits.
+#[tactic(auto, unfolding(crate::specs::Columns::column_allowed))]
 fn column_fits(text: &[u8], f: Places, typed: bool) -> bool
     ensures { result ≡ column_allowed text.now f typed }
 {
-    let e = truth_fits(text, f[1]);
-    let m = truth_fits(text, f[2]);
-    (f[WORDS] == 0) & (typed & (e & m))
+    f[WORDS] == 0 && typed && truth_fits(text, f[1]) && truth_fits(text, f[2])
 }
 
 // The column that is the member at `at`.
@@ -143,13 +137,11 @@ fn put_columns(
     ensures { ColumnsPut text.now (map entry_name tables.now) n places.now result cells.old cells.new }
 {
     let mut good = true;
-    let mut i = 0;
-    while i < n {
+    for i in 0..n {
         let c = read_column(text, ends, places[i], tables);
-        good = good & c.fits;
+        good &= c.fits;
         let cell = c.cell;
         cells[i] = cell;
-        i += 1;
     }
     good
 }
@@ -159,13 +151,10 @@ fn met(names: &[Atom], n: usize, name: &Atom) -> usize
     requires { n ≤ length names.now }
     ensures { result ≡ met_at name.now (take n names.now) }
 {
-    let mut i = 0;
-    while i < n {
-        let same = atom::same(&names[i], name);
-        if same {
+    for i in 0..n {
+        if atom::same(&names[i], name) {
             return i;
         }
-        i += 1;
     }
     n
 }
@@ -178,13 +167,8 @@ fn drop_at(places: &mut [usize], names: &mut [Atom], n: usize, i: usize)
     ensures dropped { Dropped i n places.old places.new }
     ensures dropped_2 { Dropped i n names.old names.new }
 {
-    let mut k = i;
-    while k + 1 < n {
-        places[k] = places[k + 1];
-        let x = names[k + 1];
-        names[k] = x;
-        k += 1;
-    }
+    places.copy_within(i + 1..n, i);
+    names.copy_within(i + 1..n, i);
 }
 
 // The first n places and names without the first that has this name: how many are left.
@@ -211,33 +195,29 @@ pub fn collect(text: &[u8], ends: &[u16], at: usize, most: usize, places: &mut [
 {
     let k = nav::kind_at(text, at);
     let o = leaf::is_kind(k, Kind::Object);
-    if o {
-        let mut names = [[0u8; ATOM]; COLUMNS];
-        let mut n = 0;
-        let mut g = nav::first(text, at, b'{', b'}');
-        loop {
-            match g {
-                Found::At(p) => {
-                    let name = names::name_at(text, p);
-                    let id = catalog::rules::is_id(atom::text_of(&name));
-                    if id {
-                        let left = forget(places, &mut names, n, &name);
-                        if left == most {
-                            return 9;
-                        }
-                        places[left] = p;
-                        names[left] = name;
-                        n = left + 1;
-                    } else {
-                        return 9;
-                    }
-                    g = nav::next_member(text, ends, p);
-                }
-                Found::Nothing => return n,
-            }
-        }
+    if !o {
+        return 9;
     }
-    9
+    let mut names = [[0u8; ATOM]; COLUMNS];
+    let mut n = 0;
+    let mut g = nav::first(text, at, b'{', b'}');
+    while let Some(p) = g {
+        let name = names::name_at(text, p);
+        let id = catalog::rules::is_id(atom::text_of(&name));
+        if id {
+            let left = forget(places, &mut names, n, &name);
+            if left == most {
+                return 9;
+            }
+            places[left] = p;
+            names[left] = name;
+            n = left + 1;
+        } else {
+            return 9;
+        }
+        g = nav::next_member(text, ends, p);
+    }
+    n
 }
 
 // The columns of the object at `at`, into the first cells: how many, 9 where they do not fit.
@@ -257,11 +237,8 @@ pub fn read_columns(
 {
     let mut places = [0usize; COLUMNS];
     let n = collect(text, ends, at, COLUMNS, &mut places);
-    if n <= COLUMNS {
-        let good = put_columns(text, ends, &places, n, tables, cells);
-        if good {
-            return n;
-        }
+    if n <= COLUMNS && put_columns(text, ends, &places, n, tables, cells) {
+        return n;
     }
     9
 }

@@ -67,24 +67,21 @@ module _ (s : Schema) (rows : List Row) where
   unfolding referred
   lawful_is = refl
 
-  pub lawful_strong : all (referred s 1 rows) rows ≡ false → false ≡ lawful s rows
-  lawful_strong a = sym (lawful_is ∙ rw a)
+  -- the rules one after another, as the code joins them
+  pub lawful_joined : ((((all (referred s 1 rows) rows && not (any (loose s rows) rows)) && all (referred s 2 rows) rows) && all_enough s rows) && tables_good 0 s rows) ≡ lawful s rows
+  lawful_joined = regroup (all (referred s 1 rows) rows) (not (any (loose s rows) rows)) (all (referred s 2 rows) rows) (all_enough s rows) (tables_good 0 s rows) ∙ sym lawful_is
+    where
+      regroup : (a b d e f : Bool) → ((((a && b) && d) && e) && f) ≡ (a && (b && (d && (e && (f && true)))))
+      regroup true true true true true = refl
+      regroup true true true true false = refl
+      regroup true true true false f = refl
+      regroup true true false e f = refl
+      regroup true false d e f = refl
+      regroup false b d e f = refl
 
-  module _ (a : all (referred s 1 rows) rows ≡ true) where
-    pub lawful_loose : any (loose s rows) rows ≡ true → false ≡ lawful s rows
-    lawful_loose b = sym (lawful_is ∙ rw (a, b))
+-- what a test joined to another says: the other where it holds, and no where it does not
+pub joined : {x y q r : Bool} → q ≡ x → q ≡ true → r ≡ y → r ≡ (x && y)
+joined {x} {y} h f g = g ∙ ap (λ (b : Bool). b && y) (sym f ∙ h)
 
-    module _ (b : any (loose s rows) rows ≡ false) where
-      pub lawful_weak : all (referred s 2 rows) rows ≡ false → false ≡ lawful s rows
-      lawful_weak d = sym (lawful_is ∙ rw (a, b, d))
-
-      module _ (d : all (referred s 2 rows) rows ≡ true) where
-        pub lawful_few : all_enough s rows ≡ false → false ≡ lawful s rows
-        lawful_few e = sym (lawful_is ∙ rw (a, b, d, e))
-
-        pub lawful_rest : (r : Bool) → all_enough s rows ≡ true → r ≡ tables_good 0 s rows → r ≡ lawful s rows
-        lawful_rest r e g = g ∙ sym (lawful_is ∙ rw (a, b, d, e) (one (tables_good 0 s rows)))
-          where
-            one : (b : Bool) → (b && true) ≡ b
-            one true = refl
-            one false = refl
+pub not_joined : {x q r : Bool} (y : Bool) → q ≡ x → q ≡ false → r ≡ q → r ≡ (x && y)
+not_joined y h f g = g ∙ f ∙ ap (λ (b : Bool). b && y) (sym f ∙ h)

@@ -25,14 +25,9 @@ fn all_found(schema: &Catalog, how: u8, rows: &[Row], n: usize) -> bool
     requires ordered { Ordered n rows.now }
     ensures { result ≡ all (referred (packed_tables schema.now) how (working (packed_tables schema.now) n rows.now)) (working (packed_tables schema.now) n rows.now) }
 {
-    let mut i = 0;
-    while i < n {
-        if !references::row_found(&rows[i], schema, how, rows, n) {
-            return false;
-        }
-        i += 1;
-    }
-    true
+    rows[..n]
+        .iter()
+        .all(|row| references::row_found(row, schema, how, rows, n))
 }
 
 // The four steps of a commit on the first n rows.
@@ -73,17 +68,9 @@ pub fn lawful(schema: &Catalog, rows: &[Row], n: usize) -> bool
     requires ordered { Ordered n rows.now }
     ensures { result ≡ lawful (packed_tables schema.now) (working (packed_tables schema.now) n rows.now) }
 {
-    if !all_found(schema, 1, rows, n) {
-        return false;
-    }
-    if garbage::counts::any_loose(schema, rows, n) {
-        return false;
-    }
-    if !all_found(schema, 2, rows, n) {
-        return false;
-    }
-    if !limits::all_enough(schema, rows, n) {
-        return false;
-    }
-    limits::tables_good(schema, rows, n)
+    all_found(schema, 1, rows, n)
+        && !garbage::counts::any_loose(schema, rows, n)
+        && all_found(schema, 2, rows, n)
+        && limits::all_enough(schema, rows, n)
+        && limits::tables_good(schema, rows, n)
 }

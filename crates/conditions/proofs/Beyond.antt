@@ -2,7 +2,7 @@
 use mathlib.Core.Path.{◌≡◌, refl, sym, ap, ◌∙◌}
 use mathlib.Core.Bool.{Bool, true, false, not, ◌&&◌}
 use mathlib.Core.List.{List, [], ◌∷◌}
-use mathlib.Core.Option.{Option, none, some}
+use mathlib.Core.Logic.{◌⊎◌, inl, inr}
 use Prim.Native.Nat.{ℕ, ◌-◌}
 use native.Mathlib.Omega.{arith}
 use lib.Dec.{eqb, leb, ltb}
@@ -11,7 +11,7 @@ use lib.Seq.{take-append_seam}
 use borrow.Author.Tests.{eqb-true, le-leb, ltb-true}
 use Rattle.model.specs.Limits.{atom_bytes, most_text_bytes}
 use Rattle.model.specs.Octets.{eq_bytes}
-use Rattle.std.specs.Prelude.{if◌then◌else◌}
+use Rattle.std.specs.Prelude.{if◌then◌else◌, Option, Some, None}
 use Rattle.model.specs.Base.{any, all, member, distinct, eq_lists}
 use Rattle.model.specs.Json.{Json}
 use Rattle.model.specs.Schema.{Base, integer, boolean, text, uuid, Column, scalar}
@@ -21,6 +21,7 @@ use Rattle.model.specs.Written.{Names, string_in, elements_in, long_atom, set_co
 use Rattle.model.specs.Conditions.{orders}
 use Rattle.model.specs.declared.Fault.TheVariants.{Fine, Constraint}
 use Rattle.model.specs.declared.Function.{Function}
+use Rattle.model.specs.declared.Function.TheVariants.{Less, AtMost, Equal, Unequal, AtLeast, Greater, Includes, Excludes}
 use Rattle.model.proofs.Tests.{split, clash, lists_same, bytes_self, and_l, and_r}
 use Rattle.model.proofs.Sets.{sorted_length}
 use Rattle.model.proofs.FaultLaws.{check_fine}
@@ -29,7 +30,7 @@ use Rattle.element_atoms.specs.Atoms.{cell_of, atom_as, atoms_of, Reads}
 use Rattle.element_atoms.proofs.Reading.{long_other}
 use Rattle.request_values.specs.Values.{atoms_as}
 use Rattle.request_values.proofs.Fits.{fine_judged}
-use Rattle.marks.specs.Marks.{every, met, Sized}
+use Rattle.marks.specs.Marks.{every, met, kept_as, Sized}
 use Rattle.marks.proofs.Meeting.{other_length}
 use Rattle.conditions.specs.Tests.{fits, storing}
 
@@ -45,6 +46,24 @@ module _ (n : ℕ) (l : List (List ℕ)) (m : n ≡ length l) where
   kept_sorted k {a} {b} e f =
       let q : n ≡ length (sorted k l) = m ∙ sym (sorted_length k l) in
       ap (take n) (f ∙ ap (λ x. (value_of (sorted k x)).atoms) (front e)) ∙ ap (λ x. take x (value_of (sorted k l)).atoms) q ∙ take-append_seam (sorted k l) (replicate (4 - length (sorted k l)) blank)
+
+pub kept_other : (f : Function) (k : Base) (l : List (List ℕ)) → (f ≡ Equal → ⊥) → (f ≡ Unequal → ⊥) → l ≡ kept_as f k l
+unfolding kept_as
+kept_other Less k l g h = refl
+kept_other AtMost k l g h = refl
+kept_other Equal k l g h = absurd (g refl)
+kept_other Unequal k l g h = absurd (h refl)
+kept_other AtLeast k l g h = refl
+kept_other Greater k l g h = refl
+kept_other Includes k l g h = refl
+kept_other Excludes k l g h = refl
+
+-- the functions of order
+pub ordered : {f : Function} → (f ≡ Less) ⊎ ((f ≡ AtMost) ⊎ ((f ≡ AtLeast) ⊎ (f ≡ Greater))) → orders f ≡ true
+ordered (inl e) = ap orders e
+ordered (inr (inl e)) = ap orders e
+ordered (inr (inr (inl e))) = ap orders e
+ordered (inr (inr (inr e))) = ap orders e
 
 -- ── what is true of sorted elements is true of all ──
 module _ (k : Base) (q : List ℕ → Bool) where
@@ -65,10 +84,10 @@ module _ (k : Base) (q : List ℕ → Bool) where
 abbrev sized : List ℕ → Bool
 sized x = eqb (length x) atom_bytes
 
-text_long : (o : Option (List ℕ)) → length (cell_of (elim o [ none ↦ none | some t ↦ some (text_atom t) ])) ≡ atom_bytes → long_atom text (cell_of (elim o [ none ↦ none | some t ↦ some (text_atom t) ])) ≡ false
+text_long : (o : Option (List ℕ)) → length (cell_of (elim o [ None ↦ None | Some t ↦ Some (text_atom t) ])) ≡ atom_bytes → long_atom text (cell_of (elim o [ None ↦ None | Some t ↦ Some (text_atom t) ])) ≡ false
 unfolding cell_of
-text_long none h = refl
-text_long (some t) h = split (ltb most_text_bytes (length t)) (λ e. absurd (let z = ltb-true most_text_bytes (length t) e in omega (arith, h, z, length-append (length t ∷ t) (replicate (25 - length (length t ∷ t)) 0), length-replicate {A = ℕ} (25 - length (length t ∷ t)) 0))) (λ e. e)
+text_long None h = refl
+text_long (Some t) h = split (ltb most_text_bytes (length t)) (λ e. absurd (let z = ltb-true most_text_bytes (length t) e in omega (arith, h, z, length-append (length t ∷ t) (replicate (25 - length (length t ∷ t)) 0), length-replicate {A = ℕ} (25 - length (length t ∷ t)) 0))) (λ e. e)
 
 sized_short : (names : Names) (k : Base) (j : Json) → sized (atom_as names k j) ≡ true → long_atom k (atom_as names k j) ≡ false
 unfolding atom_as

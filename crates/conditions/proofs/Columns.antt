@@ -1,17 +1,16 @@
 -- A column looked up by a value of a text, one after another. Assumes nothing.
+use Rattle.std.specs.Prelude.{Option, Some, None}
 use mathlib.Core.Path.{◌≡◌, refl, ap, ◌∙◌}
 use mathlib.Core.List.{List, [], ◌∷◌, map}
 use mathlib.Core.Bool.{true, false}
 use Prim.Native.Nat.{ℕ, ◌+◌, ◌<◌, ◌≤◌}
 use lib.ListN.{length, get_or}
-use Rattle.model.specs.declared.Found.{Found}
-use Rattle.model.specs.declared.Found.TheVariants.{At, Nothing}
 use Rattle.model.specs.Base.{place_of}
 use Rattle.model.specs.Json.{Json, null, bool, num, str, arr, obj}
 use Rattle.model.specs.Text.{is_word}
 use Rattle.model.specs.Schema.{Column}
 use Rattle.model.specs.Catalog.{entry_name, column_from}
-use Rattle.catalog.specs.Entries.{found_at, entry_named}
+use Rattle.catalog.specs.Entries.{entry_named}
 use Rattle.catalog.proofs.Lookups.{found_from, left, named_start, named_here, named_next, named_end}
 use Rattle.conditions.specs.Lookup.{column_in}
 
@@ -20,26 +19,26 @@ names_of [] = refl
 names_of (x ∷ cells) = ap (λ l. entry_name x ∷ l) (names_of cells)
 
 -- what is found from i on
-abbrev pub column_found : List (List ℕ) → Json → ℕ → Found
-column_found cells null i = Nothing
-column_found cells (bool b) i = Nothing
-column_found cells (num t) i = Nothing
+abbrev pub column_found : List (List ℕ) → Json → ℕ → Option ℕ
+column_found cells null i = None
+column_found cells (bool b) i = None
+column_found cells (num t) i = None
 column_found cells (str t) i = found_from i (left cells t i)
-column_found cells (arr xs) i = Nothing
-column_found cells (obj ms) i = Nothing
+column_found cells (arr xs) i = None
+column_found cells (obj ms) i = None
 
 module _ (cells : List (List ℕ)) where
-  pub column_start : (j : Json) → found_at (column_in (map column_from cells) j) ≡ column_found cells j 0
-  unfolding found_at entry_named
+  pub column_start : (j : Json) → (column_in (map column_from cells) j) ≡ column_found cells j 0
+  unfolding entry_named
   column_start null = refl
   column_start (bool b) = refl
   column_start (num t) = refl
-  column_start (str t) = ap (λ l. found_at (place_of t l)) (names_of cells) ∙ named_start cells t
+  column_start (str t) = ap (λ l. (place_of t l)) (names_of cells) ∙ named_start cells t
   column_start (arr xs) = refl
   column_start (obj ms) = refl
 
   module _ (i : ℕ) where
-    pub column_end_lem : (j : Json) → length cells ≤ i → column_found cells j i ≡ Nothing
+    pub column_end_lem : (j : Json) → length cells ≤ i → column_found cells j i ≡ None
     column_end_lem null h = refl
     column_end_lem (bool b) h = refl
     column_end_lem (num t) h = refl
@@ -47,7 +46,7 @@ module _ (cells : List (List ℕ)) where
     column_end_lem (arr xs) h = refl
     column_end_lem (obj ms) h = refl
 
-    pub column_here : (j : Json) → i < length cells → is_word (entry_name (get_or cells i [])) j ≡ true → column_found cells j i ≡ At i
+    pub column_here : (j : Json) → i < length cells → is_word (entry_name (get_or cells i [])) j ≡ true → column_found cells j i ≡ Some i
     unfolding is_word
     column_here null h e = cc
     column_here (bool b) h e = cc

@@ -1,13 +1,15 @@
 -- What conditions without a fault say of a row. Assumes nothing.
+use Rattle.std.specs.Prelude.{Option}
+use Rattle.marks.specs.declared.Place.TheVariants as place
+use Rattle.marks.specs.declared.Place.{Place}
 use mathlib.Core.Path.{◌≡◌, refl, sym, ap, subst, ◌∙◌}
 use mathlib.Core.Bool.{Bool, true, false, not, ◌&&◌, ◌||◌}
 use mathlib.Core.List.{List, [], ◌∷◌, map}
-use mathlib.Core.Option.{none, some}
 use Prim.Native.Nat.{ℕ, ◌<◌}
 use native.Mathlib.Omega.{arith}
 use lib.ListN.{length, get_or, length-map}
 use Rattle.model.specs.declared.Function.{Function}
-use Rattle.std.specs.Prelude.{if◌then◌else◌}
+use Rattle.std.specs.Prelude.{if◌then◌else◌, Some, None}
 use Rattle.model.specs.Json.{Json}
 use Rattle.model.specs.Schema.{Base, integer, boolean, text, uuid, Column, scalar, Schema, columns_of}
 use Rattle.model.specs.Catalog.{base_numbered}
@@ -23,8 +25,6 @@ use Rattle.inner.proofs.Columns.{column_value_lem}
 use Rattle.inner.proofs.Working.{row_id}
 use Rattle.request_values.specs.Values.{atoms_as}
 use Rattle.request_values.proofs.Fits.{fine_got}
-use Rattle.conditions.specs.declared.Named.{Named}
-use Rattle.conditions.specs.declared.Named.TheVariants as named
 use Rattle.conditions.specs.Tests.{About, subject_in, column_fault, test_as}
 use Rattle.conditions.proofs.Faulty.{fault_allowed, fault_not, test_by_lem}
 
@@ -57,19 +57,19 @@ module _ (names : Names) (c : Column) (f : Function) (j : Json) (h : is_fine (co
       ∙ ap (λ l. record { place = s.place; base = c.base; function = f; atoms = l }) (fine_got names c.base (test_fault c f) j written_fine)
 
 -- ── by its subject ──
-module _ (names : Names) (cells : List (List ℕ)) (a : Json) (f : Function) (v : Json) (h : is_fine (test_as names (map column_from cells) a (some f) v).fault ≡ true) where
-  fine_of : {s : Subject} → subject_in (map column_from cells) a ≡ some s → is_fine (column_fault names s.column f v) ≡ true
+module _ (names : Names) (cells : List (List ℕ)) (a : Json) (f : Function) (v : Json) (h : is_fine (test_as names (map column_from cells) a (Some f) v).fault ≡ true) where
+  fine_of : {s : Subject} → subject_in (map column_from cells) a ≡ Some s → is_fine (column_fault names s.column f v) ≡ true
   unfolding test_as
-  fine_of {s} e = ap is_fine (sym (ap (λ o. (test_of names v o (some f)).fault) e ∙ test_by_lem names v s f)) ∙ h
+  fine_of {s} e = ap is_fine (sym (ap (λ o. (test_of names v o (Some f)).fault) e ∙ test_by_lem names v s f)) ∙ h
 
-  got_of : {s : Subject} (e : subject_in (map column_from cells) a ≡ some s)
-      → (test_as names (map column_from cells) a (some f) v).got ≡ record { place = s.place; base = s.column.base; function = f; atoms = atoms_as names s.column.base v }
+  got_of : {s : Subject} (e : subject_in (map column_from cells) a ≡ Some s)
+      → (test_as names (map column_from cells) a (Some f) v).got ≡ record { place = s.place; base = s.column.base; function = f; atoms = atoms_as names s.column.base v }
   unfolding test_as
-  got_of {s} e = ap (λ o. (test_of names v o (some f)).got) e ∙ test_got names s.column f v (fine_of e) s refl
+  got_of {s} e = ap (λ o. (test_of names v o (Some f)).got) e ∙ test_got names s.column f v (fine_of e) s refl
 
-  module _ {n : Named} (p : About cells n (subject_in (map column_from cells) a)) where
-    module _ {k : ℕ} (e : n ≡ named.Column k) where
-      about : (k < length cells) × (subject_in (map column_from cells) a ≡ some (record { place = some k; column = column_from (get_or cells k []) }))
+  module _ {n : Option Place} (p : About cells n (subject_in (map column_from cells) a)) where
+    module _ {k : ℕ} (e : n ≡ Some (place.Column k)) where
+      about : (k < length cells) × (subject_in (map column_from cells) a ≡ Some (record { place = Some k; column = column_from (get_or cells k []) }))
       unfolding About
       about = subst (λ n. About cells n (subject_in (map column_from cells) a)) e p
 
@@ -77,17 +77,17 @@ module _ (names : Names) (cells : List (List ℕ)) (a : Json) (f : Function) (v 
       column_within = about.0
 
       pub column_says : (row : List (List ℕ)) {r : Bool} {kind : ℕ} → kind ≡ get_or (get_or cells k []) 25 0 → r ≡ compare f (base_numbered kind) (elements (value_in k row)) (atoms_as names (base_numbered kind) v)
-          → (s : Schema) → columns_of s (table_in row) ≡ map column_from cells → r ≡ holds (row_from s row) (test_as names (map column_from cells) a (some f) v).got
+          → (s : Schema) → columns_of s (table_in row) ≡ map column_from cells → r ≡ holds (row_from s row) (test_as names (map column_from cells) a (Some f) v).got
       column_says row {r} {kind} same q = λ s w.
           let b = base_numbered (get_or (get_or cells k []) 25 0) in
           let l : k < length (columns_of s (table_in row)) = omega (arith, about.0, ap length w, length-map cells column_from) in
           q ∙ ap (λ (i : ℕ). compare f (base_numbered i) (elements (value_in k row)) (atoms_as names (base_numbered i) v)) same ∙ ap (λ x. compare f b (elements x) (atoms_as names b v)) (sym (column_value_lem s row k l)) ∙ ap (holds (row_from s row)) (sym (got_of about.1))
 
-    module _ (e : n ≡ named.Id) where
-      own : subject_in (map column_from cells) a ≡ some (record { place = none; column = id_column })
+    module _ (e : n ≡ Some place.Id) where
+      own : subject_in (map column_from cells) a ≡ Some (record { place = None; column = id_column })
       unfolding About
       own = subst (λ n. About cells n (subject_in (map column_from cells) a)) e p
 
       pub id_says : (row : List (List ℕ)) {r : Bool} → r ≡ compare f uuid (uuid_atom (id_in row) ∷ []) (atoms_as names uuid v)
-          → (s : Schema) → columns_of s (table_in row) ≡ map column_from cells → r ≡ holds (row_from s row) (test_as names (map column_from cells) a (some f) v).got
+          → (s : Schema) → columns_of s (table_in row) ≡ map column_from cells → r ≡ holds (row_from s row) (test_as names (map column_from cells) a (Some f) v).got
       id_says row {r} q = λ s w. q ∙ ap (λ i. compare f uuid (uuid_atom i ∷ []) (atoms_as names uuid v)) (sym (row_id s row)) ∙ ap (holds (row_from s row)) (sym (got_of own))

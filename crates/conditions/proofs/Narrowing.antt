@@ -1,8 +1,9 @@
 -- What conditions come to: their faults, and the marks that they leave. Assumes nothing.
+use Rattle.std.specs.Prelude.{Option}
+use Rattle.std.specs.Prelude.{Some}
 use mathlib.Core.Path.{◌≡◌, refl, sym, ap, subst, ◌∙◌}
 use mathlib.Core.Bool.{Bool, true, false, ◌&&◌}
 use mathlib.Core.List.{List, [], ◌∷◌, map}
-use mathlib.Core.Option.{some}
 use Prim.Native.Nat.{ℕ, zero, suc, ◌≤◌, ◌<◌}
 use native.Mathlib.Omega.{arith}
 use lib.Dec.{eqb}
@@ -32,8 +33,6 @@ use Rattle.marks.specs.declared.Place.TheVariants as place
 use Rattle.marks.specs.Marks.{kept_as, met, atoms_at, OfTable, Narrowed, MarkedRows}
 use Rattle.marks.proofs.Atoms.{and_true}
 use Rattle.marks.proofs.Meeting.{three, narrowed_as, met_kept}
-use Rattle.conditions.specs.declared.Named.{Named}
-use Rattle.conditions.specs.declared.Named.TheVariants as named
 use Rattle.conditions.specs.Tests.{About, subject_in, column_fault, test_as, fits, KeptAs, Beyond, ValueNarrowed, TestNarrowed}
 use Rattle.conditions.proofs.Faulty.{fault_allowed, fault_not, column_judged, id_judged}
 use Rattle.conditions.proofs.Holding.{ordered, column_says, id_says}
@@ -123,9 +122,9 @@ module _ (cs : List Column) {t : Judged Test} (rows : List (List (List ℕ))) (b
   pub narrowed_none : t ≡ no_test → TestNarrowed cs t Syntax rows before before
   narrowed_none e = record { fault = sym (ap (λ (x : Judged Test). x.fault) e); marks = λ h. absurd (clash (is_fine t.fault) h (ap (λ (x : Judged Test). is_fine x.fault) e)); still = λ h. refl }
 
-module _ (names : Names) (cells : List (List ℕ)) (a v : Json) (f : Function) {t : Judged Test} (e : t ≡ test_as names (map column_from cells) a (some f) v) where
+module _ (names : Names) (cells : List (List ℕ)) (a v : Json) (f : Function) {t : Judged Test} (e : t ≡ test_as names (map column_from cells) a (Some f) v) where
   abbrev of : Judged Test
-  of = test_as names (map column_from cells) a (some f) v
+  of = test_as names (map column_from cells) a (Some f) v
 
   fine_of : is_fine t.fault ≡ true → is_fine of.fault ≡ true
   fine_of h = ap (λ (x : Judged Test). is_fine x.fault) (sym e) ∙ h
@@ -133,7 +132,7 @@ module _ (names : Names) (cells : List (List ℕ)) (a v : Json) (f : Function) {
   got_of : (s : Schema) (row : List (List ℕ)) → holds (row_from s row) of.got ≡ holds (row_from s row) t.got
   got_of s row = ap (λ (x : Judged Test). holds (row_from s row) x.got) (sym e)
 
-  pub narrowed_column : {n : Named} {k : ℕ} {r : Fault} {rows : List (List (List ℕ))} {before after : List Bool} → About cells n (subject_in (map column_from cells) a) → n ≡ named.Column k
+  pub narrowed_column : {n : Option Place} {k : ℕ} {r : Fault} {rows : List (List (List ℕ))} {before after : List Bool} → About cells n (subject_in (map column_from cells) a) → n ≡ Some (place.Column k)
       → ValueNarrowed names (column_from (get_or cells k [])) (place.Column k) f v r rows before after → TestNarrowed (map column_from cells) t r rows before after
   unfolding atoms_at
   narrowed_column {k = k} p q g =
@@ -145,7 +144,7 @@ module _ (names : Names) (cells : List (List ℕ)) (a v : Json) (f : Function) {
         still = λ h. g.still (ap is_fine (sym z) ∙ h);
       }
 
-  pub narrowed_id : {n : Named} {d : Column} {r : Fault} {rows : List (List (List ℕ))} {before after : List Bool} → About cells n (subject_in (map column_from cells) a) → n ≡ named.Id
+  pub narrowed_id : {n : Option Place} {d : Column} {r : Fault} {rows : List (List (List ℕ))} {before after : List Bool} → About cells n (subject_in (map column_from cells) a) → n ≡ Some place.Id
       → d ≡ id_column → ValueNarrowed names d place.Id f v r rows before after → TestNarrowed (map column_from cells) t r rows before after
   unfolding atoms_at
   narrowed_id {r = r} {rows = rows} {before = before} {after = after} p q d h =

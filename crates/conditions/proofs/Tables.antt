@@ -9,7 +9,6 @@ use Rattle.model.specs.Base.{place_of}
 use Rattle.model.specs.Json.{Json, null, bool, num, str, arr, obj}
 use Rattle.model.specs.Schema.{Table}
 use Rattle.model.specs.Catalog.{entry_name, column_from, table_from, tables_from, packed_tables}
-use Rattle.catalog.specs.Entries.{found_at}
 use Rattle.conditions.specs.Lookup.{column_in, table_in}
 use Rattle.catalog.proofs.Lookups.{cells_names}
 
@@ -22,12 +21,12 @@ names_are cells t (suc k) h =
     ap (λ (l : List (List ℕ)). map entry_name (take (suc k) l)) (drop-cons cells (1 + t) [] (omega arith) ∙ ap (λ (m : ℕ). get_or cells (1 + t) [] ∷ drop m cells) z)
     ∙ ap (λ (l : List (List ℕ)). entry_name (get_or cells (1 + t) []) ∷ l) (names_are cells (suc t) k (omega arith))
 
-pub table_named_lem : (cells : List (List ℕ)) (n : ℕ) → n ≡ get_or (get_or cells 0 []) 25 0 → 1 + n ≤ length cells → (j : Json) → found_at (column_in (map column_from (take n (drop 1 cells))) j) ≡ found_at (table_in (packed_tables cells) j)
+pub table_named_lem : (cells : List (List ℕ)) (n : ℕ) → n ≡ get_or (get_or cells 0 []) 25 0 → 1 + n ≤ length cells → (j : Json) → (column_in (map column_from (take n (drop 1 cells))) j) ≡ (table_in (packed_tables cells) j)
 table_named_lem cells n e h null = refl
 table_named_lem cells n e h (bool b) = refl
 table_named_lem cells n e h (num t) = refl
 table_named_lem cells n e h (str t) =
-    ap (λ (l : List (List ℕ)). found_at (place_of t l)) (sym (cells_names (take n (drop 1 cells))) ∙ names_are cells 0 n (omega arith))
-    ∙ ap (λ (k : ℕ). found_at (place_of t (map (λ (x : Table). x.name) (tables_from cells 0 k)))) e
+    ap (λ (l : List (List ℕ)). (place_of t l)) (sym (cells_names (take n (drop 1 cells))) ∙ names_are cells 0 n (omega arith))
+    ∙ ap (λ (k : ℕ). (place_of t (map (λ (x : Table). x.name) (tables_from cells 0 k)))) e
 table_named_lem cells n e h (arr xs) = refl
 table_named_lem cells n e h (obj ms) = refl

@@ -1,6 +1,6 @@
 -- Conditions by places of the text. Assumes nothing: these are definitions.
-use Rattle.std.specs.Prelude.{ℕ, ◌<◌, ◌≡◌, Bool, true, false, not, ◌&&◌, List, [], map, eqb, leb, length, get_or, take, if◌then◌else◌}
-use Rattle.std.proofs.Math.Option.{Option, none, some}
+use Rattle.marks.specs.declared.Place.TheVariants as place
+use Rattle.std.specs.Prelude.{ℕ, ◌<◌, ◌≡◌, Bool, true, false, not, ◌&&◌, List, [], map, eqb, leb, length, get_or, take, if◌then◌else◌, Option, Some, None}
 use Rattle.model.specs.Limits.{most_elements}
 use Rattle.model.specs.Base.{any}
 use Rattle.model.specs.Json.{Json}
@@ -13,7 +13,6 @@ use Rattle.model.specs.Areas.{row_from}
 use Rattle.inner.specs.Working.{table_in}
 use Rattle.model.specs.Conditions.{Subject, id_column, subject_named, function_named, orders, allowed, Test, test_of, read_test, read_tests, compare, holds}
 use Rattle.model.specs.Catalog.{column_from}
-use Rattle.model.specs.declared.Found.{Found}
 use Rattle.model.specs.declared.Fault.{Fault}
 use Rattle.model.specs.declared.Fault.TheVariants.{Syntax}
 use Rattle.model.specs.declared.Function.{Function}
@@ -22,43 +21,35 @@ use Rattle.uuids.specs.Named.{names_at}
 use Rattle.request_values.specs.Values.{atoms_as}
 use Rattle.marks.specs.declared.Place.{Place}
 use Rattle.marks.specs.Marks.{kept_as, atoms_at, OfTable, Narrowed, MarkedRows}
-use Rattle.conditions.specs.declared.Choice.{Choice}
-use Rattle.conditions.specs.declared.Choice.TheVariants.{Of, Nothing}
-use Rattle.conditions.specs.declared.Named.{Named}
-use Rattle.conditions.specs.declared.Named.TheVariants as named
 
 -- ── functions ──
-unfoldable pub chosen : Choice → Option Function
-chosen (Of f) = some f
-chosen Nothing = none
-
 -- by their numbers, in the order of RFC 7047
-unfoldable pub function_by : ℕ → Choice
+unfoldable pub function_by : ℕ → Option Function
 function_by k =
-    if eqb k 0 then Of Less
-    else if eqb k 1 then Of AtMost
-    else if eqb k 2 then Of Equal
-    else if eqb k 3 then Of Unequal
-    else if eqb k 4 then Of AtLeast
-    else if eqb k 5 then Of Greater
-    else if eqb k 6 then Of Includes
-    else if eqb k 7 then Of Excludes
-    else Nothing
+    if eqb k 0 then Some Less
+    else if eqb k 1 then Some AtMost
+    else if eqb k 2 then Some Equal
+    else if eqb k 3 then Some Unequal
+    else if eqb k 4 then Some AtLeast
+    else if eqb k 5 then Some Greater
+    else if eqb k 6 then Some Includes
+    else if eqb k 7 then Some Excludes
+    else None
 
 -- the function that a value names
 unfoldable pub function_in : Json → Option Function
-function_in j = elim (string_in j) [ none ↦ none | some w ↦ function_named w ]
+function_in j = elim (string_in j) [ None ↦ None | Some w ↦ function_named w ]
 
 -- ── subjects ──
 -- the subject that a value names
 unfoldable pub subject_in : List Column → Json → Option Subject
-subject_in cs j = elim (string_in j) [ none ↦ none | some w ↦ subject_named cs w ]
+subject_in cs j = elim (string_in j) [ None ↦ None | Some w ↦ subject_named cs w ]
 
 -- what a name stands for, of columns in cells
-unfoldable pub About : List (List ℕ) → Named → Option Subject → Type 0
-About cells (named.Column k) o = (k < length cells) × (o ≡ some (record { place = some k; column = column_from (get_or cells k []) }))
-About cells named.Id o = o ≡ some (record { place = none; column = id_column })
-About cells named.Nothing o = o ≡ none
+unfoldable pub About : List (List ℕ) → Option Place → Option Subject → Type 0
+About cells (Some (place.Column k)) o = (k < length cells) × (o ≡ Some (record { place = Some k; column = column_from (get_or cells k []) }))
+About cells (Some place.Id) o = o ≡ Some (record { place = None; column = id_column })
+About cells None o = o ≡ None
 
 -- ── conditions ──
 -- how one on a column is judged
@@ -74,7 +65,7 @@ unfoldable pub test_at : List ℕ → List ℕ → List (List ℕ) → ℕ → J
 test_at text names columns at = read_test (names_at text names) (map column_from columns) (tree_at text at)
 
 -- those from a place on
-unfoldable pub tests_at : List ℕ → List ℕ → List (List ℕ) → Found → Judged (List Test)
+unfoldable pub tests_at : List ℕ → List ℕ → List (List ℕ) → Option ℕ → Judged (List Test)
 tests_at text names columns f = read_tests (names_at text names) (map column_from columns) (items_from text f)
 
 -- ── marks ──

@@ -12,64 +12,35 @@ ghost use Rattle.uuids.specs.Named.{names_at, Running};
 ghost use Rattle.element_atoms.specs.Atoms.{atom_as};
 ghost use Rattle.request_values.specs.Values.{atoms_as};
 ghost use Rattle.marks.specs.Marks.{every, InRow, atoms_at, Narrowed};
-ghost use Rattle.conditions.specs.Tests.{chosen, function_by, function_in, About, subject_in, test_at, tests_at, KeptAs, storing, Beyond, ValueNarrowed, TestNarrowed, TestsNarrowed};
+ghost use Rattle.conditions.specs.Tests.{function_by, function_in, About, subject_in, test_at, tests_at, KeptAs, storing, Beyond, ValueNarrowed, TestNarrowed, TestsNarrowed};
 
-use lookup::Triple;
 use marks::Place;
-use model::{ATOM, Atoms, ELEMENTS, Entry, Fault, Found, Function, ROWS, Row};
+use model::{ATOM, Atoms, ELEMENTS, Entry, Fault, Function, ROWS, Row};
 
 // The base type of an id, by its number.
 const UUID: u8 = 3;
 
-// The function that a word is, or that it is none.
-#[derive(Clone, Copy)]
-pub enum Choice {
-    Of(Function),
-    Nothing,
-}
-
-// What a string names: a column by its place, the row's id, or nothing.
-#[derive(Clone, Copy)]
-pub enum Named {
-    Column(usize),
-    Id,
-    Nothing,
-}
-
 // The function of a number.
-fn function_of(k: usize) -> Choice
+#[tactic(auto, unfolding(crate::specs::Tests::function_by))]
+fn function_of(k: usize) -> Option<Function>
     ensures { result ≡ function_by k }
 {
-    if k == 0 {
-        return Choice::Of(Function::Less);
+    match k {
+        0 => Some(Function::Less),
+        1 => Some(Function::AtMost),
+        2 => Some(Function::Equal),
+        3 => Some(Function::Unequal),
+        4 => Some(Function::AtLeast),
+        5 => Some(Function::Greater),
+        6 => Some(Function::Includes),
+        7 => Some(Function::Excludes),
+        _ => None,
     }
-    if k == 1 {
-        return Choice::Of(Function::AtMost);
-    }
-    if k == 2 {
-        return Choice::Of(Function::Equal);
-    }
-    if k == 3 {
-        return Choice::Of(Function::Unequal);
-    }
-    if k == 4 {
-        return Choice::Of(Function::AtLeast);
-    }
-    if k == 5 {
-        return Choice::Of(Function::Greater);
-    }
-    if k == 6 {
-        return Choice::Of(Function::Includes);
-    }
-    if k == 7 {
-        return Choice::Of(Function::Excludes);
-    }
-    Choice::Nothing
 }
 
 // The function that the value at `at` names.
-fn function_at(text: &[u8], at: usize) -> Choice
-    ensures { function_in (tree_at text.now at) ≡ chosen result }
+fn function_at(text: &[u8], at: usize) -> Option<Function>
+    ensures { function_in (tree_at text.now at) ≡ result }
 {
     let k = members::choose(
         text,
@@ -80,17 +51,17 @@ fn function_at(text: &[u8], at: usize) -> Choice
 }
 
 // What the value at `at` names.
-fn subject_at(text: &[u8], at: usize, columns: &[Entry]) -> Named
+fn subject_at(text: &[u8], at: usize, columns: &[Entry]) -> Option<Place>
     ensures { About columns.now result (subject_in (map column_from columns.now) (tree_at text.now at)) }
 {
     let own = text::is_word(text, at, b"_uuid");
     if own {
-        return Named::Id;
+        return Some(Place::Id);
     }
     let f = lookup::column_at(text, at, columns);
     match f {
-        Found::At(i) => Named::Column(i),
-        Found::Nothing => Named::Nothing,
+        Some(i) => Some(Place::Column(i)),
+        None => None,
     }
 }
 
@@ -98,27 +69,17 @@ fn subject_at(text: &[u8], at: usize, columns: &[Entry]) -> Named
 fn orders(f: Function) -> bool
     ensures { result ≡ orders f }
 {
-    match f {
-        Function::Less => true,
-        Function::AtMost => true,
-        Function::Equal => false,
-        Function::Unequal => false,
-        Function::AtLeast => true,
-        Function::Greater => true,
-        Function::Includes => false,
-        Function::Excludes => false,
-    }
+    matches!(
+        f,
+        Function::Less | Function::AtMost | Function::AtLeast | Function::Greater
+    )
 }
 
 // Whether a column takes a function.
 fn is_allowed(column: &Entry, f: Function) -> bool
     ensures { result ≡ allowed (column_from column.now) f }
 {
-    let o = orders(f);
-    if o {
-        return (catalog::kind(column) == 0) & catalog::is_scalar(column);
-    }
-    true
+    !orders(f) || (catalog::kind(column) == 0 && catalog::is_scalar(column))
 }
 
 // A condition as read, but for its elements: what it is about, of which base type, and its function.
@@ -135,25 +96,21 @@ fn kept(f: Function, kind: u8, atoms: Atoms, n: usize) -> Atoms
     ensures { KeptAs f (base_numbered kind) n atoms result }
 {
     match f {
-        Function::Less => atoms,
-        Function::AtMost => atoms,
-        Function::Equal => value::sort(kind, atoms, n),
-        Function::Unequal => value::sort(kind, atoms, n),
-        Function::AtLeast => atoms,
-        Function::Greater => atoms,
-        Function::Includes => atoms,
-        Function::Excludes => atoms,
+        Function::Equal | Function::Unequal => value::sort(kind, atoms, n),
+        _ => atoms,
     }
 }
 
 // The function by which each element is to be stored, or none.
+#[tactic(auto, unfolding(crate::specs::Tests::storing))]
 fn storing(stored: bool) -> Function
     ensures { result ≡ storing stored }
 {
     if stored {
-        return Function::Includes;
+        Function::Includes
+    } else {
+        Function::Excludes
     }
-    Function::Excludes
 }
 
 // The marks narrowed by one element of a condition, at `at`, which is to be stored or not; a string above 24 bytes is not.
@@ -177,14 +134,9 @@ fn narrow_element(
     let f = storing(stored);
     let a = element_atoms::atom_at(text, ends, names, test.kind, at, &mut cell);
     match a {
-        element_atoms::Atom::Wrong => {
-            let one = [cell];
-            marks::narrow(place, f, &one, rows, marks);
-        }
         element_atoms::Atom::Long => marks::narrow_all(place, !stored, rows, marks),
-        element_atoms::Atom::Fits => {
-            let one = [cell];
-            marks::narrow(place, f, &one, rows, marks);
+        element_atoms::Atom::Wrong | element_atoms::Atom::Fits => {
+            marks::narrow(place, f, &[cell], rows, marks)
         }
     }
 }
@@ -208,14 +160,9 @@ fn narrow_each(
     let e = elements::elements_at(text, ends, at);
     let set = e.set;
     let mut g = e.first;
-    loop {
-        match g {
-            Found::At(p) => {
-                narrow_element(text, ends, names, test, stored, p, rows, marks);
-                g = elements::next_element(text, ends, p, set);
-            }
-            Found::Nothing => return,
-        }
+    while let Some(p) = g {
+        narrow_element(text, ends, names, test, stored, p, rows, marks);
+        g = elements::next_element(text, ends, p, set);
     }
 }
 
@@ -235,17 +182,12 @@ fn narrow_beyond(
     requires beyond { Beyond (names_at text.now names.now) (base_numbered test.kind) test.function (tree_at text.now at) }
     ensures { Narrowed (λ row. compare test.function (base_numbered test.kind) (atoms_at test.place row) (atoms_as (names_at text.now names.now) (base_numbered test.kind) (tree_at text.now at))) rows.now marks.old marks.new }
 {
-    let place = test.place;
-    let f = test.function;
-    match f {
-        Function::Less => {}
-        Function::AtMost => {}
-        Function::Equal => marks::narrow_all(place, false, rows, marks),
-        Function::Unequal => marks::narrow_all(place, true, rows, marks),
-        Function::AtLeast => {}
-        Function::Greater => {}
-        Function::Includes => { narrow_each(text, ends, names, test, true, at, rows, marks) }
-        Function::Excludes => { narrow_each(text, ends, names, test, false, at, rows, marks) }
+    match test.function {
+        Function::Equal => marks::narrow_all(test.place, false, rows, marks),
+        Function::Unequal => marks::narrow_all(test.place, true, rows, marks),
+        Function::Includes => narrow_each(text, ends, names, test, true, at, rows, marks),
+        Function::Excludes => narrow_each(text, ends, names, test, false, at, rows, marks),
+        Function::Less | Function::AtMost | Function::AtLeast | Function::Greater => {}
     }
 }
 
@@ -304,16 +246,19 @@ fn narrow_by(
     ensures { TestNarrowed (map column_from columns.now) (test_at text.now names.now columns.now at) result rows.now marks.old marks.new }
 {
     let t = lookup::triple_at(text, ends, at);
-    let Triple::Of(a, b, v) = t else {
+    let Some((a, b, v)) = t else {
         return Fault::Syntax;
     };
     let w = function_at(text, b);
-    let Choice::Of(f) = w else {
+    let Some(f) = w else {
         return Fault::Syntax;
     };
     let n = subject_at(text, a, columns);
-    match n {
-        Named::Column(i) => {
+    let Some(place) = n else {
+        return Fault::Syntax;
+    };
+    match place {
+        Place::Column(i) => {
             let kind = catalog::kind(&columns[i]);
             let test = Test {
                 place: Place::Column(i),
@@ -322,7 +267,7 @@ fn narrow_by(
             };
             narrow_value(text, ends, names, &columns[i], test, v, rows, marks)
         }
-        Named::Id => {
+        Place::Id => {
             let cell = catalog::id_column();
             let test = Test {
                 place: Place::Id,
@@ -331,7 +276,6 @@ fn narrow_by(
             };
             narrow_value(text, ends, names, &cell, test, v, rows, marks)
         }
-        Named::Nothing => Fault::Syntax,
     }
 }
 
@@ -341,7 +285,7 @@ pub fn mark_rows(
     ends: &[u16],
     names: &[u8],
     columns: &[Entry],
-    f: Found,
+    f: Option<usize>,
     rows: &[Row],
     marks: &mut [bool; ROWS],
 ) -> Fault
@@ -352,14 +296,10 @@ pub fn mark_rows(
 {
     let mut g = f;
     let mut w = Fault::Fine;
-    loop {
-        match g {
-            Found::At(p) => {
-                let t = narrow_by(text, ends, names, columns, p, rows, marks);
-                w = leaf::earlier(w, t);
-                g = nav::next_item(text, ends, p);
-            }
-            Found::Nothing => return w,
-        }
+    while let Some(p) = g {
+        let t = narrow_by(text, ends, names, columns, p, rows, marks);
+        w = leaf::earlier(w, t);
+        g = nav::next_item(text, ends, p);
     }
+    w
 }

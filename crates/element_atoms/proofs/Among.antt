@@ -1,12 +1,11 @@
 -- A test of each element, from a place on. Assumes nothing.
+use Rattle.std.specs.Prelude.{Option, Some, None}
 use mathlib.Core.Path.{◌≡◌, refl, ap, ◌∙◌}
 use mathlib.Core.Bool.{Bool, true, false, ◌||◌}
 use mathlib.Core.List.{List, [], ◌∷◌}
 use Prim.Native.Nat.{ℕ, ◌<◌}
 use native.Mathlib.Omega.{arith}
 use lib.ListN.{length, length-append}
-use Rattle.model.specs.declared.Found.{Found}
-use Rattle.model.specs.declared.Found.TheVariants.{At, Nothing}
 use Rattle.model.specs.Octets.{eq_bytes}
 use Rattle.model.specs.Base.{any, member}
 use Rattle.model.specs.Json.{Json, null, bool, num, str, arr, obj}
@@ -22,11 +21,11 @@ use Rattle.element_atoms.specs.Atoms.{cell_of, atom_as, atoms_of}
 use Rattle.element_atoms.proofs.Reading.{text_eq}
 
 -- a turn of a walk that looks for one
-module _ (s : List ℕ) (set : Bool) (q : Json → Bool) {g : Found} where
-  pub any_end : g ≡ Nothing → any q (elements_from s set g) ≡ false
+module _ (s : List ℕ) (set : Bool) (q : Json → Bool) {g : Option ℕ} where
+  pub any_end : g ≡ None → any q (elements_from s set g) ≡ false
   any_end h = ap (any q) (walk_end s set h)
 
-  module _ {p : ℕ} (h : g ≡ At p) where
+  module _ {p : ℕ} (h : g ≡ Some p) where
     any_by : {b : Bool} → q (tree_at s p) ≡ b → any q (elements_from s set g) ≡ (b || any q (elements_from s set (next_element s set p)))
     any_by t = ap (any q) (walk_rest s set h) ∙ ap (λ b. b || any q (elements_from s set (next_element s set p))) t
 

@@ -1,8 +1,9 @@
 -- An element read as an atom, by its base type. Assumes nothing.
+use Rattle.std.specs.Prelude.{Option, Some, None}
 use mathlib.Core.Path.{◌≡◌, refl, sym, ap, subst, ◌∙◌}
 use mathlib.Core.Bool.{Bool, true, false}
 use mathlib.Core.List.{List, ◌∷◌}
-use mathlib.Core.Option.{Option, none, some}
+use mathlib.Core.Logic.{◌⊎◌, inl, inr}
 use Prim.Native.Nat.{ℕ, zero, suc, ◌+◌, ◌-◌, ◌<◌}
 use native.Mathlib.Omega.{arith}
 use lib.ListN.{length, drop, replicate, length-append, length-replicate}
@@ -30,17 +31,17 @@ use Rattle.element_atoms.specs.Atoms.{integer_in, boolean_in, TextReads, cell_of
 
 -- ── integers and truth values ──
 module _ (j : Json) {w : Whole} (e : w ≡ whole_of j) where
-  integer_by : {b : Bool} → is_whole w ≡ b → integer_in j ≡ elim b [ true ↦ some (int_atom (whole_int (whole_of j))) | false ↦ none ]
+  integer_by : {b : Bool} → is_whole w ≡ b → integer_in j ≡ elim b [ true ↦ Some (int_atom (whole_int (whole_of j))) | false ↦ None ]
   unfolding integer_in
-  integer_by h = ap (λ (b : Bool). elim b [ true ↦ some (int_atom (whole_int (whole_of j))) | false ↦ none ]) (ap is_whole (sym e) ∙ h)
+  integer_by h = ap (λ (b : Bool). elim b [ true ↦ Some (int_atom (whole_int (whole_of j))) | false ↦ None ]) (ap is_whole (sym e) ∙ h)
 
-  pub integer_some : is_whole w ≡ true → {x : ℕ} → x ≡ twos 64 (whole_int w) → integer_in j ≡ some (pad (big 8 x))
-  integer_some h q = integer_by h ∙ ap (λ z. some (pad (big 8 z))) (ap (λ v. twos 64 (whole_int v)) (sym e) ∙ sym q)
+  pub integer_some : is_whole w ≡ true → {x : ℕ} → x ≡ twos 64 (whole_int w) → integer_in j ≡ Some (pad (big 8 x))
+  integer_some h q = integer_by h ∙ ap (λ z. Some (pad (big 8 z))) (ap (λ v. twos 64 (whole_int v)) (sym e) ∙ sym q)
 
-  pub integer_none : is_whole w ≡ false → integer_in j ≡ none
+  pub integer_none : is_whole w ≡ false → integer_in j ≡ None
   integer_none h = integer_by h
 
-is_truth_lem : (j : Json) → is_truth (kind_of j) ≡ true → bool_in j ≡ some (is_true j)
+is_truth_lem : (j : Json) → is_truth (kind_of j) ≡ true → bool_in j ≡ Some (is_true j)
 unfolding kind_of is_true
 is_truth_lem null h = cc
 is_truth_lem (bool b) h = refl
@@ -49,7 +50,7 @@ is_truth_lem (str t) h = cc
 is_truth_lem (arr xs) h = cc
 is_truth_lem (obj ms) h = cc
 
-no_truth : (j : Json) → is_truth (kind_of j) ≡ false → bool_in j ≡ none
+no_truth : (j : Json) → is_truth (kind_of j) ≡ false → bool_in j ≡ None
 unfolding kind_of
 no_truth null h = refl
 no_truth (bool b) h = cc
@@ -59,13 +60,13 @@ no_truth (arr xs) h = refl
 no_truth (obj ms) h = refl
 
 abbrev truth_atom : Option Bool → Option (List ℕ)
-truth_atom o = elim o [ none ↦ none | some b ↦ some (bool_atom b) ]
+truth_atom o = elim o [ None ↦ None | Some b ↦ Some (bool_atom b) ]
 
-pub boolean_some : (j : Json) → is_truth (kind_of j) ≡ true → boolean_in j ≡ some (bool_atom (is_true j))
+pub boolean_some : (j : Json) → is_truth (kind_of j) ≡ true → boolean_in j ≡ Some (bool_atom (is_true j))
 unfolding boolean_in
 boolean_some j h = ap truth_atom (is_truth_lem j h)
 
-pub boolean_none : (j : Json) → is_truth (kind_of j) ≡ false → boolean_in j ≡ none
+pub boolean_none : (j : Json) → is_truth (kind_of j) ≡ false → boolean_in j ≡ None
 unfolding boolean_in
 boolean_none j h = ap truth_atom (no_truth j h)
 
@@ -83,12 +84,12 @@ zeros_from (suc k) zero = nones 0 (0 - suc k) (omega arith)
 zeros_from (suc k) (suc n) = zeros_from k n ∙ nones (n - k) (suc n - suc k) (omega arith)
 
 abbrev string_atom : Option (List ℕ) → Option (List ℕ)
-string_atom o = elim o [ none ↦ none | some t ↦ some (text_atom t) ]
+string_atom o = elim o [ None ↦ None | Some t ↦ Some (text_atom t) ]
 
-text_some : (names : Names) (j : Json) → is_text (kind_of j) ≡ true → atom_in names text j ≡ some (text_atom (string j))
+text_some : (names : Names) (j : Json) → is_text (kind_of j) ≡ true → atom_in names text j ≡ Some (text_atom (string j))
 text_some names j h = ap string_atom (some_string j h)
 
-text_none : (names : Names) (j : Json) → is_text (kind_of j) ≡ false → atom_in names text j ≡ none
+text_none : (names : Names) (j : Json) → is_text (kind_of j) ≡ false → atom_in names text j ≡ None
 text_none names j h = ap string_atom (no_string j h)
 
 -- ── what was read ──
@@ -105,20 +106,20 @@ short_blank uuid = refl
 
 module _ (names : Names) (j : Json) where
   module _ (k : Base) (cell out : List ℕ) (r : Atom) where
-    pub reads_wrong : atom_in names k j ≡ none → FitsIf false cell r out → Reads names k j r out
+    pub reads_wrong : atom_in names k j ≡ None → FitsIf false cell r out → Reads names k j r out
     unfolding Reads FitsIf
     reads_wrong e p = subst (λ x. Reads names k j x out) (sym p.0) (e, p.1)
 
     pub reads_fits_if : ((a : List ℕ) → long_atom k a ≡ false) → {before : List ℕ} (ok : Bool) → Answered (atom_in names k j) before ok cell → FitsIf ok cell r out → Reads names k j r out
     unfolding Reads FitsIf
-    reads_fits_if s true e p = subst (λ x. Reads names k j x out) (sym p.0) (answered_some (atom_in names k j) e ∙ ap some (sym p.1), s out)
+    reads_fits_if s true e p = subst (λ x. Reads names k j x out) (sym p.0) (answered_some (atom_in names k j) e ∙ ap Some (sym p.1), s out)
     reads_fits_if s false e p = reads_wrong (answered_none (atom_in names k j) e) p
 
   module _ (out : List ℕ) where
     pub reads_text : (r : Atom) → TextReads j r out → Reads names text j r out
     unfolding Reads TextReads
     reads_text Wrong p = (text_none names j p.0, p.1)
-    reads_text Fits p = (text_some names j p.0 ∙ ap some (sym p.1), ap (long_atom text) p.1 ∙ le-ltb 24 (length (string j)) (omega (arith, p.2)))
+    reads_text Fits p = (text_some names j p.0 ∙ ap Some (sym p.1), ap (long_atom text) p.1 ∙ le-ltb 24 (length (string j)) (omega (arith, p.2)))
     reads_text Long p = (refl, p.0, p.1, p.2)
 
   -- ── compared with an atom of 25 bytes ──
@@ -138,6 +139,11 @@ module _ (names : Names) (j : Json) where
     pub fits_short : Reads names k j Fits out → long_atom k (atom_as names k j) ≡ false
     unfolding Reads
     fits_short p = ap (long_atom k) (fits_cell p) ∙ p.1
+
+    -- the same of both
+    pub short_cell : {r : Atom} → (r ≡ Wrong) ⊎ (r ≡ Fits) → Reads names k j r out → (atom_as names k j ≡ out) × (long_atom k (atom_as names k j) ≡ false)
+    short_cell (inl e) p = let q = subst (λ x. Reads names k j x out) e p in (wrong_cell q, wrong_short q)
+    short_cell (inr e) p = let q = subst (λ x. Reads names k j x out) e p in (fits_cell q, fits_short q)
 
     pub long_cell : Reads names k j Long out → (atom_as names k j ≡ text_atom (string j)) × (24 < length (string j)) × (k ≡ text)
     unfolding Reads atom_as cell_of

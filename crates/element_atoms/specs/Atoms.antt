@@ -1,6 +1,5 @@
 -- The atom that an element as written stands for. Assumes nothing: these are definitions.
-use Rattle.std.specs.Prelude.{ℕ, ◌<◌, ◌≡◌, Bool, true, false, List, map, length}
-use Rattle.std.proofs.Math.Option.{Option, none, some}
+use Rattle.std.specs.Prelude.{ℕ, ◌<◌, ◌≡◌, Bool, true, false, List, map, length, Option, Some, None}
 use Rattle.model.specs.Limits.{most_text_bytes, atom_bytes}
 use Rattle.model.specs.Json.{Json}
 use Rattle.model.specs.Nav.{kind_of, is_text}
@@ -14,10 +13,10 @@ use Rattle.element_atoms.specs.declared.Atom.TheVariants.{Wrong, Long, Fits}
 
 -- an integer's atom, a truth value's
 unfoldable pub integer_in : Json → Option (List ℕ)
-integer_in j = elim (is_whole (whole_of j)) [ true ↦ some (int_atom (whole_int (whole_of j))) | false ↦ none ]
+integer_in j = elim (is_whole (whole_of j)) [ true ↦ Some (int_atom (whole_int (whole_of j))) | false ↦ None ]
 
 unfoldable pub boolean_in : Json → Option (List ℕ)
-boolean_in j = elim (bool_in j) [ none ↦ none | some b ↦ some (bool_atom b) ]
+boolean_in j = elim (bool_in j) [ None ↦ None | Some b ↦ Some (bool_atom b) ]
 
 -- what reading a string as an atom says: "a string above our limits" is none that fits, and leaves a blank atom
 unfoldable pub TextReads : Json → Atom → List ℕ → Type 0
@@ -27,8 +26,8 @@ TextReads j Long out = (is_text (kind_of j) ≡ true) × (most_text_bytes < leng
 
 -- the atom of an element, and the blank one where it is mistyped
 unfoldable pub cell_of : Option (List ℕ) → List ℕ
-cell_of none = blank
-cell_of (some a) = a
+cell_of None = blank
+cell_of (Some a) = a
 
 unfoldable pub atom_as : Names → Base → Json → List ℕ
 atom_as names k j = cell_of (atom_in names k j)
@@ -39,8 +38,8 @@ atoms_of names k js = map (atom_as names k) js
 
 -- what reading an element says: mistyped, a string that is too long, both with a blank atom, or an atom that fits 25 bytes
 unfoldable pub Reads : Names → Base → Json → Atom → List ℕ → Type 0
-Reads names k j Wrong out = (atom_in names k j ≡ none) × (out ≡ blank)
-Reads names k j Fits out = (atom_in names k j ≡ some out) × (long_atom k out ≡ false)
+Reads names k j Wrong out = (atom_in names k j ≡ None) × (out ≡ blank)
+Reads names k j Fits out = (atom_in names k j ≡ Some out) × (long_atom k out ≡ false)
 Reads names k j Long out = (k ≡ text) × (is_text (kind_of j) ≡ true) × (most_text_bytes < length (word_in j)) × (out ≡ blank)
 
 -- an atom left as it is where it was read, and a blank one where not

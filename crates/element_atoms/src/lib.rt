@@ -16,8 +16,7 @@ ghost use Rattle.elements.specs.Elements.{elements_from, elements_fine};
 ghost use Rattle.uuids.specs.Named.{names_at, Answered, Running};
 ghost use Rattle.element_atoms.specs.Atoms.{integer_in, boolean_in, TextReads, FitsIf, atom_as, atoms_of, Reads};
 
-use model::{Found, Kind, TEXT, Whole};
-use text::Written;
+use model::{Kind, TEXT, Whole};
 
 // What an element is as an atom of a base type: mistyped, a string above 24 bytes, or an atom of 25 bytes.
 #[derive(Clone, Copy)]
@@ -27,14 +26,11 @@ pub enum Atom {
     Fits,
 }
 
+#[tactic(auto, unfolding(model::specs::Whole::is_whole))]
 fn is_whole(w: Whole) -> bool
     ensures { result ≡ is_whole w }
 {
-    match w {
-        Whole::Plus(_) => true,
-        Whole::Minus(_) => true,
-        Whole::Other => false,
-    }
+    matches!(w, Whole::Plus(_) | Whole::Minus(_))
 }
 
 // The atom of 64 bits of two's complement.
@@ -102,17 +98,17 @@ fn text_at(text: &[u8], at: usize, out: &mut model::Atom) -> Atom
 {
     octets::clear(&mut out[..]);
     let f = text::body_at(text, at);
-    let Found::At(i) = f else {
+    let Some(i) = f else {
         return Atom::Wrong;
     };
     let mut buf = [0u8; TEXT];
     let w = text::decode(text, i, &mut buf);
     match w {
-        Written::To(n) => {
+        Some(n) => {
             put_text(&buf[..n], &mut out[..]);
             Atom::Fits
         }
-        Written::Full => Atom::Long,
+        None => Atom::Long,
     }
 }
 
@@ -140,18 +136,12 @@ pub fn atom_at(
     requires at_value { well_at text.now at ≡ true }
     ensures { Reads (names_at text.now names.now) (base_numbered kind) (tree_at text.now at) result out.new }
 {
-    if kind == 0 {
-        let ok = integer_at(text, ends, at, out);
-        return fits_if(ok, out);
-    }
-    if kind == 1 {
-        let ok = boolean_at(text, at, out);
-        return fits_if(ok, out);
-    }
-    if kind == 2 {
-        return text_at(text, at, out);
-    }
-    let ok = uuids::uuid_at(text, ends, names, at, out);
+    let ok = match kind {
+        0 => integer_at(text, ends, at, out),
+        1 => boolean_at(text, at, out),
+        2 => return text_at(text, at, out),
+        _ => uuids::uuid_at(text, ends, names, at, out),
+    };
     fits_if(ok, out)
 }
 
@@ -169,13 +159,10 @@ pub fn same_at(
     ensures value { result ≡ eq_bytes x.now (atom_as (names_at text.now names.now) (base_numbered kind) (tree_at text.now at)) }
     ensures at_value_2 { result ≡ true → long_atom (base_numbered kind) (atom_as (names_at text.now names.now) (base_numbered kind) (tree_at text.now at)) ≡ false }
 {
-    let y = &x[..];
     let mut cell = [0u8; model::ATOM];
-    let a = atom_at(text, ends, names, kind, at, &mut cell);
-    match a {
-        Atom::Wrong => atom::same(x, &cell),
-        Atom::Long => y.len() != model::ATOM,
-        Atom::Fits => atom::same(x, &cell),
+    match atom_at(text, ends, names, kind, at, &mut cell) {
+        Atom::Wrong | Atom::Fits => atom::same(x, &cell),
+        Atom::Long => false,
     }
 }
 
@@ -187,23 +174,19 @@ pub fn long_chars(text: &[u8], at: usize) -> usize
 }
 
 // Whether the string at `at` is among the elements from f on.
-pub fn long_among(text: &[u8], ends: &[u16], set: bool, f: Found, at: usize) -> bool
+pub fn long_among(text: &[u8], ends: &[u16], set: bool, f: Option<usize>, at: usize) -> bool
     requires { Says text.now ends.now }
     ensures { result ≡ any (is_word (word_in (tree_at text.now at))) (elements_from text.now set f) }
 {
     let mut g = f;
-    loop {
-        match g {
-            Found::At(p) => {
-                let same = text::same_strings(text, at, p);
-                if same {
-                    return true;
-                }
-                g = elements::next_element(text, ends, p, set);
-            }
-            Found::Nothing => return false,
+    while let Some(p) = g {
+        let same = text::same_strings(text, at, p);
+        if same {
+            return true;
         }
+        g = elements::next_element(text, ends, p, set);
     }
+    false
 }
 
 // Whether the atom x is among the elements from f on.
@@ -213,7 +196,7 @@ pub fn cell_among(
     names: &[u8],
     kind: u8,
     set: bool,
-    f: Found,
+    f: Option<usize>,
     x: &model::Atom,
 ) -> bool
     requires running { Running text.now ends.now names.now }
@@ -221,16 +204,12 @@ pub fn cell_among(
     ensures { result ≡ member x.now (atoms_of (names_at text.now names.now) (base_numbered kind) (elements_from text.now set f)) }
 {
     let mut g = f;
-    loop {
-        match g {
-            Found::At(p) => {
-                let same = same_at(text, ends, names, kind, p, x);
-                if same {
-                    return true;
-                }
-                g = elements::next_element(text, ends, p, set);
-            }
-            Found::Nothing => return false,
+    while let Some(p) = g {
+        let same = same_at(text, ends, names, kind, p, x);
+        if same {
+            return true;
         }
+        g = elements::next_element(text, ends, p, set);
     }
+    false
 }

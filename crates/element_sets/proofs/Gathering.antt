@@ -1,4 +1,5 @@
 -- At most four atoms gathered, one after another. Assumes nothing.
+use Rattle.std.specs.Prelude.{Option, Some, None}
 use mathlib.Core.Path.{◌≡◌, refl, sym, ap, ◌∙◌}
 use mathlib.Core.Bool.{Bool, true, false}
 use mathlib.Core.List.{List, [], ◌∷◌, ◌++◌, map, append-nil, append_assoc}
@@ -6,8 +7,6 @@ use Prim.Native.Nat.{ℕ, suc, ◌+◌, ◌<◌, ◌≤◌}
 use native.Mathlib.Omega.{arith}
 use lib.ListN.{length, set as update, length-append}
 use borrow.Author.Tests.{not-true, lt-ltb, le-ltb}
-use Rattle.model.specs.declared.Found.{Found}
-use Rattle.model.specs.declared.Found.TheVariants.{At, Nothing}
 use Rattle.model.specs.Base.{any}
 use Rattle.model.specs.Json.{Json}
 use Rattle.inner.specs.Positions.{tree_at}
@@ -30,7 +29,7 @@ same_length names k [] = refl
 same_length names k (j ∷ js) = ap suc (same_length names k js)
 
 -- what was gathered before the place g
-pub record Gathered (names : Names) (k : Base) (s : List ℕ) (set : Bool) (f g : Found) (atoms : List (List ℕ)) (n : ℕ) : Type 0 where
+pub record Gathered (names : Names) (k : Base) (s : List ℕ) (set : Bool) (f g : Option ℕ) (atoms : List (List ℕ)) (n : ℕ) : Type 0 where
   pub done : List (List ℕ)
   pub held : atoms ≡ padded done
   pub count : n ≡ length done
@@ -38,15 +37,15 @@ pub record Gathered (names : Names) (k : Base) (s : List ℕ) (set : Bool) (f g 
   pub fine : elements_fine s set g ≡ true
 
 module _ (names : Names) (k : Base) (s : List ℕ) (set : Bool) where
-  pub gathered_start : {f : Found} → elements_fine s set f ≡ true → Gathered names k s set f f (padded []) 0
+  pub gathered_start : {f : Option ℕ} → elements_fine s set f ≡ true → Gathered names k s set f f (padded []) 0
   gathered_start h = record { done = []; held = refl; count = refl; rest = refl; fine = h }
 
-  module _ {f g : Found} {atoms : List (List ℕ)} {n : ℕ} (p : Gathered names k s set f g atoms n) where
-    gathered_end : g ≡ Nothing → atoms ≡ padded (atoms_of names k (elements_from s set f))
+  module _ {f g : Option ℕ} {atoms : List (List ℕ)} {n : ℕ} (p : Gathered names k s set f g atoms n) where
+    gathered_end : g ≡ None → atoms ≡ padded (atoms_of names k (elements_from s set f))
     unfolding atoms_of
     gathered_end h = p.held ∙ ap padded (sym (append-nil p.done) ∙ sym (ap (λ l. p.done ++ map (atom_as names k) l) (walk_end s set h)) ∙ p.rest)
 
-    module _ {i : ℕ} (h : g ≡ At i) where
+    module _ {i : ℕ} (h : g ≡ Some i) where
       turned : p.done ++ (atom_as names k (tree_at s i) ∷ atoms_of names k (elements_from s set (next_element s set i))) ≡ atoms_of names k (elements_from s set f)
       unfolding atoms_of
       turned = sym (ap (λ l. p.done ++ map (atom_as names k) l) (walk_rest s set h)) ∙ p.rest
@@ -57,7 +56,7 @@ module _ (names : Names) (k : Base) (s : List ℕ) (set : Bool) where
           later (long_atom k) p.done (atom_as names k (tree_at s i)) (atoms_of names k (elements_from s set (next_element s set i)))
           (ap (any (long_atom k)) turned ∙ not-true (any (long_atom k) (atoms_of names k (elements_from s set f))) a)
 
-      gathered_on : {x : List ℕ} {next : Found} → n < 4 → x ≡ atom_as names k (tree_at s i) → next ≡ next_element s set i → Gathered names k s set f next (update atoms n x) (n + 1)
+      gathered_on : {x : List ℕ} {next : Option ℕ} → n < 4 → x ≡ atom_as names k (tree_at s i) → next ≡ next_element s set i → Gathered names k s set f next (update atoms n x) (n + 1)
       gathered_on {x} {next} l e m = record {
         done = p.done ++ (x ∷ []);
         held = set_padded p.done atoms n x p.held p.count (omega (arith, p.count));
@@ -78,16 +77,16 @@ module _ (i : ℕ) (a : List ℕ) (atoms : List (List ℕ)) where
   put_past h = ap (λ (b : Bool). elim b [ true ↦ update atoms i a | false ↦ atoms ]) (le-ltb i 4 h)
 
 -- the same where all elements fit, while they are judged
-abbrev pub Kept : Names → Base → List ℕ → Bool → Found → Found → List (List ℕ) → ℕ → Type 0
+abbrev pub Kept : Names → Base → List ℕ → Bool → Option ℕ → Option ℕ → List (List ℕ) → ℕ → Type 0
 Kept names k s set f g atoms n = all_short names k (elements_from s set f) ≡ true → length (elements_from s set f) ≤ 4 → Gathered names k s set f g atoms n
 
-module _ (names : Names) (k : Base) (s : List ℕ) (set : Bool) {f g : Found} {atoms : List (List ℕ)} {n : ℕ} where
-  room : Gathered names k s set f g atoms n → {i : ℕ} → g ≡ At i → length (elements_from s set f) ≤ 4 → n < 4
+module _ (names : Names) (k : Base) (s : List ℕ) (set : Bool) {f g : Option ℕ} {atoms : List (List ℕ)} {n : ℕ} where
+  room : Gathered names k s set f g atoms n → {i : ℕ} → g ≡ Some i → length (elements_from s set f) ≤ 4 → n < 4
   room p {i} h few =
       let x = atom_as names k (tree_at s i) ∷ atoms_of names k (elements_from s set (next_element s set i)) in
       omega (arith, p.count, ap length (turned names k s set p h), length-append p.done x, same_length names k (elements_from s set f))
 
-  pub kept_on : Kept names k s set f g atoms n → {i : ℕ} → g ≡ At i → {x : List ℕ} {after : List (List ℕ)} {next : Found}
+  pub kept_on : Kept names k s set f g atoms n → {i : ℕ} → g ≡ Some i → {x : List ℕ} {after : List (List ℕ)} {next : Option ℕ}
       → (long_atom k (atom_as names k (tree_at s i)) ≡ false → atom_as names k (tree_at s i) ≡ x) → after ≡ put_atom n x atoms → next ≡ next_element s set i
       → Kept names k s set f next after (n + 1)
   kept_on p {i} h {x} {after} {next} a e m short few =
@@ -96,5 +95,5 @@ module _ (names : Names) (k : Base) (s : List ℕ) (set : Bool) {f g : Found} {a
       let z : after ≡ update atoms n x = e ∙ put_room n x atoms l in
       rw z (gathered_on names k s set q h l (sym (a (gathered_short names k s set q h short))) m)
 
-  pub kept_end : Kept names k s set f g atoms n → g ≡ Nothing → all_short names k (elements_from s set f) ≡ true → length (elements_from s set f) ≤ 4 → atoms ≡ padded (atoms_of names k (elements_from s set f))
+  pub kept_end : Kept names k s set f g atoms n → g ≡ None → all_short names k (elements_from s set f) ≡ true → length (elements_from s set f) ≤ 4 → atoms ≡ padded (atoms_of names k (elements_from s set f))
   kept_end p h short few = gathered_end names k s set (p short few) h

@@ -1,15 +1,13 @@
 -- All elements judged, one after another. Assumes nothing.
+use Rattle.std.specs.Prelude.{Option, Some, None}
 use mathlib.Core.Path.{◌≡◌, refl, sym, ap, ◌∙◌}
 use mathlib.Core.Bool.{Bool, true, false, not, ◌&&◌, ◌||◌}
 use mathlib.Core.List.{List, [], ◌∷◌, map}
-use mathlib.Core.Option.{Option, none, some}
 use Prim.Native.Nat.{ℕ, ◌+◌, ◌≤◌}
 use native.Mathlib.Omega.{arith}
 use lib.IntN.{pos}
 use lib.ListN.{length}
 use borrow.Author.Tests.{lt-ltb}
-use Rattle.model.specs.declared.Found.{Found}
-use Rattle.model.specs.declared.Found.TheVariants.{At, Nothing}
 use Rattle.model.specs.Base.{any, is_some, member, distinct}
 use Rattle.model.specs.Json.{Json}
 use Rattle.inner.specs.Positions.{tree_at}
@@ -70,7 +68,7 @@ module _ (names : Names) (c : Column) (j : Json) (out : List ℕ) where
       }
 
   abbrev one_string : Option (List ℕ) → Option (List ℕ)
-  one_string o = elim o [ none ↦ none | some t ↦ some (text_atom t) ]
+  one_string o = elim o [ None ↦ None | Some t ↦ Some (text_atom t) ]
 
   pub sees_long : Reads names c.base j Long out → {n : ℕ} → n ≡ chars (word_in j) → {w : Bool} → w ≡ in_limits c (pos n) → Sees names c j true false w out
   unfolding Reads is_typed
@@ -129,12 +127,12 @@ module _ (names : Names) (k : Base) (j : Json) (out : List ℕ) (js : List Json)
       let q = long_cell names j k out p in
       ap (λ a. member a (atoms_of names k js)) q.0 ∙ ap (λ b. member (text_atom (word_in j)) (atoms_of names b js)) q.2 ∙ word_member names (word_in j) q.1 js
 
-module _ (names : Names) (k : Base) (s : List ℕ) (set : Bool) {g : Found} where
-  pub distinct_end : g ≡ Nothing → distinct (atoms_of names k (elements_from s set g)) ≡ true
+module _ (names : Names) (k : Base) (s : List ℕ) (set : Bool) {g : Option ℕ} where
+  pub distinct_end : g ≡ None → distinct (atoms_of names k (elements_from s set g)) ≡ true
   unfolding atoms_of
   distinct_end h = ap (λ l. distinct (map (atom_as names k) l)) (walk_end s set h)
 
-  module _ {p : ℕ} (h : g ≡ At p) where
+  module _ {p : ℕ} (h : g ≡ Some p) where
     pub distinct_by : {b : Bool} → b ≡ member (atom_as names k (tree_at s p)) (atoms_of names k (elements_from s set (next_element s set p)))
         → distinct (atoms_of names k (elements_from s set g)) ≡ (not b && distinct (atoms_of names k (elements_from s set (next_element s set p))))
     unfolding atoms_of

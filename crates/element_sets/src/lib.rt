@@ -14,7 +14,7 @@ ghost use Rattle.element_atoms.specs.Atoms.{atom_as, atoms_of};
 ghost use Rattle.element_sets.specs.Tallies.{Sees, put_atom, Tallied};
 
 use element_atoms::Atom;
-use model::{ATOM, Atoms, ELEMENTS, Entry, Found};
+use model::{ATOM, Atoms, ELEMENTS, Entry};
 
 // What is seen of one element: that it is of its type, not a string above 24 bytes, and in its column's limits.
 #[derive(Clone, Copy)]
@@ -37,21 +37,14 @@ pub struct Tally {
 fn at_most(x: u64, y: u64) -> bool
     ensures { result ≡ le_z (from_twos x) (from_twos y) }
 {
-    let a = leaf::biased(x);
-    let b = leaf::biased(y);
-    let less = b < a;
-    !less
+    leaf::biased(x) <= leaf::biased(y)
 }
 
 // Whether an integer in two's complement is in a column's limits.
 pub fn in_limits(column: &Entry, x: u64) -> bool
     ensures { result ≡ in_limits (column_from column.now) (from_twos x) }
 {
-    let low = catalog::low(column);
-    let high = catalog::high(column);
-    let l = at_most(low, x);
-    let h = at_most(x, high);
-    l & h
+    at_most(catalog::low(column), x) && at_most(x, catalog::high(column))
 }
 
 // Whether a length is in a column's limits.
@@ -60,24 +53,21 @@ pub fn count_in_limits(column: &Entry, n: u64) -> bool
 {
     let low = catalog::low(column);
     let high = catalog::high(column);
-    let above = (9223372036854775808 <= low) | (low <= n);
-    let below = (high < 9223372036854775808) & (n <= high);
-    above & below
+    (9223372036854775808 <= low || low <= n) && high < 9223372036854775808 && n <= high
 }
 
 // Whether an atom is in its column's limits.
 pub fn within(column: &Entry, cell: &model::Atom) -> bool
     ensures { result ≡ atom_in_limits (column_from column.now) (column_from column.now).base cell.now }
 {
-    let kind = catalog::kind(column);
-    if kind == 0 {
-        return in_limits(column, octets::number(cell, 8));
+    match catalog::kind(column) {
+        0 => in_limits(column, octets::number(cell, 8)),
+        2 => {
+            let n = atom::count_chars(atom::text_of(cell));
+            count_in_limits(column, n as u64)
+        }
+        _ => true,
     }
-    if kind == 2 {
-        let n = atom::count_chars(atom::text_of(cell));
-        return count_in_limits(column, n as u64);
-    }
-    true
 }
 
 // What is seen of the element at `at`, and its atom where it is not a long string.
@@ -96,31 +86,24 @@ fn see(
     let kind = catalog::kind(column);
     let a = element_atoms::atom_at(text, ends, names, kind, at, cell);
     match a {
-        Atom::Wrong => {
-            let w = within(column, cell);
-            Seen {
-                typed: false,
-                short: true,
-                within: w,
-            }
-        }
+        Atom::Wrong => Seen {
+            typed: false,
+            short: true,
+            within: within(column, cell),
+        },
         Atom::Long => {
             let n = element_atoms::long_chars(text, at);
-            let w = count_in_limits(column, n as u64);
             Seen {
                 typed: true,
                 short: false,
-                within: w,
+                within: count_in_limits(column, n as u64),
             }
         }
-        Atom::Fits => {
-            let w = within(column, cell);
-            Seen {
-                typed: true,
-                short: true,
-                within: w,
-            }
-        }
+        Atom::Fits => Seen {
+            typed: true,
+            short: true,
+            within: within(column, cell),
+        },
     }
 }
 
@@ -129,8 +112,7 @@ fn put_atom(atoms: &mut Atoms, i: usize, cell: &model::Atom)
     ensures { atoms.new ≡ put_atom i cell.now atoms.old }
 {
     if i < ELEMENTS {
-        let x = *cell;
-        atoms[i] = x;
+        atoms[i] = *cell;
     }
 }
 
@@ -141,7 +123,7 @@ pub fn tally_from(
     names: &[u8],
     column: &Entry,
     set: bool,
-    f: Found,
+    f: Option<usize>,
     atoms: &mut Atoms,
 ) -> Tally
     requires running { Running text.now ends.now names.now }
@@ -150,36 +132,38 @@ pub fn tally_from(
 {
     *atoms = [[0u8; ATOM]; ELEMENTS];
     let mut g = f;
-    let mut count: usize = 0;
+    let mut count = 0;
     let mut typed = true;
     let mut short = true;
-    let mut inside = true;
-    loop {
-        match g {
-            Found::At(p) => {
-                let mut cell = [0u8; ATOM];
-                let s = see(text, ends, names, column, p, &mut cell);
-                put_atom(atoms, count, &cell);
-                count += 1;
-                typed = typed & s.typed;
-                short = short & s.short;
-                inside = inside & s.within;
-                g = elements::next_element(text, ends, p, set);
-            }
-            Found::Nothing => {
-                return Tally {
-                    count: count,
-                    typed: typed,
-                    short: short,
-                    within: inside,
-                };
-            }
-        }
+    let mut within = true;
+    while let Some(p) = g {
+        let mut cell = [0u8; ATOM];
+        let s = see(text, ends, names, column, p, &mut cell);
+        put_atom(atoms, count, &cell);
+        count += 1;
+        typed &= s.typed;
+        short &= s.short;
+        within &= s.within;
+        g = elements::next_element(text, ends, p, set);
+    }
+    Tally {
+        count,
+        typed,
+        short,
+        within,
     }
 }
 
 // Whether the element at `at` is again among those from f on.
-fn again(text: &[u8], ends: &[u16], names: &[u8], kind: u8, set: bool, f: Found, at: usize) -> bool
+fn again(
+    text: &[u8],
+    ends: &[u16],
+    names: &[u8],
+    kind: u8,
+    set: bool,
+    f: Option<usize>,
+    at: usize,
+) -> bool
     requires running { Running text.now ends.now names.now }
     requires at_value { well_at text.now at ≡ true }
     requires f_value { elements_fine text.now set f ≡ true }
@@ -188,30 +172,34 @@ fn again(text: &[u8], ends: &[u16], names: &[u8], kind: u8, set: bool, f: Found,
     let mut cell = [0u8; ATOM];
     let a = element_atoms::atom_at(text, ends, names, kind, at, &mut cell);
     match a {
-        Atom::Wrong => element_atoms::cell_among(text, ends, names, kind, set, f, &cell),
+        Atom::Wrong | Atom::Fits => {
+            element_atoms::cell_among(text, ends, names, kind, set, f, &cell)
+        }
         Atom::Long => element_atoms::long_among(text, ends, set, f, at),
-        Atom::Fits => element_atoms::cell_among(text, ends, names, kind, set, f, &cell),
     }
 }
 
 // Whether all elements from f on are different.
-pub fn distinct_from(text: &[u8], ends: &[u16], names: &[u8], kind: u8, set: bool, f: Found) -> bool
+pub fn distinct_from(
+    text: &[u8],
+    ends: &[u16],
+    names: &[u8],
+    kind: u8,
+    set: bool,
+    f: Option<usize>,
+) -> bool
     requires running { Running text.now ends.now names.now }
     requires f_value { elements_fine text.now set f ≡ true }
     ensures { result ≡ distinct (atoms_of (names_at text.now names.now) (base_numbered kind) (elements_from text.now set f)) }
 {
     let mut g = f;
-    loop {
-        match g {
-            Found::At(p) => {
-                let n = elements::next_element(text, ends, p, set);
-                let d = again(text, ends, names, kind, set, n, p);
-                if d {
-                    return false;
-                }
-                g = n;
-            }
-            Found::Nothing => return true,
+    while let Some(p) = g {
+        let n = elements::next_element(text, ends, p, set);
+        let d = again(text, ends, names, kind, set, n, p);
+        if d {
+            return false;
         }
+        g = n;
     }
+    true
 }

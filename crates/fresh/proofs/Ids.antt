@@ -1,6 +1,6 @@
 -- Fresh ids, one by one. Assumes nothing.
 use mathlib.Core.Path.{◌≡◌, refl, sym, ap, ◌∙◌}
-use mathlib.Core.List.{List, [], ◌∷◌, ◌++◌, append-nil}
+use mathlib.Core.List.{List, [], ◌∷◌}
 use mathlib.Core.Bool.{Bool, true, false, not, ◌&&◌}
 use Prim.Native.Nat.{ℕ, zero, suc, ◌+◌, ◌*◌, ◌≤◌, ◌<◌}
 use native.Mathlib.Omega.{arith}
@@ -34,9 +34,6 @@ fresh_id fresh id k h n e =
 
 pub blank_value : value (replicate 16 0) ≡ 0
 blank_value = refl
-
-pub copied : (id zeros : List ℕ) → length id ≡ 16 → length zeros ≡ 16 → id ++ drop (length id) zeros ≡ id
-copied id zeros n m = ap (λ l. id ++ l) (drop_of_length-le zeros {i = length id} (omega arith)) ∙ append-nil id
 
 module _ (fresh : List ℕ) where
   pub fresh_turn : (k : ℕ) → k < 16 → fresh_from k fresh ≡ fresh_at fresh k ∷ fresh_from (k + 1) fresh

@@ -16,7 +16,7 @@ fn same(a: &[u8], b: &[u8]) -> bool
     requires { (length a.now ≡ id_bytes) × (length b.now ≡ id_bytes) }
     ensures { result ≡ eqb (value a.now) (value b.now) }
 {
-    octets::equal(a, b)
+    a == b
 }
 
 // Fresh id k, lent, of a slice that begins with the fresh ids.
@@ -34,14 +34,10 @@ fn among(fresh: &[u8], k: usize, id: &[u8]) -> bool
     requires id_len { length id.now ≡ id_bytes }
     ensures { result ≡ any (eqb (value id.now)) (fresh_from k fresh.now) }
 {
-    let mut i = k;
-    while i < OPERATIONS {
-        let next = id_at(fresh, i);
-        let here = same(id, next);
-        if here {
+    for i in k..OPERATIONS {
+        if same(id, id_at(fresh, i)) {
             return true;
         }
-        i += 1;
     }
     false
 }
@@ -54,10 +50,9 @@ fn id_good(fresh: &[u8], k: usize, rows: &[Row], n: usize) -> bool
     ensures { (s : Schema) → result ≡ id_good (fresh_from k fresh.now) (working s n rows.now) }
 {
     let id = id_at(fresh, k);
-    let blank = [0u8; ID];
-    let none = same(id, &blank[..]);
-    let mut copy = [0u8; ID];
-    octets::put_bytes(&mut copy[..], id);
+    let none = same(id, &[0; ID]);
+    let mut copy = [0; ID];
+    copy.copy_from_slice(id);
     let taken = rows::has_id(rows, n, &copy);
     let again = among(fresh, k + 1, id);
     !none & !taken & !again
@@ -68,12 +63,8 @@ pub fn ids_good(fresh: &[u8], rows: &[Row], n: usize) -> bool
     requires { (length fresh.now ≡ fresh_bytes) × Ordered n rows.now }
     ensures { (s : Schema) → result ≡ fresh_good fresh.now (working s n rows.now) }
 {
-    let mut k = 0;
-    while k < OPERATIONS {
-        let good = id_good(fresh, k, rows, n);
-        if good {
-            k += 1;
-        } else {
+    for k in 0..OPERATIONS {
+        if !id_good(fresh, k, rows, n) {
             return false;
         }
     }

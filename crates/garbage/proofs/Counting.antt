@@ -1,14 +1,15 @@
 -- Counts of references, moved one after another. Assumes nothing.
+use Rattle.std.specs.Prelude.{Option, Some, None}
 use mathlib.Core.Path.{◌≡◌, refl, sym, ap, ◌∙◌}
 use mathlib.Core.Bool.{Bool, true, false}
 use mathlib.Core.List.{List, [], ◌∷◌, ◌++◌, map}
-use mathlib.Core.Option.{Option, none, some}
 use Prim.Native.Nat.{ℕ, zero, suc, ◌+◌, ◌-◌, ◌*◌, ◌≤◌, ◌<◌}
+use native.Mathlib.Numerals.{add-one}
 use native.Mathlib.Omega.{arith}
 use borrow.Author.Tests.{eq-eqb, ne_eqb, eqb-true, eqb-false}
 use lib.Dec.{eqb}
-use lib.ListN.{length, get_or, take, drop, set, replicate, length-take, length-append, length-map}
-use lib.Seq.{get_or-set_same, get_or-set_other}
+use lib.ListN.{length, get_or, take, drop, set, replicate, length-take, length-append, length-map, drop_of_length-le}
+use lib.Seq.{get_or-set_same, get_or-set_other, drop-cons}
 use Rattle.model.specs.Limits.{most_rows}
 use Rattle.model.specs.Base.{count}
 use Rattle.model.specs.Schema.{Refers, Column, Schema, columns_of}
@@ -17,13 +18,10 @@ use Rattle.model.specs.Rows.{Row, key_of, key, find}
 use Rattle.model.specs.Commit.{keys_of, targets, strongly, strong_of}
 use Rattle.model.specs.Areas.{columns_from, row_from}
 use Rattle.inner.specs.Working.{working, key_in, place, Ordered}
-use Rattle.model.specs.declared.Found.{Found}
-use Rattle.model.specs.declared.Found.TheVariants.{At, Nothing}
 use Rattle.model.proofs.Tests.{split, clash, eqb_flip}
 use Rattle.inner.proofs.Working.{row_key, working_at, working_on, working_end, working_length}
 use Rattle.inner.proofs.Places.{place_at}
 use Rattle.inner.proofs.Ordering.{own_place}
-use Rattle.references.proofs.Walks.{first_on, first_end}
 use Rattle.garbage.specs.Counts.{from, refs, shifted, held, most_count, Room, Counted, Tallied}
 
 -- ── a count moved twice ──
@@ -40,13 +38,6 @@ shifted_none false c = omega arith
 shifted_up : (up : Bool) (c w : ℕ) → up ≡ true → shifted up c w ≡ c + w
 unfolding shifted
 shifted_up up c w e = rw e
-
-pub one_more : (up : Bool) (c : ℕ) → up ≡ true → c + 1 ≡ shifted up c 1
-one_more up c e = sym (shifted_up up c 1 e)
-
-pub one_less : (up : Bool) (c r : ℕ) → up ≡ false → r ≡ c - 1 → r ≡ shifted up c 1
-unfolding shifted
-one_less up c r e h = rw e h
 
 pub lowered_is : (c w : ℕ) → shifted false c w ≡ c - w
 unfolding shifted
@@ -128,40 +119,40 @@ pub room_down : (n : ℕ) (cells : List (List (List ℕ))) (own : ℕ) (keys l :
 room_down n cells own keys l = record { room = λ k h u. absurd (clash false u refl) }
 
 -- ── the row that a key names ──
-find_key : (k : ℕ) (rows : List Row) (r : Row) → find k rows ≡ some r → key r ≡ k
+find_key : (k : ℕ) (rows : List Row) (r : Row) → find k rows ≡ Some r → key r ≡ k
 find_key k [] r e = absurd (let z : ◌≡◌ {A = ℕ} 0 1 = cc in omega arith)
 find_key k (x ∷ rows) r e = split (eqb k (key x))
-    (λ p. let q : some x ≡ some r = rw p at e in let z : x ≡ r = cc in ap key (sym z) ∙ sym (eqb-true k (key x) p))
+    (λ p. let q : Some x ≡ Some r = rw p at e in let z : x ≡ r = cc in ap key (sym z) ∙ sym (eqb-true k (key x) p))
     (λ p. find_key k rows r (rw p at e))
 
-at_same : (a b : ℕ) → At a ≡ At b → a ≡ b
+at_same : (a b : ℕ) → Some a ≡ Some b → a ≡ b
 at_same a b e = cc
 
-not_at : (a : ℕ) → Nothing ≡ At a → ⊥
+not_at : (a : ℕ) → None ≡ Some a → ⊥
 not_at a e = let z : ◌≡◌ {A = ℕ} 0 1 = cc in omega arith
 
 module _ (n : ℕ) (cells : List (List (List ℕ))) (o : Ordered n cells) (x : ℕ) where
   abbrev rows : List Row
   rows = working [] n cells
 
-  elsewhere : (f : Found) → place x rows ≡ f → (k : ℕ) → k < n → (f ≡ At k → ⊥) → eqb (key_in (get_or cells k [])) x ≡ false
+  elsewhere : (f : Option ℕ) → place x rows ≡ f → (k : ℕ) → k < n → (f ≡ Some k → ⊥) → eqb (key_in (get_or cells k [])) x ≡ false
   elsewhere f e k h g = ne_eqb (key_in (get_or cells k [])) x (λ q. g (sym e ∙ ap (λ (y : ℕ). place y rows) (sym q) ∙ own_place n cells o [] k h))
 
   module _ (up : Bool) (own : ℕ) (l : List ℕ) where
     stays : (k : ℕ) → held own k (key_in (get_or cells k [])) (x ∷ []) ≡ 0 → get_or l k 0 ≡ shifted up (get_or l k 0) (held own k (key_in (get_or cells k [])) (x ∷ []))
     stays k e = sym (shifted_none up (get_or l k 0)) ∙ ap (shifted up (get_or l k 0)) (sym e)
 
-    pub counted_none : place x rows ≡ Nothing → Counted up n cells own (x ∷ []) l l
-    counted_none p = record { counts = λ k h. stays k (held_no own k (key_in (get_or cells k [])) x (elsewhere Nothing p k h (not_at k))) }
+    pub counted_none : place x rows ≡ None → Counted up n cells own (x ∷ []) l l
+    counted_none p = record { counts = λ k h. stays k (held_no own k (key_in (get_or cells k [])) x (elsewhere None p k h (not_at k))) }
 
-    pub counted_own : (i : ℕ) → place x rows ≡ At i → i ≡ own → Counted up n cells own (x ∷ []) l l
+    pub counted_own : (i : ℕ) → place x rows ≡ Some i → i ≡ own → Counted up n cells own (x ∷ []) l l
     counted_own i p q = record {
       counts = λ k h. stays k (split (eqb own k)
           (λ e. held_own own k (key_in (get_or cells k [])) (x ∷ []) e)
-          (λ e. held_no own k (key_in (get_or cells k [])) x (elsewhere (At i) p k h (λ z. eqb-false own k e (sym q ∙ at_same i k z)))));
+          (λ e. held_no own k (key_in (get_or cells k [])) x (elsewhere (Some i) p k h (λ z. eqb-false own k e (sym q ∙ at_same i k z)))));
     }
 
-    module _ (i : ℕ) (p : place x rows ≡ At i) (q : i ≡ own → ⊥) where
+    module _ (i : ℕ) (p : place x rows ≡ Some i) (q : i ≡ own → ⊥) where
       pub place_within : i < n
       place_within = omega (arith, (place_at x rows i p).within, working_length [] cells n o.there)
 
@@ -180,16 +171,16 @@ module _ (n : ℕ) (cells : List (List (List ℕ))) (o : Ordered n cells) (x : �
       counted_one b v e = record {
         counts = λ k h. split (eqb k i)
             (λ d. let z : k ≡ i = eqb-true k i d in rw z (get_or-set_same l i v 0 (omega (arith, place_within, b)) ∙ e ∙ ap (shifted up (get_or l i 0)) (sym its_weight)))
-            (λ d. get_or-set_other l i k v 0 (eqb-false k i d) ∙ stays k (held_no own k (key_in (get_or cells k [])) x (elsewhere (At i) p k h (λ z. eqb-false k i d (sym (at_same i k z))))));
+            (λ d. get_or-set_other l i k v 0 (eqb-false k i d) ∙ stays k (held_no own k (key_in (get_or cells k [])) x (elsewhere (Some i) p k h (λ z. eqb-false k i d (sym (at_same i k z))))));
       }
 
 -- ── the keys of atoms, one after another ──
-module _ (t : ℕ) (atoms : List (List ℕ)) (count k : ℕ) (h : count ≤ length atoms) where
-  pub atoms_on : k < count → keys_of (some t) (drop k (take count atoms)) ≡ (key_of t (uuid_of (get_or atoms k [])) ∷ []) ++ keys_of (some t) (drop (k + 1) (take count atoms))
-  atoms_on g = ap (keys_of (some t)) (first_on [] atoms count k h g)
+module _ (t : ℕ) (atoms : List (List ℕ)) (k : ℕ) where
+  pub atoms_on : k < length atoms → keys_of (Some t) (drop k atoms) ≡ (key_of t (uuid_of (get_or atoms k [])) ∷ []) ++ keys_of (Some t) (drop (k + 1) atoms)
+  atoms_on g = rw (drop-cons atoms k [] g, add-one k)
 
-  pub atoms_end : count ≤ k → keys_of (some t) (drop k (take count atoms)) ≡ []
-  atoms_end g = ap (keys_of (some t)) (first_end [] atoms count k h g)
+  pub atoms_end : length atoms ≤ k → keys_of (Some t) (drop k atoms) ≡ []
+  atoms_end g = rw (drop_of_length-le atoms {i = k} g)
 
 -- ── how many references there can be ──
 count_few : (p : ℕ → Bool) (l : List ℕ) → count p l ≤ length l
@@ -197,8 +188,8 @@ count_few p [] = omega arith
 count_few p (a ∷ l) = split (p a) (λ e. rw e (omega (arith, count_few p l))) (λ e. rw e (omega (arith, count_few p l)))
 
 keys_few : (o : Option ℕ) (l : List (List ℕ)) → length (keys_of o l) ≤ length l
-keys_few none l = omega arith
-keys_few (some t) l = omega (arith, length-map l (λ (a : List ℕ). key_of t (uuid_of a)))
+keys_few None l = omega arith
+keys_few (Some t) l = omega (arith, length-map l (λ (a : List ℕ). key_of t (uuid_of a)))
 
 few_elements : (c : ℕ) (cells : List (List ℕ)) → length (take c (take 4 cells)) ≤ 4
 few_elements c cells = omega (arith, length-take c (take 4 cells), length-take 4 cells)
@@ -265,7 +256,7 @@ module _ (s : Schema) (n : ℕ) (cells : List (List (List ℕ))) where
         let q : eqb (key (row_from s (get_or cells i []))) (key_at k) ≡ true = eq-eqb (key (row_from s (get_or cells i []))) (key_at k) (row_key s (get_or cells i []) ∙ ap key_at z) in
         held_own i k (key_at k) (strong_at i) e ∙ rw (q, from))
         (λ e.
-        let d : eqb (key_at k) (key_at i) ≡ false = elsewhere n cells o (key_at i) (At i) (own_place n cells o [] i h) k g (λ z. eqb-false i k e (at_same i k z)) in
+        let d : eqb (key_at k) (key_at i) ≡ false = elsewhere n cells o (key_at i) (Some i) (own_place n cells o [] i h) k g (λ z. eqb-false i k e (at_same i k z)) in
         let q : eqb (key (row_from s (get_or cells i []))) (key_at k) ≡ false = ap (λ (y : ℕ). eqb y (key_at k)) (row_key s (get_or cells i [])) ∙ eqb_flip (key_at k) (key_at i) d in
         held_other i k (key_at k) (strong_at i) e ∙ rw (q, from))
 

@@ -6,3 +6,4 @@ pub mod Tallying
 pub mod Counting
 pub mod Marking
 pub mod Agree
+pub mod Searches

@@ -1,15 +1,15 @@
 -- Rows by their marks: those that go, and those that are left put in front. Assumes nothing.
+use Rattle.std.specs.Prelude.{Some, None}
 use mathlib.Core.Path.{◌≡◌, refl, sym, ap, ◌∙◌, subst}
 use mathlib.Core.Bool.{Bool, true, false, not, ◌&&◌}
 use mathlib.Core.List.{List, [], ◌∷◌, ◌++◌, append-nil, append_assoc, map}
-use mathlib.Core.Option.{none, some}
 use Prim.Native.Nat.{ℕ, zero, suc, ◌+◌, ◌-◌, ◌≤◌, ◌<◌}
 use native.Mathlib.Numerals.{add-one}
 use native.Mathlib.Omega.{arith}
-use borrow.Author.Tests.{eq-eqb, ne_eqb, eqb-true, eqb-false, not-true}
+use borrow.Author.Tests.{not-true}
 use lib.Dec.{eqb}
 use lib.ListN.{length, get_or, take, drop, set, replicate, length-set, drop_of_length-le}
-use lib.Seq.{drop-cons, get_or-take, length-take-le, take-suc-set, take-set-lt, drop-set-lt, set-get_or}
+use lib.Seq.{drop-cons, get_or-take, length-take-le, take-suc-set, take-set-lt, drop-set-lt}
 use Rattle.model.specs.Limits.{most_rows}
 use Rattle.model.specs.Base.{any}
 use Rattle.model.specs.Schema.{Table, Schema, is_root}
@@ -17,7 +17,6 @@ use Rattle.model.specs.Rows.{Row, key}
 use Rattle.model.specs.Commit.{loose, first_loose, collect, strong_of}
 use Rattle.model.specs.Areas.{row_from}
 use Rattle.inner.specs.Working.{working, table_in, key_in, Tidy, Ordered}
-use Rattle.model.specs.declared.Found.TheVariants.{At, Nothing}
 use Rattle.model.proofs.Order.{Sorted}
 use Rattle.model.proofs.Tests.{split, clash, and_l, or_l, or_r}
 use Rattle.model.proofs.Within.{In, none_in, none_of}
@@ -30,33 +29,10 @@ use Rattle.garbage.proofs.Tallying.{True, left_sorted, left_map, at_in, in_marke
 use Rattle.garbage.proofs.Counting.{held_from, lowered_is}
 
 -- ── a row may go ──
-module _ (s : Schema) (row : List (List ℕ)) (m c : ℕ) where
-  pub goes_off : m ≡ 0 → false ≡ may_go s row m c
-  unfolding may_go
-  goes_off e = rw (eq-eqb m 0 e)
-
-  pub goes_counted : (m ≡ 0 → ⊥) → (c ≡ 0 → ⊥) → false ≡ may_go s row m c
-  unfolding may_go
-  goes_counted n h = rw (ne_eqb m 0 n, ne_eqb c 0 h)
-
-  pub goes_root : (m ≡ 0 → ⊥) → c ≡ 0 → (t : ℕ) (b : Bool) → b ≡ is_root s t → t ≡ table_in row → not b ≡ may_go s row m c
-  unfolding may_go
-  goes_root n h t b e f = let z : is_root s (table_in row) ≡ b = ap (is_root s) (sym f) ∙ sym e in rw (ne_eqb m 0 n, eq-eqb c 0 h, z)
-
 module _ (s : Schema) (n : ℕ) (cells : List (List (List ℕ))) (ms cs : List ℕ) where
-  pub next_here : (i : ℕ) (b : Bool) → i < n → b ≡ may_go s (get_or cells i []) (get_or ms i 0) (get_or cs i 0) → b ≡ true → NextAt s n cells ms cs (At i)
+  pub next_here : (i : ℕ) (b : Bool) → i < n → b ≡ may_go s (get_or cells i []) (get_or ms i 0) (get_or cs i 0) → b ≡ true → NextAt s n cells ms cs (Some i)
   unfolding NextAt
   next_here i b l e h = (l, sym e ∙ h)
-
-  pub next_none : (i : ℕ) → n ≤ i → ((k : ℕ) → k < i → may_go s (get_or cells k []) (get_or ms k 0) (get_or cs k 0) ≡ false) → NextAt s n cells ms cs Nothing
-  unfolding NextAt
-  next_none i l f = λ k h. f k (omega arith)
-
-  pub next_on : (i : ℕ) (b : Bool) → b ≡ may_go s (get_or cells i []) (get_or ms i 0) (get_or cs i 0) → b ≡ false → ((k : ℕ) → k < i → may_go s (get_or cells k []) (get_or ms k 0) (get_or cs k 0) ≡ false)
-      → (k : ℕ) → k < i + 1 → may_go s (get_or cells k []) (get_or ms k 0) (get_or cs k 0) ≡ false
-  next_on i b e h f k l = split (eqb k i)
-      (λ p. let z : k ≡ i = eqb-true k i p in rw z (sym e ∙ h))
-      (λ p. f k (omega (arith, eqb-false k i p)))
 
 -- ── a row that goes ──
 module _ {A : Type 0} where
@@ -85,11 +61,11 @@ module _ (s : Schema) (n : ℕ) (cells : List (List (List ℕ))) (o : Ordered n 
   key_is i l = ap key (working_at s cells n o.there i nobody l) ∙ row_key s (get_or cells i [])
 
   module _ (ms cs : List ℕ) where
-    pub sweep_end : NextAt s n cells ms cs Nothing → Swept s n cells ms cs ms
+    pub sweep_end : NextAt s n cells ms cs None → Swept s n cells ms cs ms
     unfolding NextAt Swept
     sweep_end f = all_held (λ i l. let g : i < n = omega (arith, working_length s cells n o.there) in free_is ms cs i g ∙ f i g)
 
-    module _ (i : ℕ) (f : NextAt s n cells ms cs (At i)) where
+    module _ (i : ℕ) (f : NextAt s n cells ms cs (Some i)) where
       pub next_within : i < n
       unfolding NextAt
       next_within = f.0
@@ -117,19 +93,6 @@ module _ (s : Schema) (n : ℕ) (cells : List (List (List ℕ))) (o : Ordered n 
           (not-true (eqb (get_or ms i 0) 0) (and_l (not (eqb (get_or ms i 0) 0)) (eqb (get_or cs i 0) 0 && not (is_root s (table_in (get_or cells i [])))) f.1))
 
 -- ── rows put in front ──
-module _ (m j mark : ℕ) (l : List (List (List ℕ))) where
-  pub put_none : mark ≡ 0 → Put m j mark m l l
-  unfolding Put
-  put_none e = rw (eq-eqb mark 0 e, Put) (refl, refl)
-
-  pub put_one : (mark ≡ 0 → ⊥) → Put m j mark (m + 1) l (set l m (get_or l j []))
-  unfolding Put
-  put_one e = rw (ne_eqb mark 0 e, Put) (refl, refl)
-
-  pub put_here : (mark ≡ 0 → ⊥) → m ≡ j → Put m j mark (m + 1) l l
-  unfolding Put
-  put_here e q = rw (ne_eqb mark 0 e, Put) (refl, sym (ap (λ (i : ℕ). set l i (get_or l j [])) q ∙ set-get_or l j []))
-
 -- what is in front, with what is still to come
 abbrev pub split_at : ℕ → ℕ → ℕ → List ℕ → List (List (List ℕ)) → List (List (List ℕ))
 split_at m j n ms l = take m l ++ left (drop j (take n l)) (drop j ms)
@@ -201,23 +164,23 @@ any_one : (q : Row → Bool) (l : List Row) (r : Row) → In r l → q r ≡ tru
 any_one q l r i e = split (any q l) (λ h. h) (λ h. absurd (clash (q r) e (none_in q l r h i)))
 
 -- the first loose row, or none
-first_any : (s : Schema) (rows l : List Row) (k : ℕ) → first_loose s rows l ≡ some k → any (loose s rows) l ≡ true
+first_any : (s : Schema) (rows l : List Row) (k : ℕ) → first_loose s rows l ≡ Some k → any (loose s rows) l ≡ true
 first_any s rows [] k e = absurd (let z : ◌≡◌ {A = ℕ} 0 1 = cc in omega arith)
 first_any s rows (r ∷ l) k e = split (loose s rows r) (λ p. rw p) (λ p. rw p (first_any s rows l k (rw (p, first_loose) at e)))
 
-first_none : (s : Schema) (rows l : List Row) → first_loose s rows l ≡ none → any (loose s rows) l ≡ false
+first_none : (s : Schema) (rows l : List Row) → first_loose s rows l ≡ None → any (loose s rows) l ≡ false
 first_none s rows [] e = refl
 first_none s rows (r ∷ l) e = split (loose s rows r) (λ p. absurd (no (rw (p, first_loose) at e))) (λ p. rw (p, first_none s rows l (rw (p, first_loose) at e)))
   where
-    no : some (key r) ≡ none → ⊥
+    no : Some (key r) ≡ None → ⊥
     no p = let z : ◌≡◌ {A = ℕ} 0 1 = cc in omega arith
 
 module _ (s : Schema) (rows : List Row) where
-  pub loose_at_any : (i : ℕ) → LooseAt s rows (At i) → any (loose s rows) rows ≡ true
+  pub loose_at_any : (i : ℕ) → LooseAt s rows (Some i) → any (loose s rows) rows ≡ true
   unfolding LooseAt
   loose_at_any i f = first_any s rows rows f.0 f.1
 
-  pub loose_at_none : LooseAt s rows Nothing → any (loose s rows) rows ≡ false
+  pub loose_at_none : LooseAt s rows None → any (loose s rows) rows ≡ false
   unfolding LooseAt
   loose_at_none f = first_none s rows rows f
 
@@ -233,7 +196,7 @@ module _ (s : Schema) (n : ℕ) (entry : List (List (List ℕ))) (o : Ordered n 
 
   -- by true counts, with all rows there, a row may go just where one is loose
   module _ (cs : List ℕ) (f : n ≤ most_rows) (t : Tallied s n entry cs) where
-    pub next_any : (i : ℕ) → NextAt s n entry (replicate most_rows 1) cs (At i) → any (loose s (working s n entry)) (working s n entry) ≡ true
+    pub next_any : (i : ℕ) → NextAt s n entry (replicate most_rows 1) cs (Some i) → any (loose s (working s n entry)) (working s n entry) ≡ true
     unfolding NextAt
     next_any i g =
         let w = working s n entry in
@@ -241,7 +204,7 @@ module _ (s : Schema) (n : ℕ) (entry : List (List (List ℕ))) (o : Ordered n 
         any_one (loose s w) w (get_or w i nobody) (at_in w i l)
         (free_loose s w w (replicate most_rows 1) cs (tallied_true cs t) i l (free_is s n entry o (replicate most_rows 1) cs i g.0 ∙ g.1))
 
-    pub next_none_any : NextAt s n entry (replicate most_rows 1) cs Nothing → any (loose s (working s n entry)) (working s n entry) ≡ false
+    pub next_none_any : NextAt s n entry (replicate most_rows 1) cs None → any (loose s (working s n entry)) (working s n entry) ≡ false
     unfolding NextAt
     next_none_any g =
         let w = working s n entry in

@@ -2,7 +2,7 @@
 use mathlib.Core.Path.{◌≡◌, refl, sym, ap, ◌∙◌}
 use mathlib.Core.Bool.{Bool, true, false, not, ◌||◌}
 use mathlib.Core.List.{List, []}
-use Prim.Native.Nat.{ℕ, zero, suc, ◌+◌, ◌-◌, ◌≤◌, ◌<◌}
+use Prim.Native.Nat.{ℕ, zero, suc, ◌+◌, ◌≤◌, ◌<◌}
 use native.Mathlib.Nat.{add-zero}
 use native.Mathlib.Omega.{arith}
 use lib.ListN.{get_or}
@@ -10,7 +10,6 @@ use Rattle.model.specs.Base.{any}
 use Rattle.model.specs.Schema.{Table, root_at, is_root}
 use Rattle.model.specs.Catalog.{table_place, table_from, tables_from, packed_tables, table_count, is_set, root_offset}
 use Rattle.model.proofs.Tests.{or_true}
-use Rattle.references.proofs.Packs.{tables_on, tables_end}
 
 -- a table's own word
 abbrev pub says_root : Table → Bool
@@ -20,19 +19,9 @@ module _ (cells : List (List ℕ)) where
   abbrev pub root_said : ℕ → Bool
   root_said t = is_set (get_or cells (table_place t) []) root_offset
 
-  root_is : (t : ℕ) → (table_from cells t).root ≡ root_said t
+  pub root_is : (t : ℕ) → (table_from cells t).root ≡ root_said t
   unfolding table_from
   root_is t = refl
-
-  module _ (t k : ℕ) where
-    pub root_here : t < k → root_said t ≡ true → any says_root (tables_from cells t (k - t)) ≡ true
-    root_here h e = rw (tables_on cells t k h, root_is t, e)
-
-    pub root_on : t < k → root_said t ≡ false → any says_root (tables_from cells t (k - t)) ≡ any says_root (tables_from cells (t + 1) (k - (t + 1)))
-    root_on h e = rw (tables_on cells t k h, root_is t, e)
-
-    pub root_end : k ≤ t → any says_root (tables_from cells t (k - t)) ≡ false
-    root_end h = rw (tables_end cells t k h)
 
   root_from : (a k t : ℕ) → t < k → root_at (tables_from cells a k) t ≡ root_said (a + t)
   root_from a zero t h = absurd (omega arith)

@@ -1,8 +1,8 @@
 -- A row without its weak references to absent rows, one column after another. Assumes nothing.
+use Rattle.std.specs.Prelude.{Option, Some, None}
 use mathlib.Core.Path.{◌≡◌, refl, sym, ap, ◌∙◌}
 use mathlib.Core.Bool.{Bool, ◌||◌}
 use mathlib.Core.List.{List, [], ◌∷◌, ◌++◌, map}
-use mathlib.Core.Option.{Option, none, some}
 use Prim.Native.Nat.{ℕ, zero, suc, ◌+◌, ◌-◌, ◌*◌, ◌≤◌, ◌<◌}
 use native.Mathlib.Numerals.{add-one}
 use native.Mathlib.Omega.{arith}
@@ -164,8 +164,8 @@ module _ (schema : List (List ℕ)) (ok : Accepted schema) (n : ℕ) (rows : Lis
 -- what is left of a value depends only on which keys there are
 kept_alike : (a b : List Row) → ((k : ℕ) → has k a ≡ has k b) → (o : Option ℕ) (v : Value) → kept_value a o v ≡ kept_value b o v
 unfolding kept_value
-kept_alike a b same none v = refl
-kept_alike a b same (some t) v = ap value_of (keep_alike (present a t) (present b t) (λ x. same (key_of t (uuid_of x))) (elements v))
+kept_alike a b same None v = refl
+kept_alike a b same (Some t) v = ap value_of (keep_alike (present a t) (present b t) (λ x. same (key_of t (uuid_of x))) (elements v))
 
 has_in : (k : ℕ) (l : List Row) → has k l ≡ any (eqb k) (map key l)
 has_in k [] = refl

@@ -1,12 +1,10 @@
 -- Collection by counts: each row's strong references are counted once, and a row that goes takes its own off the counts. Assumes nothing: these are definitions.
-use Rattle.std.specs.Prelude.{ℕ, ◌+◌, ◌-◌, ◌≤◌, ◌<◌, ◌≡◌, Bool, true, false, not, ◌&&◌, List, [], ◌∷◌, eqb, length, get_or, set, take}
+use Rattle.std.specs.Prelude.{ℕ, ◌+◌, ◌-◌, ◌≤◌, ◌<◌, ◌≡◌, Bool, true, false, not, ◌&&◌, List, [], ◌∷◌, eqb, length, get_or, set, take, Option, Some, None}
 use Rattle.model.specs.Base.{count}
 use Rattle.model.specs.Schema.{Schema, is_root}
 use Rattle.model.specs.Rows.{Row, key}
 use Rattle.model.specs.Commit.{strong_of}
 use Rattle.inner.specs.Working.{working, table_in, key_in}
-use Rattle.model.specs.declared.Found.{Found}
-use Rattle.model.specs.declared.Found.TheVariants.{At, Nothing}
 
 -- ── what is counted ──
 -- how many strong references a row has to the row under a key, if it is a different one; and how many rows together have
@@ -69,9 +67,9 @@ pub record Tallied (s : Schema) (n : ℕ) (cells : List (List (List ℕ))) (exit
 unfoldable pub may_go : Schema → List (List ℕ) → ℕ → ℕ → Bool
 may_go s row m c = not (eqb m 0) && (eqb c 0 && not (is_root s (table_in row)))
 
-unfoldable pub NextAt : Schema → ℕ → List (List (List ℕ)) → List ℕ → List ℕ → Found → Type 0
-NextAt s n cells ms cs (At i) = (i < n) × (may_go s (get_or cells i []) (get_or ms i 0) (get_or cs i 0) ≡ true)
-NextAt s n cells ms cs Nothing = (i : ℕ) → i < n → may_go s (get_or cells i []) (get_or ms i 0) (get_or cs i 0) ≡ false
+unfoldable pub NextAt : Schema → ℕ → List (List (List ℕ)) → List ℕ → List ℕ → Option ℕ → Type 0
+NextAt s n cells ms cs (Some i) = (i < n) × (may_go s (get_or cells i []) (get_or ms i 0) (get_or cs i 0) ≡ true)
+NextAt s n cells ms cs None = (i : ℕ) → i < n → may_go s (get_or cells i []) (get_or ms i 0) (get_or cs i 0) ≡ false
 
 -- rows went by their marks until none may go
 unfoldable pub Swept : Schema → ℕ → List (List (List ℕ)) → List ℕ → List ℕ → List ℕ → Type 0

@@ -1,6 +1,5 @@
 -- What is left of weak references: of a column, a row and the working rows. Assumes nothing: these are definitions.
-use Rattle.std.specs.Prelude.{ℕ, ◌≤◌, ◌<◌, ◌≡◌, List, length, take}
-use Rattle.std.proofs.Math.Option.{Option, none, some}
+use Rattle.std.specs.Prelude.{ℕ, ◌≤◌, ◌<◌, ◌≡◌, List, length, take, Option, Some, None}
 use Rattle.model.specs.Limits.{most_columns}
 use Rattle.model.specs.Base.{keep}
 use Rattle.model.specs.Schema.{Schema, columns_of}
@@ -12,8 +11,8 @@ use Rattle.inner.specs.Working.{working, table_in, value_in, TidyRow, Tidy, Orde
 
 -- a value of a column that refers weakly to a table, without the elements that name no row
 unfoldable pub kept_value : List Row → Option ℕ → Value → Value
-kept_value rows none v = v
-kept_value rows (some t) v = value_of (keep (present rows t) (elements v))
+kept_value rows None v = v
+kept_value rows (Some t) v = value_of (keep (present rows t) (elements v))
 
 pub record ColumnWeak (to : Option ℕ) (c n : ℕ) (rows : List (List (List ℕ))) (entry exit : List (List ℕ)) : Type 0 where
   pub row : (s : Schema) → c < length (columns_of s (table_in entry)) → row_from s exit ≡ set_column c (kept_value (working s n rows) to (value_in c entry)) (row_from s entry)

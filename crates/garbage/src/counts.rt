@@ -1,7 +1,6 @@
 // Collection by counts: the strong references to each row are counted once, and a row that goes takes its own off the counts. It leaves what
 // `collect` leaves.
-ghost use Rattle.std.specs.Prelude.{◌≡◌, true, not, [], ◌∷◌, ◌≤◌, ◌<◌, length, take, replicate};
-ghost use Rattle.std.proofs.Math.Option.{some};
+ghost use Rattle.std.specs.Prelude.{◌≡◌, true, not, [], ◌∷◌, ◌≤◌, ◌<◌, length, take, replicate, Some};
 ghost use Rattle.model.specs.Limits.{most_columns, most_rows};
 ghost use Rattle.model.specs.Base.{any};
 ghost use Rattle.model.specs.Schema.{is_root};
@@ -11,18 +10,17 @@ ghost use Rattle.model.specs.Commit.{keys_of, strong_of, loose};
 ghost use Rattle.model.specs.Areas.{row_from};
 ghost use Rattle.model.specs.Catalog.{packed_tables};
 ghost use Rattle.inner.specs.Working.{working, value_in, Ordered};
-ghost use Rattle.references.specs.Links.{target_table};
 ghost use Rattle.catalog.specs.Accepted.{Accepted};
 ghost use Rattle.garbage.specs.Loose.{Collected};
 ghost use Rattle.garbage.specs.Counts.{shifted, most_count, Room, Counted, Tallied, may_go, NextAt, Swept, PartlySwept, Put, Compacted};
 
-use model::{Atom, Catalog, Found, ID, ROWS, Row};
-use references::Target;
+use model::{Atom, Catalog, ID, ROWS, Row};
 
 // Every place, as bits.
 const EVERY_PLACE: u64 = 18446744073709551615;
 
 // A count with one more, or with one less.
+#[tactic(auto, unfolding(crate::specs::Counts::shifted))]
 fn moved(c: u16, up: bool) -> u16
     requires { up ≡ true → c < most_count }
     ensures { result ≡ shifted up c 1 }
@@ -30,10 +28,7 @@ fn moved(c: u16, up: bool) -> u16
     if up {
         return c + 1;
     }
-    if 0 < c {
-        return c - 1;
-    }
-    0
+    c.saturating_sub(1)
 }
 
 // The count of the row that an atom names, moved, if it is a different row than the one at place `own`; and as bits the places whose count
@@ -53,19 +48,15 @@ fn count_named(
 {
     let id = &atom[..];
     let found = rows::find_key(rows, n, table, &id[0..ID]);
-    let Found::At(i) = found else {
+    let Some(i) = found else {
         return 0;
     };
     if i == own {
         return 0;
     }
-    let c = counts[i];
-    let d = moved(c, up);
+    let d = moved(counts[i], up);
     counts[i] = d;
-    if d == 0 {
-        return 1u64 << (i % 64);
-    }
-    0
+    if d == 0 { 1u64 << (i % 64) } else { 0 }
 }
 
 // The same of the first atoms.
@@ -80,15 +71,12 @@ fn count_atoms(
     counts: &mut [u16],
 ) -> u64
     requires count_in_bounds { (count ≤ length atoms.now) × Ordered n rows.now × (n ≤ length counts.old) }
-    requires room { Room up n rows.now own (keys_of (some table) (take count atoms.now)) counts.old }
-    ensures { Counted up n rows.now own (keys_of (some table) (take count atoms.now)) counts.old counts.new }
+    requires room { Room up n rows.now own (keys_of (Some table) (take count atoms.now)) counts.old }
+    ensures { Counted up n rows.now own (keys_of (Some table) (take count atoms.now)) counts.old counts.new }
 {
     let mut zeros = 0u64;
-    let mut k = 0;
-    while k < count {
-        let z = count_named(&atoms[k], table, rows, n, own, up, counts);
-        zeros = zeros | z;
-        k += 1;
+    for atom in &atoms[..count] {
+        zeros |= count_named(atom, table, rows, n, own, up, counts);
     }
     zeros
 }
@@ -97,7 +85,7 @@ fn count_atoms(
 fn count_column(
     row: &Row,
     c: usize,
-    to: Target,
+    to: Option<u8>,
     rows: &[Row],
     n: usize,
     own: usize,
@@ -105,11 +93,11 @@ fn count_column(
     counts: &mut [u16],
 ) -> u64
     requires c_lt_most_columns { (c < most_columns) × Ordered n rows.now × (n ≤ length counts.old) }
-    requires room { Room up n rows.now own (keys_of (target_table to) (elements (value_in c row.now))) counts.old }
-    ensures { Counted up n rows.now own (keys_of (target_table to) (elements (value_in c row.now))) counts.old counts.new }
+    requires room { Room up n rows.now own (keys_of to (elements (value_in c row.now))) counts.old }
+    ensures { Counted up n rows.now own (keys_of to (elements (value_in c row.now))) counts.old counts.new }
 {
     match to {
-        Target::Table(t) => count_atoms(
+        Some(t) => count_atoms(
             rows::atoms_in(row, c),
             references::size(rows::count_of(row, c)),
             t,
@@ -119,7 +107,7 @@ fn count_column(
             up,
             counts,
         ),
-        Target::Nothing => 0,
+        None => 0,
     }
 }
 
@@ -141,12 +129,9 @@ fn count_row(
     let table = rows::table_of(row);
     let w = references::width(schema, table);
     let mut zeros = 0u64;
-    let mut c = 0;
-    while c < w {
+    for c in 0..w {
         let to = references::refers(schema, table, c, 1);
-        let z = count_column(row, c, to, rows, n, own, up, counts);
-        zeros = zeros | z;
-        c += 1;
+        zeros |= count_column(row, c, to, rows, n, own, up, counts);
     }
     zeros
 }
@@ -157,41 +142,39 @@ fn count_all(schema: &Catalog, rows: &[Row], n: usize, counts: &mut [u16])
     requires ordered { Ordered n rows.now × (n ≤ most_rows) × (counts.old ≡ replicate most_rows 0) }
     ensures { Tallied (packed_tables schema.now) n rows.now counts.new }
 {
-    let mut i = 0;
-    while i < n {
+    for i in 0..n {
         count_row(schema, &rows[i], rows, n, i, true, counts);
-        i += 1;
     }
 }
 
 // Whether a row may go: it is there, its count is 0, and its table is not root.
+#[tactic(auto, unfolding(crate::specs::Counts::may_go))]
 fn may_go(schema: &Catalog, row: &Row, mark: u8, count: u16) -> bool
     requires { Accepted schema.now }
     ensures { result ≡ may_go (packed_tables schema.now) row.now mark count }
 {
-    if mark == 0 {
-        return false;
-    }
-    if count != 0 {
-        return false;
-    }
-    !super::is_root(schema, rows::table_of(row))
+    mark != 0 && count == 0 && !super::is_root(schema, rows::table_of(row))
 }
 
 // The place of the first row that may go.
-fn next_to_go(schema: &Catalog, rows: &[Row], n: usize, marks: &[u8], counts: &[u16]) -> Found
+#[tactic(auto, unfolding(crate::specs::Counts::NextAt))]
+fn next_to_go(
+    schema: &Catalog,
+    rows: &[Row],
+    n: usize,
+    marks: &[u8],
+    counts: &[u16],
+) -> Option<usize>
     requires accepted { Accepted schema.now }
     requires n_in_bounds { (n ≤ length rows.now) × (n ≤ length marks.now) × (n ≤ length counts.now) }
     ensures { NextAt (packed_tables schema.now) n rows.now marks.now counts.now result }
 {
-    let mut i = 0;
-    while i < n {
+    for i in 0..n {
         if may_go(schema, &rows[i], marks[i], counts[i]) {
-            return Found::At(i);
+            return Some(i);
         }
-        i += 1;
     }
-    Found::Nothing
+    None
 }
 
 // Rows that may go are marked as gone, one after another; each takes its references off the counts. `pending` has the places to look at as
@@ -211,11 +194,10 @@ fn sweep_noted(schema: &Catalog, rows: &[Row], n: usize, marks: &mut [u8], count
         if n <= i {
             return;
         }
-        pending = pending & (pending - 1);
+        pending &= pending - 1;
         if may_go(schema, &rows[i], marks[i], counts[i]) {
             marks[i] = 0;
-            let z = count_row(schema, &rows[i], rows, n, i, false, counts);
-            pending = pending | z;
+            pending |= count_row(schema, &rows[i], rows, n, i, false, counts);
         }
     }
 }
@@ -227,17 +209,14 @@ fn sweep(schema: &Catalog, rows: &[Row], n: usize, marks: &mut [u8], counts: &mu
     requires ordered { Ordered n rows.now × (n ≤ length marks.old) × (n ≤ length counts.old) }
     ensures { Swept (packed_tables schema.now) n rows.now marks.old counts.old marks.new }
 {
-    loop {
-        let found = next_to_go(schema, rows, n, marks, counts);
-        let Found::At(i) = found else {
-            return;
-        };
+    while let Some(i) = next_to_go(schema, rows, n, marks, counts) {
         marks[i] = 0;
         count_row(schema, &rows[i], rows, n, i, false, counts);
     }
 }
 
 // Row j put at place m, if it is marked; and the place after it. A row that is there already stays.
+#[tactic(auto, unfolding(crate::specs::Counts::Put))]
 fn put_down(rows: &mut [Row], m: usize, j: usize, mark: u8) -> usize
     requires { (m ≤ j) × (j < length rows.old) }
     ensures { Put m j mark result rows.old rows.new }
@@ -245,11 +224,9 @@ fn put_down(rows: &mut [Row], m: usize, j: usize, mark: u8) -> usize
     if mark == 0 {
         return m;
     }
-    if m == j {
-        return m + 1;
+    if m != j {
+        rows[m] = rows[j];
     }
-    let r = rows[j];
-    rows[m] = r;
     m + 1
 }
 
@@ -259,11 +236,8 @@ fn keep_marked(rows: &mut [Row], n: usize, marks: &[u8]) -> usize
     ensures { Compacted n result marks.now rows.old rows.new }
 {
     let mut m = 0;
-    let mut j = 0;
-    while j < n {
-        let k = put_down(rows, m, j, marks[j]);
-        m = k;
-        j += 1;
+    for j in 0..n {
+        m = put_down(rows, m, j, marks[j]);
     }
     m
 }
@@ -274,17 +248,10 @@ fn any_not_root(schema: &Catalog, rows: &[Row], n: usize) -> bool
     requires n_in_bounds { n ≤ length rows.now }
     ensures { result ≡ any (λ (x : Row). not (is_root (packed_tables schema.now) x.table)) (working (packed_tables schema.now) n rows.now) }
 {
-    if !super::some_root(schema) {
-        return false;
-    }
-    let mut i = 0;
-    while i < n {
-        if !super::is_root(schema, rows::table_of(&rows[i])) {
-            return true;
-        }
-        i += 1;
-    }
-    false
+    super::some_root(schema)
+        && rows[..n]
+            .iter()
+            .any(|row| !super::is_root(schema, rows::table_of(row)))
 }
 
 // What collection leaves of the rows: just what `collect` leaves, with one count of the references in place of a search for each row that
@@ -317,7 +284,7 @@ pub fn any_loose(schema: &Catalog, rows: &[Row], n: usize) -> bool
 {
     if ROWS < n {
         let first = super::first_loose(schema, rows, n);
-        let Found::At(_) = first else {
+        let Some(_) = first else {
             return false;
         };
         return true;
@@ -329,7 +296,7 @@ pub fn any_loose(schema: &Catalog, rows: &[Row], n: usize) -> bool
     count_all(schema, rows, n, &mut counts);
     let marks = [1u8; ROWS];
     let next = next_to_go(schema, rows, n, &marks, &counts);
-    let Found::At(_) = next else {
+    let Some(_) = next else {
         return false;
     };
     true

@@ -13,13 +13,11 @@ ghost use Rattle.model.specs.Commit.{present, loose, collect};
 ghost use Rattle.model.specs.Areas.{row_from};
 ghost use Rattle.model.specs.Catalog.{packed_tables};
 ghost use Rattle.inner.specs.Working.{working, key_in, value_in, Ordered, place};
-ghost use Rattle.references.specs.Links.{target_table};
 ghost use Rattle.catalog.specs.Accepted.{Accepted};
 ghost use Rattle.garbage.specs.Loose.{holds, LooseAt, Collected};
 ghost use Rattle.garbage.specs.Weak.{ColumnWeak, RowWeak, Weakened};
 
-use model::{ATOM, Atom, Catalog, ELEMENTS, Found, Row};
-use references::Target;
+use model::{ATOM, Atom, Catalog, ELEMENTS, Row};
 
 // Whether a table says that it is root.
 fn some_root(schema: &Catalog) -> bool
@@ -27,14 +25,9 @@ fn some_root(schema: &Catalog) -> bool
     ensures { result ≡ any (λ (x : Table). x.root) (packed_tables schema.now) }
 {
     let n = leaf::wide(catalog::table_count(&schema[0]));
-    let mut t = 0;
-    while t < n {
-        if catalog::says_root(&schema[1 + t]) {
-            return true;
-        }
-        t += 1;
-    }
-    false
+    schema[1..1 + n]
+        .iter()
+        .any(|table| catalog::says_root(table))
 }
 
 // Whether a table is root: all are, if none says so.
@@ -42,13 +35,9 @@ fn is_root(schema: &Catalog, table: u8) -> bool
     requires { Accepted schema.now }
     ensures { result ≡ is_root (packed_tables schema.now) table }
 {
-    if catalog::table_count(&schema[0]) <= table {
-        return true;
-    }
-    if catalog::says_root(&schema[1 + leaf::wide(table)]) {
-        return true;
-    }
-    !some_root(schema)
+    catalog::table_count(&schema[0]) <= table
+        || catalog::says_root(&schema[1 + leaf::wide(table)])
+        || !some_root(schema)
 }
 
 // Whether two rows are the same, by table and id.
@@ -59,14 +48,12 @@ fn same_row(a: &Row, b: &Row) -> bool
 }
 
 // Whether a row is a different one that refers strongly to another.
+#[tactic(auto, using(inner::proofs::Working::row_key), unfolding(crate::specs::Loose::holds))]
 fn holds_row(schema: &Catalog, row: &Row, other: &Row) -> bool
     requires { Accepted schema.now }
     ensures { result ≡ holds (packed_tables schema.now) (key_in other.now) (row_from (packed_tables schema.now) row.now) }
 {
-    if same_row(row, other) {
-        return false;
-    }
-    references::refers_to(row, schema, other)
+    !same_row(row, other) && references::refers_to(row, schema, other)
 }
 
 // Whether a different row refers strongly to this one.
@@ -75,42 +62,31 @@ fn is_held(schema: &Catalog, rows: &[Row], n: usize, row: &Row) -> bool
     requires n_in_bounds { n ≤ length rows.now }
     ensures { result ≡ any (holds (packed_tables schema.now) (key_in row.now)) (working (packed_tables schema.now) n rows.now) }
 {
-    let mut j = 0;
-    while j < n {
-        if holds_row(schema, &rows[j], row) {
-            return true;
-        }
-        j += 1;
-    }
-    false
+    rows[..n].iter().any(|other| holds_row(schema, other, row))
 }
 
 // Whether a row of a table that is not root is held by no other.
+#[tactic(auto, using(inner::proofs::Working::row_key, inner::proofs::Working::row_table), unfolding(crate::specs::Loose::holds))]
 fn is_loose(schema: &Catalog, rows: &[Row], n: usize, row: &Row) -> bool
     requires accepted { Accepted schema.now }
     requires n_in_bounds { n ≤ length rows.now }
     ensures { result ≡ loose (packed_tables schema.now) (working (packed_tables schema.now) n rows.now) (row_from (packed_tables schema.now) row.now) }
 {
-    if is_root(schema, rows::table_of(row)) {
-        return false;
-    }
-    !is_held(schema, rows, n, row)
+    !is_root(schema, rows::table_of(row)) && !is_held(schema, rows, n, row)
 }
 
 // The place of the first loose row.
-pub fn first_loose(schema: &Catalog, rows: &[Row], n: usize) -> Found
+pub fn first_loose(schema: &Catalog, rows: &[Row], n: usize) -> Option<usize>
     requires accepted { Accepted schema.now }
     requires ordered { Ordered n rows.now }
     ensures { LooseAt (packed_tables schema.now) (working (packed_tables schema.now) n rows.now) result }
 {
-    let mut i = 0;
-    while i < n {
+    for i in 0..n {
         if is_loose(schema, rows, n, &rows[i]) {
-            return Found::At(i);
+            return Some(i);
         }
-        i += 1;
     }
-    Found::Nothing
+    None
 }
 
 // Removes the first loose row and calls itself, until there is none. The rows fall by one at each call; those that are left are counted. It is
@@ -121,7 +97,7 @@ pub fn collect(schema: &Catalog, rows: &mut [Row], n: usize) -> usize
     ensures { Collected (packed_tables schema.now) n result rows.old rows.new }
 {
     let found = first_loose(schema, rows, n);
-    let Found::At(i) = found else {
+    let Some(i) = found else {
         return n;
     };
     rows::remove_at(rows, n, i);
@@ -140,18 +116,18 @@ fn keep_column(rows: &[Row], n: usize, i: usize, c: usize, table: u8, out: &mut 
 }
 
 // Column c of row i keeps the elements that name a row of a table, in their order; another column stays, and so do the other rows.
-fn weaken_column(rows: &mut [Row], n: usize, i: usize, c: usize, to: Target)
+fn weaken_column(rows: &mut [Row], n: usize, i: usize, c: usize, to: Option<u8>)
     requires { (c < most_columns) × (i < n) × Ordered n rows.old }
     ensures rows_after { rows.new ≡ set rows.old i (get_or rows.new i []) }
-    ensures column_weak { ColumnWeak (target_table to) c n rows.old (get_or rows.old i []) (get_or rows.new i []) }
+    ensures column_weak { ColumnWeak to c n rows.old (get_or rows.old i []) (get_or rows.new i []) }
 {
     match to {
-        Target::Table(t) => {
+        Some(t) => {
             let mut kept = [[0u8; ATOM]; ELEMENTS];
             let k = keep_column(rows, n, i, c, t, &mut kept);
             rows::set_column(&mut rows[i], c, k as u8, &kept);
         }
-        Target::Nothing => {}
+        None => {}
     }
 }
 
@@ -164,11 +140,9 @@ fn weaken_row(rows: &mut [Row], n: usize, i: usize, schema: &Catalog)
 {
     let table = rows::table_of(&rows[i]);
     let w = references::width(schema, table);
-    let mut c = 0;
-    while c < w {
+    for c in 0..w {
         let to = references::refers(schema, table, c, 2);
         weaken_column(rows, n, i, c, to);
-        c += 1;
     }
 }
 
@@ -178,9 +152,7 @@ pub fn weaken(schema: &Catalog, rows: &mut [Row], n: usize)
     requires ordered { Ordered n rows.old }
     ensures { Weakened (packed_tables schema.now) n rows.old rows.new }
 {
-    let mut i = 0;
-    while i < n {
+    for i in 0..n {
         weaken_row(rows, n, i, schema);
-        i += 1;
     }
 }

@@ -1,4 +1,5 @@
 -- Indexes in the bytes of a cell. Assumes nothing.
+use Rattle.std.specs.Prelude.{Option, Some, None}
 use mathlib.Core.Path.{◌≡◌, refl, sym, ap, subst, ◌∙◌}
 use mathlib.Core.List.{List, [], ◌∷◌, ◌++◌, map, append_assoc}
 use mathlib.Core.Bool.{true, ◌&&◌}
@@ -8,8 +9,6 @@ use borrow.Author.Tests.{leb-true}
 use lib.Dec.{leb}
 use lib.ListN.{length, get_or, take, drop}
 use lib.Seq.{sets, sets-eq, take_at, drop-append-add, get_or-append-add, length-take-le}
-use Rattle.model.specs.declared.Found.{Found}
-use Rattle.model.specs.declared.Found.TheVariants.{At, Nothing}
 use Rattle.model.specs.Base.{all}
 use Rattle.model.specs.Json.{Json}
 use Rattle.inner.specs.Positions.{tree_at, well_at, first_of, next_item, items_from, items_fine}
@@ -19,8 +18,19 @@ use Rattle.model.specs.SchemaText.{index_of}
 use Rattle.model.proofs.Tests.{and_l, and_r}
 use Rattle.nav.proofs.FirstByte.{items_in_lem}
 use Rattle.nav.proofs.Walk.{walk_end, walk_rest, walk_fine}
-use Rattle.catalog.proofs.Writing.{Four, four, is_four}
 use Rattle.indexes.specs.Indexes.{short_index, short_indexes, Index, Stored}
+
+-- an array of four
+data Four : List ℕ → Type 0 where
+  four : (a b c d : ℕ) → Four (a ∷ b ∷ c ∷ d ∷ [])
+
+is_four : (l : List ℕ) → length l ≡ 4 → Four l
+is_four [] h = absurd (omega arith)
+is_four (a ∷ []) h = absurd (omega arith)
+is_four (a ∷ b ∷ []) h = absurd (omega arith)
+is_four (a ∷ b ∷ c ∷ []) h = absurd (omega arith)
+is_four (a ∷ b ∷ c ∷ d ∷ []) h = four a b c d
+is_four (a ∷ b ∷ c ∷ d ∷ e ∷ l) h = absurd (omega arith)
 
 -- at most three of more bytes
 few_of : (n x y z : ℕ) (l : List ℕ) → n ≤ 3 → take n (x ∷ y ∷ z ∷ l) ≡ take n (x ∷ y ∷ z ∷ [])
@@ -69,7 +79,7 @@ none_of [] h = refl
 none_of (x ∷ l) h = absurd (omega arith)
 
 -- at most two short indexes, as they are walked
-module _ (s : List ℕ) (at : ℕ) (well : well_at s at ≡ true) (short : short_indexes (tree_at s at) ≡ true) {f : Found} (e : f ≡ first_of s 91 93 at) where
+module _ (s : List ℕ) (at : ℕ) (well : well_at s at ≡ true) (short : short_indexes (tree_at s at) ≡ true) {f : Option ℕ} (e : f ≡ first_of s 91 93 at) where
   listed : items_in (tree_at s at) ≡ items_from s f
   listed = (items_in_lem s at well).0 ∙ ap (items_from s) (sym e)
 
@@ -85,10 +95,10 @@ module _ (s : List ℕ) (at : ℕ) (well : well_at s at ≡ true) (short : short
   shorts = ap (all short_index) (sym listed) ∙ and_r (leb (length (items_in (tree_at s at))) 2) _ short
 
   module _ (cell : List ℕ) (size : length cell ≡ 48) (ns : List (List ℕ)) {after : List ℕ} where
-    pub put_none : f ≡ Nothing → after ≡ sets cell 36 (0 ∷ ((0 ∷ 0 ∷ 0 ∷ 0 ∷ []) ++ (0 ∷ 0 ∷ 0 ∷ 0 ∷ []))) → Stored cell after (map (index_of ns) (items_in (tree_at s at)))
+    pub put_none : f ≡ None → after ≡ sets cell 36 (0 ∷ ((0 ∷ 0 ∷ 0 ∷ 0 ∷ []) ++ (0 ∷ 0 ∷ 0 ∷ 0 ∷ []))) → Stored cell after (map (index_of ns) (items_in (tree_at s at)))
     put_none h q = rw (listed ∙ walk_end s h) (put_all cell size 0 empty empty q)
 
-  module _ {p : ℕ} (h : f ≡ At p) where
+  module _ {p : ℕ} (h : f ≡ Some p) where
     both : (short_index (tree_at s p) && all short_index (items_from s (next_item s p))) ≡ true
     both = ap (all short_index) (sym (walk_rest s h)) ∙ shorts
 
@@ -98,11 +108,11 @@ module _ (s : List ℕ) (at : ℕ) (well : well_at s at ≡ true) (short : short
     pub first_short : short_index (tree_at s p) ≡ true
     first_short = and_l (short_index (tree_at s p)) _ both
 
-    module _ {g : Found} (n : g ≡ next_item s p) where
+    module _ {g : Option ℕ} (n : g ≡ next_item s p) where
       rest_is : items_in (tree_at s at) ≡ tree_at s p ∷ items_from s g
-      rest_is = listed ∙ walk_rest s h ∙ ap (λ (x : Found). tree_at s p ∷ items_from s x) (sym n)
+      rest_is = listed ∙ walk_rest s h ∙ ap (λ (x : Option ℕ). tree_at s p ∷ items_from s x) (sym n)
 
-      module _ {r : ℕ} (k : g ≡ At r) where
+      module _ {r : ℕ} (k : g ≡ Some r) where
         pub second_well : well_at s r ≡ true
         second_well = (walk_fine s k (rw n (walk_fine s h fine).1)).0
 
@@ -113,8 +123,8 @@ module _ (s : List ℕ) (at : ℕ) (well : well_at s at ≡ true) (short : short
         no_third = none_of _ (omega (arith, most, ap length listed, ap length rest_is, ap length (walk_rest s k)))
 
       module _ (cell : List ℕ) (size : length cell ≡ 48) (ns : List (List ℕ)) {a after : List ℕ} (ia : Index a (index_of ns (tree_at s p))) where
-        pub put_one : g ≡ Nothing → after ≡ sets cell 36 (1 ∷ (a ++ (0 ∷ 0 ∷ 0 ∷ 0 ∷ []))) → Stored cell after (map (index_of ns) (items_in (tree_at s at)))
+        pub put_one : g ≡ None → after ≡ sets cell 36 (1 ∷ (a ++ (0 ∷ 0 ∷ 0 ∷ 0 ∷ []))) → Stored cell after (map (index_of ns) (items_in (tree_at s at)))
         put_one k q = rw (rest_is, walk_end s k) (put_all cell size 1 ia empty q)
 
-        pub put_two : {r : ℕ} {b : List ℕ} → g ≡ At r → Index b (index_of ns (tree_at s r)) → after ≡ sets cell 36 (2 ∷ (a ++ b)) → Stored cell after (map (index_of ns) (items_in (tree_at s at)))
+        pub put_two : {r : ℕ} {b : List ℕ} → g ≡ Some r → Index b (index_of ns (tree_at s r)) → after ≡ sets cell 36 (2 ∷ (a ++ b)) → Stored cell after (map (index_of ns) (items_in (tree_at s at)))
         put_two k ib q = rw (rest_is, walk_rest s k, no_third k) (put_all cell size 2 ia ib q)

@@ -1,4 +1,5 @@
 -- A walk over items that counts them and judges each. Assumes nothing.
+use Rattle.std.specs.Prelude.{Option, Some, None}
 use mathlib.Core.Path.{◌≡◌, refl, sym, ap, ◌∙◌}
 use mathlib.Core.List.{List}
 use mathlib.Core.Bool.{Bool, true, false, ◌&&◌}
@@ -7,8 +8,6 @@ use native.Mathlib.Omega.{arith}
 use borrow.Author.Tests.{lt-leb, le-leb}
 use lib.Dec.{leb}
 use lib.ListN.{length}
-use Rattle.model.specs.declared.Found.{Found}
-use Rattle.model.specs.declared.Found.TheVariants.{At, Nothing}
 use Rattle.model.specs.Base.{all}
 use Rattle.model.specs.Json.{Json, null, bool, num, str, arr, obj, Named}
 use Rattle.inner.specs.Positions.{tree_at, well_at, first_of, next_item, items_from, items_fine}
@@ -19,30 +18,30 @@ use Rattle.nav.proofs.FirstByte.{items_in_lem}
 use Rattle.nav.proofs.Walk.{walk_end, walk_rest, walk_fine}
 use Rattle.indexes.specs.Indexes.{few_fit}
 
-pub record Passed (s : List ℕ) (p : Json → Bool) (xs : List Json) (n : ℕ) (g : Found) : Type 0 where
+pub record Passed (s : List ℕ) (p : Json → Bool) (xs : List Json) (n : ℕ) (g : Option ℕ) : Type 0 where
   pub size : length xs ≡ n + length (items_from s g)
   pub rest : all p xs ≡ all p (items_from s g)
   pub fine : items_fine s g ≡ true
 
 module _ {s : List ℕ} {p : Json → Bool} where
-  pub passed_start : (at : ℕ) → well_at s at ≡ true → {g : Found} → g ≡ first_of s 91 93 at → Passed s p (items_in (tree_at s at)) 0 g
+  pub passed_start : (at : ℕ) → well_at s at ≡ true → {g : Option ℕ} → g ≡ first_of s 91 93 at → Passed s p (items_in (tree_at s at)) 0 g
   passed_start at w {g} e =
       let q = items_in_lem s at w in
       let z : items_in (tree_at s at) ≡ items_from s g = q.0 ∙ ap (items_from s) (sym e) in
       record { size = ap length z ∙ omega arith; rest = ap (all p) z; fine = rw e q.1 }
 
-  module _ {xs : List Json} {n : ℕ} {g : Found} (so : Passed s p xs n g) where
-    pub passed_end : g ≡ Nothing → (length xs ≡ n) × (all p xs ≡ true)
+  module _ {xs : List Json} {n : ℕ} {g : Option ℕ} (so : Passed s p xs n g) where
+    pub passed_end : g ≡ None → (length xs ≡ n) × (all p xs ≡ true)
     passed_end e = (omega (arith, so.size, ap length (walk_end s e)), so.rest ∙ ap (all p) (walk_end s e))
 
-    module _ {i : ℕ} (h : g ≡ At i) where
+    module _ {i : ℕ} (h : g ≡ Some i) where
       pub passed_more : suc n ≤ length xs
       passed_more = omega (arith, so.size, ap length (walk_rest s h))
 
       pub passed_bad : p (tree_at s i) ≡ false → all p xs ≡ false
       passed_bad f = so.rest ∙ ap (all p) (walk_rest s h) ∙ rw f
 
-      pub passed_on : {k : ℕ} {t : Found} → p (tree_at s i) ≡ true → k ≡ n + 1 → t ≡ next_item s i → Passed s p xs k t
+      pub passed_on : {k : ℕ} {t : Option ℕ} → p (tree_at s i) ≡ true → k ≡ n + 1 → t ≡ next_item s i → Passed s p xs k t
       passed_on {k} {t} f ek et =
           rw (ek, et) (record {
             size = omega (arith, so.size, ap length (walk_rest s h));

@@ -1,8 +1,8 @@
 -- The columns of an index as numbers, one after another. Assumes nothing.
+use Rattle.std.specs.Prelude.{Option, Some, None}
 use mathlib.Core.Path.{◌≡◌, refl, sym, ap, ◌∙◌}
 use mathlib.Core.List.{List, [], ◌∷◌, ◌++◌, map, append-nil}
 use mathlib.Core.Bool.{Bool, true, ◌&&◌}
-use mathlib.Core.Option.{Option, none, some}
 use Prim.Native.Nat.{ℕ, suc, ◌+◌, ◌<◌, ◌≤◌}
 use native.Mathlib.Numerals.{add-one}
 use native.Mathlib.Omega.{arith}
@@ -10,8 +10,6 @@ use borrow.Author.Tests.{leb-true}
 use lib.Dec.{leb}
 use lib.ListN.{length, take, drop, set, length-set, length-drop}
 use lib.Seq.{get_or-set_same, drop-set-lt, drop-set-add, take-suc-set, append_snoc}
-use Rattle.model.specs.declared.Found.{Found}
-use Rattle.model.specs.declared.Found.TheVariants.{At, Nothing}
 use Rattle.model.specs.Octets.{eq_bytes}
 use Rattle.model.specs.Base.{all, place_of}
 use Rattle.model.specs.Json.{Json, Named}
@@ -23,23 +21,23 @@ use Rattle.model.specs.Catalog.{entry_name}
 use Rattle.model.specs.SchemaText.{names, is_id, is_indexed, index_tests, index_fits, indexes_tests, indexes_fit, place_or, index_of, is_lasting}
 use Rattle.model.proofs.Tests.{split, and_l, and_r, parts}
 use Rattle.names.specs.Names.{name_cell, short_cell}
-use Rattle.catalog.specs.Entries.{found_at, entry_named}
+use Rattle.catalog.specs.Entries.{entry_named}
 use Rattle.nav.proofs.FirstByte.{items_in_lem}
 use Rattle.nav.proofs.Walk.{walk_end, walk_rest, walk_fine}
 use Rattle.indexes.specs.Indexes.{is_short, short_index, short_indexes, Index}
 use Rattle.indexes.proofs.Shorts.{string_text, cell_short, id_short, has_id_lem}
 
-place_small : (w : List ℕ) (xs : List (List ℕ)) (k : ℕ) → place_of w xs ≡ some k → k < length xs
+place_small : (w : List ℕ) (xs : List (List ℕ)) (k : ℕ) → place_of w xs ≡ Some k → k < length xs
 place_small w [] k h = absurd (let z : ◌≡◌ {A = ℕ} 0 1 = cc in omega arith)
 place_small w (x ∷ xs) k h =
     split
     (eq_bytes w x)
-    (λ e. let q : some 0 ≡ some k = rw (place_of, e) at h in let z : 0 ≡ k = cc in omega arith)
+    (λ e. let q : Some 0 ≡ Some k = rw (place_of, e) at h in let z : 0 ≡ k = cc in omega arith)
     (λ e. go (place_of w xs) (place_small w xs) refl (rw (place_of, e) at h))
   where
-    go : (o : Option ℕ) → ((i : ℕ) → place_of w xs ≡ some i → i < length xs) → place_of w xs ≡ o → elim o [ none ↦ none | some i ↦ some (suc i) ] ≡ some k → k < suc (length xs)
-    go none ih p q = absurd (let z : ◌≡◌ {A = ℕ} 0 1 = cc in omega arith)
-    go (some i) ih p q = let z : suc i ≡ k = cc in omega (arith, ih i p)
+    go : (o : Option ℕ) → ((i : ℕ) → place_of w xs ≡ Some i → i < length xs) → place_of w xs ≡ o → elim o [ None ↦ None | Some i ↦ Some (suc i) ] ≡ Some k → k < suc (length xs)
+    go None ih p q = absurd (let z : ◌≡◌ {A = ℕ} 0 1 = cc in omega arith)
+    go (Some i) ih p q = let z : suc i ≡ k = cc in omega (arith, ih i p)
 
 length_names : (cells : List (List ℕ)) → length (map entry_name cells) ≡ length cells
 length_names [] = refl
@@ -53,32 +51,30 @@ module _ (cells : List (List ℕ)) (j : Json) (short : is_short j ≡ true) {nam
       let t = and_l (is_text (kind_of j)) _ short in
       q ∙ ap (λ (w : List ℕ). text_of (short_cell w)) (string_text j t) ∙ cell_short (text_in j) (and_r (is_text (kind_of j)) _ short)
 
-  module _ {f : Found} (e : f ≡ entry_named cells name) where
-    found_is : f ≡ found_at (place_of (text_in j) (map entry_name cells))
+  module _ {f : Option ℕ} (e : f ≡ entry_named cells name) where
+    found_is : f ≡ (place_of (text_in j) (map entry_name cells))
     unfolding entry_named
-    found_is = e ∙ ap (λ (w : List ℕ). found_at (place_of w (map entry_name cells))) name_is
+    found_is = e ∙ ap (λ (w : List ℕ). (place_of w (map entry_name cells))) name_is
 
-    pub number_at : {k : ℕ} → f ≡ At k → (k ≡ place_or (text_in j) (map entry_name cells)) × (k < length cells)
-    unfolding found_at
+    pub number_at : {k : ℕ} → f ≡ Some k → (k ≡ place_or (text_in j) (map entry_name cells)) × (k < length cells)
     number_at {k} h = go (place_of (text_in j) (map entry_name cells)) refl
       where
         go : (o : Option ℕ) → place_of (text_in j) (map entry_name cells) ≡ o → (k ≡ place_or (text_in j) (map entry_name cells)) × (k < length cells)
-        go none p = absurd (let m : At k ≡ Nothing = sym h ∙ found_is ∙ ap found_at p in let z : ◌≡◌ {A = ℕ} 0 1 = cc in omega arith)
-        go (some i) p =
-            let m : At k ≡ At i = sym h ∙ found_is ∙ ap found_at p in
+        go None p = absurd (let m : Some k ≡ None = sym h ∙ found_is ∙ p in let z : ◌≡◌ {A = ℕ} 0 1 = cc in omega arith)
+        go (Some i) p =
+            let m : Some k ≡ Some i = sym h ∙ found_is ∙ p in
             let z : k ≡ i = cc in
             (rw (place_or, p) z, omega (arith, place_small (text_in j) (map entry_name cells) i p, length_names cells))
 
-    pub number_none : f ≡ Nothing → 0 ≡ place_or (text_in j) (map entry_name cells)
-    unfolding found_at
+    pub number_none : f ≡ None → 0 ≡ place_or (text_in j) (map entry_name cells)
     number_none h = go (place_of (text_in j) (map entry_name cells)) refl
       where
         go : (o : Option ℕ) → place_of (text_in j) (map entry_name cells) ≡ o → 0 ≡ place_or (text_in j) (map entry_name cells)
-        go none p = rw (place_or, p)
-        go (some i) p = absurd (let m : Nothing ≡ At i = sym h ∙ found_is ∙ ap found_at p in let z : ◌≡◌ {A = ℕ} 0 1 = cc in omega arith)
+        go None p = rw (place_or, p)
+        go (Some i) p = absurd (let m : None ≡ Some i = sym h ∙ found_is ∙ p in let z : ◌≡◌ {A = ℕ} 0 1 = cc in omega arith)
 
 -- what is written of an index when the walk stands at g
-pub record Filled (s : List ℕ) (ns : List (List ℕ)) (j : Json) (q : List ℕ) (n : ℕ) (g : Found) : Type 0 where
+pub record Filled (s : List ℕ) (ns : List (List ℕ)) (j : Json) (q : List ℕ) (n : ℕ) (g : Option ℕ) : Type 0 where
   pub size : length q ≡ 4
   pub few : n + length (items_from s g) ≤ 3
   pub holds : index_of ns j ≡ take n (drop 1 q) ++ map (λ (x : Json). place_or (text_in x) ns) (items_from s g)
@@ -86,7 +82,7 @@ pub record Filled (s : List ℕ) (ns : List (List ℕ)) (j : Json) (q : List ℕ
   pub fine : items_fine s g ≡ true
 
 module _ (s : List ℕ) (ns : List (List ℕ)) where
-  pub filled_start : (at : ℕ) → well_at s at ≡ true → short_index (tree_at s at) ≡ true → {g : Found} → g ≡ first_of s 91 93 at → Filled s ns (tree_at s at) (0 ∷ 0 ∷ 0 ∷ 0 ∷ []) 0 g
+  pub filled_start : (at : ℕ) → well_at s at ≡ true → short_index (tree_at s at) ≡ true → {g : Option ℕ} → g ≡ first_of s 91 93 at → Filled s ns (tree_at s at) (0 ∷ 0 ∷ 0 ∷ 0 ∷ []) 0 g
   unfolding short_index
   filled_start at w h {g} e =
       let q = items_in_lem s at w in
@@ -100,8 +96,8 @@ module _ (s : List ℕ) (ns : List (List ℕ)) where
         fine = rw e q.1;
       }
 
-  module _ {j : Json} {q : List ℕ} {n : ℕ} {g : Found} (so : Filled s ns j q n g) where
-    pub filled_end : g ≡ Nothing → Index (set q 0 n) (index_of ns j)
+  module _ {j : Json} {q : List ℕ} {n : ℕ} {g : Option ℕ} (so : Filled s ns j q n g) where
+    pub filled_end : g ≡ None → Index (set q 0 n) (index_of ns j)
     filled_end e =
         let a = get_or-set_same q 0 n 0 (omega (arith, so.size)) in
         let d = drop-set-lt 1 q 0 n (omega arith) in
@@ -111,7 +107,7 @@ module _ (s : List ℕ) (ns : List (List ℕ)) where
           holds = rw (a, d) (sym (so.holds ∙ ap (λ l. take n (drop 1 q) ++ map (λ (x : Json). place_or (text_in x) ns) l) (walk_end s e) ∙ append-nil (take n (drop 1 q))));
         }
 
-    module _ {i : ℕ} (h : g ≡ At i) where
+    module _ {i : ℕ} (h : g ≡ Some i) where
       pub filled_more : n + 1 ≤ 3
       filled_more = omega (arith, so.few, ap length (walk_rest s h))
 
@@ -121,7 +117,7 @@ module _ (s : List ℕ) (ns : List (List ℕ)) where
       pub filled_short : is_short (tree_at s i) ≡ true
       filled_short = and_l (is_short (tree_at s i)) _ shorts
 
-      pub filled_on : {k : ℕ} {t : Found} → k ≡ place_or (text_in (tree_at s i)) ns → t ≡ next_item s i → Filled s ns j (set q (n + 1) k) (n + 1) t
+      pub filled_on : {k : ℕ} {t : Option ℕ} → k ≡ place_or (text_in (tree_at s i)) ns → t ≡ next_item s i → Filled s ns j (set q (n + 1) k) (n + 1) t
       filled_on {k} {t} ek et =
           let f : Json → ℕ = λ (x : Json). place_or (text_in x) ns in
           let o : n + 1 ≡ 1 + n = omega arith in

@@ -1,4 +1,5 @@
 -- Names that are ids are short, and a short name is what its cell holds. Assumes nothing.
+use Rattle.std.specs.Prelude.{Option, Some, None}
 use mathlib.Core.Path.{◌≡◌, refl, sym, ap, ◌∙◌}
 use mathlib.Core.List.{List, [], ◌∷◌}
 use mathlib.Core.Bool.{true, false, not, ◌&&◌}
@@ -6,8 +7,6 @@ use Prim.Native.Nat.{ℕ, suc, ◌-◌}
 use lib.Dec.{leb}
 use lib.ListN.{length, replicate}
 use lib.Seq.{take-append_seam}
-use Rattle.model.specs.declared.Found.{Found}
-use Rattle.model.specs.declared.Found.TheVariants.{At, Nothing}
 use Rattle.model.specs.Octets.{eq_bytes}
 use Rattle.model.specs.Base.{all, ascii}
 use Rattle.model.specs.Json.{Json, null, bool, num, str, arr, obj, Named}
@@ -81,13 +80,13 @@ truth_true (obj ms) = refl
 
 -- a column that has the member, and one that has it not
 module _ (s : List ℕ) (j : Json) where
-  pub lasting_at : {f : Found} {v : ℕ} → Means s f (has_member (ascii "ephemeral") (members_in j)) (member_value (ascii "ephemeral") (members_in j)) → f ≡ At v → not (is_true (tree_at s v)) ≡ is_lasting j
+  pub lasting_at : {f : Option ℕ} {v : ℕ} → Means s f (has_member (ascii "ephemeral") (members_in j)) (member_value (ascii "ephemeral") (members_in j)) → f ≡ Some v → not (is_true (tree_at s v)) ≡ is_lasting j
   unfolding Means is_lasting
   lasting_at {f} {v} m e =
-      let k : Means s (At v) (has_member (ascii "ephemeral") (members_in j)) (member_value (ascii "ephemeral") (members_in j)) = rw e at m in
+      let k : Means s (Some v) (has_member (ascii "ephemeral") (members_in j)) (member_value (ascii "ephemeral") (members_in j)) = rw e at m in
       ap not (sym (truth_true (tree_at s v)) ∙ ap (truth_or false) (sym k.1))
 
-  pub lasting_none : {f : Found} → Means s f (has_member (ascii "ephemeral") (members_in j)) (member_value (ascii "ephemeral") (members_in j)) → f ≡ Nothing → true ≡ is_lasting j
+  pub lasting_none : {f : Option ℕ} → Means s f (has_member (ascii "ephemeral") (members_in j)) (member_value (ascii "ephemeral") (members_in j)) → f ≡ None → true ≡ is_lasting j
   unfolding Means is_lasting member_value truth_or
   lasting_none {f} m e =
       let k : has_member (ascii "ephemeral") (members_in j) ≡ false = rw e at m in
@@ -107,20 +106,20 @@ module _ (s : List ℕ) (ms : List Named) (ids : all is_id (names ms) ≡ true) 
     has_is : has_member name ms ≡ has_member (text_in j) ms
     has_is = ap (λ (w : List ℕ). has_member w ms) looked ∙ has_cell ms ids (text_in j)
 
-    module _ (f : Found) (m : Means s f (has_member name ms) (member_value name ms)) where
-      pub found_well : {v : ℕ} → f ≡ At v → well_at s v ≡ true
+    module _ (f : Option ℕ) (m : Means s f (has_member name ms) (member_value name ms)) where
+      pub found_well : {v : ℕ} → f ≡ Some v → well_at s v ≡ true
       unfolding Means
-      found_well {v} e = let k : Means s (At v) (has_member name ms) (member_value name ms) = rw e at m in k.2
+      found_well {v} e = let k : Means s (Some v) (has_member name ms) (member_value name ms) = rw e at m in k.2
 
-      pub indexed_at : {v : ℕ} → f ≡ At v → is_lasting (tree_at s v) ≡ is_indexed ms j
+      pub indexed_at : {v : ℕ} → f ≡ Some v → is_lasting (tree_at s v) ≡ is_indexed ms j
       unfolding Means is_indexed
       indexed_at {v} e =
-          let k : Means s (At v) (has_member name ms) (member_value name ms) = rw e at m in
+          let k : Means s (Some v) (has_member name ms) (member_value name ms) = rw e at m in
           let h : has_member (text_in j) ms ≡ true = sym has_is ∙ k.0 in
           let u : tree_at s v ≡ member_value (text_in j) ms = sym k.1 ∙ ap (λ (w : List ℕ). member_value w ms) looked ∙ value_cell ms ids (text_in j) h in
           rw (is_indexed, t, h, u)
 
-      pub indexed_none : f ≡ Nothing → false ≡ is_indexed ms j
+      pub indexed_none : f ≡ None → false ≡ is_indexed ms j
       unfolding Means is_indexed
       indexed_none e =
           let k : has_member name ms ≡ false = rw e at m in

@@ -11,7 +11,7 @@ ghost use Rattle.model.specs.SchemaText.{names, is_id, is_lasting, is_indexed, i
 ghost use Rattle.indexes.specs.Indexes.{few_fit, is_short, short_index, short_indexes, Index, Stored};
 
 use catalog::INDEX;
-use model::{Entry, Found, INDEX_COLUMNS, INDEXES, Kind};
+use model::{Entry, INDEX_COLUMNS, INDEXES, Kind};
 
 // Whether the column at `at` is not ephemeral.
 fn is_lasting(text: &[u8], ends: &[u16], at: usize) -> bool
@@ -21,11 +21,11 @@ fn is_lasting(text: &[u8], ends: &[u16], at: usize) -> bool
 {
     let f = text::find(text, ends, at, b"ephemeral");
     match f {
-        Found::At(v) => {
+        Some(v) => {
             let t = nav::truth_at(text, v);
             !t
         }
-        Found::Nothing => true,
+        None => true,
     }
 }
 
@@ -42,8 +42,8 @@ fn is_indexed(text: &[u8], ends: &[u16], at: usize, columns: usize) -> bool
         let name = names::name_at(text, at);
         let f = text::find(text, ends, columns, atom::text_of(&name));
         match f {
-            Found::At(v) => return is_lasting(text, ends, v),
-            Found::Nothing => return false,
+            Some(v) => return is_lasting(text, ends, v),
+            None => return false,
         }
     }
     false
@@ -59,23 +59,19 @@ fn index_fits(text: &[u8], ends: &[u16], at: usize, columns: usize) -> bool
 {
     let mut n: usize = 0;
     let mut g = nav::first(text, at, b'[', b']');
-    loop {
-        match g {
-            Found::At(p) => {
-                if INDEX_COLUMNS <= n {
-                    return false;
-                }
-                let ok = is_indexed(text, ends, p, columns);
-                if ok {
-                    n += 1;
-                    g = nav::next_item(text, ends, p);
-                } else {
-                    return false;
-                }
-            }
-            Found::Nothing => return 1 <= n,
+    while let Some(p) = g {
+        if INDEX_COLUMNS <= n {
+            return false;
+        }
+        let ok = is_indexed(text, ends, p, columns);
+        if ok {
+            n += 1;
+            g = nav::next_item(text, ends, p);
+        } else {
+            return false;
         }
     }
+    1 <= n
 }
 
 // The most indexes that a table has.
@@ -91,23 +87,19 @@ fn few_fit(text: &[u8], ends: &[u16], at: usize, columns: usize) -> bool
 {
     let mut n: usize = 0;
     let mut g = nav::first(text, at, b'[', b']');
-    loop {
-        match g {
-            Found::At(p) => {
-                if MOST_INDEXES <= n {
-                    return false;
-                }
-                let ok = index_fits(text, ends, p, columns);
-                if ok {
-                    n += 1;
-                    g = nav::next_item(text, ends, p);
-                } else {
-                    return false;
-                }
-            }
-            Found::Nothing => return true,
+    while let Some(p) = g {
+        if MOST_INDEXES <= n {
+            return false;
+        }
+        let ok = index_fits(text, ends, p, columns);
+        if ok {
+            n += 1;
+            g = nav::next_item(text, ends, p);
+        } else {
+            return false;
         }
     }
+    true
 }
 
 // Whether the value at `at` lists the indexes of a table whose columns are at `columns`.
@@ -135,8 +127,8 @@ fn number(text: &[u8], at: usize, columns: &[Entry]) -> u8
     let name = names::name_at(text, at);
     let f = catalog::named(columns, atom::text_of(&name));
     match f {
-        Found::At(k) => k as u8,
-        Found::Nothing => 0,
+        Some(k) => k as u8,
+        None => 0,
     }
 }
 
@@ -151,19 +143,13 @@ fn index(text: &[u8], ends: &[u16], at: usize, columns: &[Entry]) -> [u8; INDEX]
     let mut q = [0u8; INDEX];
     let mut n: usize = 0;
     let mut g = nav::first(text, at, b'[', b']');
-    loop {
-        match g {
-            Found::At(p) => {
-                n += 1;
-                q[n] = number(text, p, columns);
-                g = nav::next_item(text, ends, p);
-            }
-            Found::Nothing => {
-                q[0] = n as u8;
-                return q;
-            }
-        }
+    while let Some(p) = g {
+        n += 1;
+        q[n] = number(text, p, columns);
+        g = nav::next_item(text, ends, p);
     }
+    q[0] = n as u8;
+    q
 }
 
 // The indexes that the value at `at` lists, in their bytes of a table's cell.
@@ -177,20 +163,20 @@ pub fn put(text: &[u8], ends: &[u16], at: usize, columns: &[Entry], cell: &mut E
     let old = *cell;
     let f = nav::first(text, at, b'[', b']');
     match f {
-        Found::At(p) => {
+        Some(p) => {
             let a = index(text, ends, p, columns);
             let g = nav::next_item(text, ends, p);
             match g {
-                Found::At(r) => {
+                Some(r) => {
                     let b = index(text, ends, r, columns);
                     *cell = catalog::with_indexes(old, 2, a, b);
                 }
-                Found::Nothing => {
+                None => {
                     *cell = catalog::with_indexes(old, 1, a, [0u8; INDEX]);
                 }
             }
         }
-        Found::Nothing => {
+        None => {
             *cell = catalog::with_indexes(old, 0, [0u8; INDEX], [0u8; INDEX]);
         }
     }

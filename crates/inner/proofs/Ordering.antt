@@ -1,4 +1,5 @@
 -- Working rows in order: their keys ascend just where the rows that they stand for are sorted. Assumes nothing.
+use Rattle.std.specs.Prelude.{Some}
 use mathlib.Core.Path.{◌≡◌, refl, sym, ap, ◌∙◌}
 use mathlib.Core.List.{List, [], ◌∷◌, map}
 use Prim.Native.Nat.{ℕ, zero, suc, ◌+◌, ◌≤◌, ◌<◌}
@@ -12,7 +13,6 @@ use Rattle.model.specs.Areas.{row_from}
 use Rattle.model.proofs.Order as rows
 use Rattle.model.proofs.Order.{Sorted}
 use Rattle.inner.specs.Working.{working, key_in, Above, Ascending, Ordered, place_from, place, removed}
-use Rattle.model.specs.declared.Found.TheVariants.{At}
 use Rattle.inner.proofs.Working.{row_key, working_at, working_length}
 use Rattle.inner.proofs.Places.{map_removed}
 
@@ -86,17 +86,17 @@ above_at k [] i d h g = absurd (omega arith)
 above_at k (r ∷ l) zero d h g = h.0
 above_at k (r ∷ l) (suc i) d h g = above_at k l i d h.1 (omega arith)
 
-own_from : (j : ℕ) (l : List Row) (i : ℕ) (d : Row) → Sorted l → i < length l → place_from j (key (get_or l i d)) l ≡ At (j + i)
+own_from : (j : ℕ) (l : List Row) (i : ℕ) (d : Row) → Sorted l → i < length l → place_from j (key (get_or l i d)) l ≡ Some (j + i)
 own_from j [] i d o h = absurd (omega arith)
-own_from j (r ∷ l) zero d o h = let e : j ≡ j + 0 = omega arith in rw (eq-eqb (key r) (key r) refl, place_from) (ap At e)
+own_from j (r ∷ l) zero d o h = let e : j ≡ j + 0 = omega arith in rw (eq-eqb (key r) (key r) refl, place_from) (ap Some e)
 own_from j (r ∷ l) (suc i) d o h =
     let a = above_at (key r) l i d o.0 (omega arith) in
     let e : suc j + i ≡ j + suc i = omega arith in
-    rw (ne_eqb (key (get_or l i d)) (key r) (λ q. omega (arith, a, q)), place_from) (own_from (suc j) l i d o.1 (omega arith) ∙ ap At e)
+    rw (ne_eqb (key (get_or l i d)) (key r) (λ q. omega (arith, a, q)), place_from) (own_from (suc j) l i d o.1 (omega arith) ∙ ap Some e)
 
-pub place_own : (l : List Row) (i : ℕ) (d : Row) → Sorted l → i < length l → place (key (get_or l i d)) l ≡ At i
+pub place_own : (l : List Row) (i : ℕ) (d : Row) → Sorted l → i < length l → place (key (get_or l i d)) l ≡ Some i
 unfolding place
-place_own l i d o h = let e : 0 + i ≡ i = omega arith in own_from 0 l i d o h ∙ ap At e
+place_own l i d o h = let e : 0 + i ≡ i = omega arith in own_from 0 l i d o h ∙ ap Some e
 
 -- ── in cells ──
 module _ (n : ℕ) (cells : List (List (List ℕ))) (o : Ordered n cells) where
@@ -114,7 +114,7 @@ module _ (n : ℕ) (cells : List (List (List ℕ))) (o : Ordered n cells) where
       get_any (x ∷ l) zero d e g = refl
       get_any (x ∷ l) (suc i) d e g = get_any l i d e (omega arith)
 
-  pub own_place : (s : Schema) (i : ℕ) → i < n → place (key_in (get_or cells i [])) (working s n cells) ≡ At i
+  pub own_place : (s : Schema) (i : ℕ) → i < n → place (key_in (get_or cells i [])) (working s n cells) ≡ Some i
   own_place s i h =
       let d : Row = row_from s [] in
       let e : key (get_or (working s n cells) i d) ≡ key_in (get_or cells i []) = ap key (working_at s cells n o.there i d h) ∙ row_key s (get_or cells i []) in

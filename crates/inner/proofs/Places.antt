@@ -1,8 +1,8 @@
 -- A row at its place: found, put in, taken out, changed; in cells and in the rows that they stand for. Assumes nothing.
+use Rattle.std.specs.Prelude.{Option, Some, None}
 use mathlib.Core.Path.{◌≡◌, refl, ap, ◌∙◌}
 use mathlib.Core.Bool.{true, false}
 use mathlib.Core.List.{List, [], ◌∷◌, ◌++◌, map, map-append}
-use mathlib.Core.Option.{none, some}
 use Prim.Native.Nat.{ℕ, zero, suc, ◌+◌, ◌<◌}
 use native.Mathlib.Omega.{arith}
 use lib.Dec.{eqb, ltb}
@@ -13,8 +13,6 @@ use Rattle.model.specs.Value.{Value}
 use Rattle.model.specs.Rows.{Row, key, find, has, add, remove, set_column, change}
 use Rattle.model.specs.Areas.{row_from}
 use Rattle.inner.specs.Working.{working, TidyRow, Tidy, place_from, place, slot, inserted, removed}
-use Rattle.model.specs.declared.Found.{Found}
-use Rattle.model.specs.declared.Found.TheVariants.{At, Nothing}
 use Rattle.model.proofs.Tests.{split}
 
 -- ── the row under a key ──
@@ -22,24 +20,24 @@ use Rattle.model.proofs.Tests.{split}
 pub record Placed (k : ℕ) (rows : List Row) (p : ℕ) : Type 0 where
   pub within : p < length rows
   pub has : has k rows ≡ true
-  pub find : (d : Row) → find k rows ≡ some (get_or rows p d)
+  pub find : (d : Row) → find k rows ≡ Some (get_or rows p d)
   pub remove : remove k rows ≡ removed p rows
   pub change : (c : ℕ) (v : Value) (d : Row) → change k c v rows ≡ set rows p (set_column c v (get_or rows p d))
 
 -- there is none
 pub record Absent (k : ℕ) (rows : List Row) : Type 0 where
   pub has : has k rows ≡ false
-  pub find : find k rows ≡ none
+  pub find : find k rows ≡ None
   pub remove : remove k rows ≡ rows
   pub change : (c : ℕ) (v : Value) → change k c v rows ≡ rows
 
 -- what a place says
-abbrev Says : ℕ → ℕ → List Row → Found → Type 0
-Says j k rows (At i) = (p : ℕ) × (i ≡ j + p) × Placed k rows p
-Says j k rows Nothing = Absent k rows
+abbrev Says : ℕ → ℕ → List Row → Option ℕ → Type 0
+Says j k rows (Some i) = (p : ℕ) × (i ≡ j + p) × Placed k rows p
+Says j k rows None = Absent k rows
 
-later : (j k : ℕ) (r : Row) (rs : List Row) → eqb k (key r) ≡ false → (f : Found) → Says (suc j) k rs f → Says j k (r ∷ rs) f
-later j k r rs e (At i) (p, q, w) = (
+later : (j k : ℕ) (r : Row) (rs : List Row) → eqb k (key r) ≡ false → (f : Option ℕ) → Says (suc j) k rs f → Says j k (r ∷ rs) f
+later j k r rs e (Some i) (p, q, w) = (
   suc p,
   omega arith,
   record {
@@ -50,7 +48,7 @@ later j k r rs e (At i) (p, q, w) = (
     change = λ c v d. rw e (ap (λ (l : List Row). r ∷ l) (w.change c v d));
   },
 )
-later j k r rs e Nothing w = record {
+later j k r rs e None w = record {
   has = rw e w.has;
   find = rw e w.find;
   remove = rw e (ap (λ (l : List Row). r ∷ l) w.remove);
@@ -63,14 +61,14 @@ says j k (r ∷ rs) = split (eqb k (key r))
     (λ e. rw (e, place_from) (0, omega arith, record { within = omega arith; has = rw e; find = λ d. rw e; remove = rw e; change = λ c v d. rw e }))
     (λ e. rw (e, place_from) (later j k r rs e (place_from (suc j) k rs) (says (suc j) k rs)))
 
-pub place_at : (k : ℕ) (rows : List Row) (i : ℕ) → place k rows ≡ At i → Placed k rows i
+pub place_at : (k : ℕ) (rows : List Row) (i : ℕ) → place k rows ≡ Some i → Placed k rows i
 unfolding place
 place_at k rows i e =
-    let w : Says 0 k rows (At i) = rw e at (says 0 k rows) in
+    let w : Says 0 k rows (Some i) = rw e at (says 0 k rows) in
     let q : w.0 ≡ i = omega (arith, w.1) in
     rw (← q) w.2
 
-pub place_none : (k : ℕ) (rows : List Row) → place k rows ≡ Nothing → Absent k rows
+pub place_none : (k : ℕ) (rows : List Row) → place k rows ≡ None → Absent k rows
 unfolding place
 place_none k rows e = rw e at (says 0 k rows)
 

@@ -1,4 +1,5 @@
 -- Working rows: their keys as bytes, the walk over them, and a row put in, taken out or changed at its place. Assumes nothing.
+use Rattle.std.specs.Prelude.{Some, None}
 use mathlib.Core.Path.{◌≡◌, refl, sym, ap, ◌∙◌}
 use mathlib.Core.Bool.{Bool, true, false, ◌&&◌, ◌||◌}
 use mathlib.Core.List.{List, [], ◌∷◌, map}
@@ -16,7 +17,6 @@ use Rattle.model.specs.Schema.{Schema}
 use Rattle.model.specs.Rows.{Row, key_of, key, has_id}
 use Rattle.model.specs.Areas.{row_from}
 use Rattle.inner.specs.Working.{working, table_in, id_in, key_in, place_from, slot}
-use Rattle.model.specs.declared.Found.TheVariants.{At, Nothing}
 use Rattle.model.proofs.Tests.{split, bytes_same, bytes_self}
 use Rattle.model.proofs.Lists.{all_tail, all_cons}
 use Rattle.model.proofs.Octets.{octet, value_lt, value_inj}
@@ -118,13 +118,13 @@ module _ (s : Schema) (cells : List (List (List ℕ))) (n : ℕ) (h : n ≤ leng
   working_end i l = drop_of_length-le (working s n cells) {i = i} (omega (arith, working_length))
 
   module _ (k i : ℕ) where
-    pub place_here : i < n → eqb k (key_in (get_or cells i [])) ≡ true → place_from i k (drop i (working s n cells)) ≡ At i
+    pub place_here : i < n → eqb k (key_in (get_or cells i [])) ≡ true → place_from i k (drop i (working s n cells)) ≡ Some i
     place_here l e = rw (working_on i l, row_key s (get_or cells i []), e, place_from)
 
     pub place_on : i < n → eqb k (key_in (get_or cells i [])) ≡ false → place_from i k (drop i (working s n cells)) ≡ place_from (i + 1) k (drop (i + 1) (working s n cells))
     place_on l e = rw (working_on i l, row_key s (get_or cells i []), e, place_from) (rw (add-one i) refl)
 
-    pub place_end : n ≤ i → place_from i k (drop i (working s n cells)) ≡ Nothing
+    pub place_end : n ≤ i → place_from i k (drop i (working s n cells)) ≡ None
     place_end l = rw (working_end i l)
 
     pub has_id_here : i < n → eqb k (id_in (get_or cells i [])) ≡ true → has_id k (drop i (working s n cells)) ≡ true

@@ -1,13 +1,11 @@
 -- The working rows of a call: rows in cells, beside their count, and the rows that they stand for. No statement needs these: inner promises do. Assumes nothing: these are definitions.
-use Rattle.std.specs.Prelude.{◌≡◌, true, false, List, [], ◌∷◌, ◌++◌, map, ℕ, suc, ◌+◌, ◌-◌, ◌*◌, ◌≤◌, ◌<◌, eqb, ltb, length, get_or, take, drop, set, replicate}
+use Rattle.std.specs.Prelude.{◌≡◌, true, false, List, [], ◌∷◌, ◌++◌, map, ℕ, suc, ◌+◌, ◌-◌, ◌*◌, ◌≤◌, ◌<◌, eqb, ltb, length, get_or, take, drop, set, replicate, Option, Some, None}
 use Rattle.model.specs.Octets.{value, part}
 use Rattle.model.specs.Limits.{most_columns, most_elements, id_bytes, id_offset, counts_offset}
 use Rattle.model.specs.Schema.{Column, Schema}
 use Rattle.model.specs.Value.{Value, initial}
 use Rattle.model.specs.Rows.{Row, key_of, key}
 use Rattle.model.specs.Areas.{row_cells, row_from}
-use Rattle.model.specs.declared.Found.{Found}
-use Rattle.model.specs.declared.Found.TheVariants.{At, Nothing}
 
 -- the rows that the first n of these cells stand for
 unfoldable pub working : Schema → ℕ → List (List (List ℕ)) → List Row
@@ -68,11 +66,11 @@ pub record Ordered (n : ℕ) (cells : List (List (List ℕ))) : Type 0 where
 
 -- ── places ──
 -- the place of the row under a key, counted on from i
-abbrev pub place_from : ℕ → ℕ → List Row → Found
-place_from i k [] = Nothing
-place_from i k (r ∷ rs) = elim (eqb k (key r)) [ true ↦ At i | false ↦ place_from (suc i) k rs ]
+abbrev pub place_from : ℕ → ℕ → List Row → Option ℕ
+place_from i k [] = None
+place_from i k (r ∷ rs) = elim (eqb k (key r)) [ true ↦ Some i | false ↦ place_from (suc i) k rs ]
 
-unfoldable pub place : ℕ → List Row → Found
+unfoldable pub place : ℕ → List Row → Option ℕ
 place k rows = place_from 0 k rows
 
 -- the place of a new row: past the rows that lie before one of a greater key

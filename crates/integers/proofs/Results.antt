@@ -1,18 +1,18 @@
 -- Arithmetic by signs and magnitudes, and which results are outside 64 bits. Assumes nothing.
 use mathlib.Core.Path.{◌≡◌, refl, sym, ap, ◌∙◌}
-use mathlib.Core.Bool.{Bool, true, false, not, ◌&&◌}
+use mathlib.Core.Bool.{Bool, true, false, not, beq, ◌&&◌}
 use Prim.Native.Nat.{ℕ, zero, suc, ◌+◌, ◌-◌, ◌*◌, ◌/◌, ◌%◌, ◌≤◌, ◌<◌}
-use native.Mathlib.Nat.{div-one, mul-one, mul-zero, zero-mul, mul_comm, zero-div, zero-mod, div-lt_iff_lt-mul, le-div_iff_mul-le}
+use native.Mathlib.Nat.{mul-one, mul-zero, zero-mul, zero-div, zero-mod}
 use native.Mathlib.Omega.{arith}
 use borrow.Author.Tests.{ne_eqb, eq-eqb, eqb-true, eqb-false, lt-ltb, le-ltb, ltb-true, ltb-false, lt-leb, le-leb, leb-true, leb-false, not-true}
 use lib.Dec.{eqb, ltb, leb}
 use lib.IntN.{ℤ, pos, negsuc, neg_ℤ, nat_abs, sub_ℕ, ◌+ℤ◌, ◌*ℤ◌, neg_ℤ-neg_ℤ, neg_ℤ-+ℤ, +ℤ_comm, zero-*ℤ}
 use lib.Signed.{quot_z, rem_z}
 use Rattle.model.specs.Mutations.{is_zero, in64}
-use Rattle.model.specs.declared.Mutator.TheVariants.{Add, Subtract, Multiply, Divide, Remainder, Insert, Delete}
+use Rattle.model.specs.declared.Mutator.TheVariants.{Divide, Remainder}
 use Rattle.model.proofs.Tests.{split, and_l, and_r}
 use Rattle.integers.specs.declared.Exact.TheVariants.{Number, ByZero, Outside}
-use Rattle.integers.specs.Ints.{signed, as_int, differ, fitted, calculated}
+use Rattle.integers.specs.Ints.{signed, as_int, fitted, calculated}
 
 -- ── outside 64 bits ──
 in_minus : (n : ℕ) → in64 (neg_ℤ (pos n)) ≡ leb n 9223372036854775808
@@ -52,19 +52,19 @@ unfolding signed
 sign_not true n = sym (neg_ℤ-neg_ℤ (pos n))
 sign_not false n = refl
 
-same_sign : (a b : Bool) → differ a b ≡ false → b ≡ a
-unfolding differ
+same_sign : (a b : Bool) → beq a b ≡ true → b ≡ a
 same_sign true true h = refl
-same_sign true false h = sym h
-same_sign false b h = h
+same_sign true false h = h
+same_sign false true h = sym h
+same_sign false false h = refl
 
-other_sign : (a b : Bool) → differ a b ≡ true → b ≡ not a
-unfolding differ
-other_sign true true h = sym h
+other_sign : (a b : Bool) → beq a b ≡ false → b ≡ not a
+other_sign true true h = h
 other_sign true false h = refl
-other_sign false b h = h
+other_sign false true h = refl
+other_sign false false h = sym h
 
-pub sum_same : (a b : Bool) (m n : ℕ) → differ a b ≡ false → signed a m +ℤ signed b n ≡ signed a (m + n)
+pub sum_same : (a b : Bool) (m n : ℕ) → beq a b ≡ true → signed a m +ℤ signed b n ≡ signed a (m + n)
 unfolding signed
 sum_same a b m n h = ap (λ (s : Bool). signed a m +ℤ signed s n) (same_sign a b h) ∙ go a
   where
@@ -93,7 +93,7 @@ sub_up_le m n h = split (ltb m n)
     let q : n - m ≡ 0 = omega arith in
     sub_down m n l ∙ rw (p, q))
 
-pub sum_up : (a b : Bool) (m n : ℕ) → differ a b ≡ true → m < n → signed a m +ℤ signed b n ≡ signed b (n - m)
+pub sum_up : (a b : Bool) (m n : ℕ) → beq a b ≡ false → m < n → signed a m +ℤ signed b n ≡ signed b (n - m)
 unfolding signed
 sum_up a b m n h l = ap (λ (s : Bool). signed a m +ℤ signed s n) (other_sign a b h) ∙ go a ∙ ap (λ (s : Bool). signed s (n - m)) (sym (other_sign a b h))
   where
@@ -101,7 +101,7 @@ sum_up a b m n h l = ap (λ (s : Bool). signed a m +ℤ signed s n) (other_sign 
     go true = +ℤ_comm (neg_ℤ (pos m)) (pos n) ∙ sub_down n m (omega arith)
     go false = sub_up m n l
 
-pub sum_down : (a b : Bool) (m n : ℕ) → differ a b ≡ true → n ≤ m → signed a m +ℤ signed b n ≡ signed a (m - n)
+pub sum_down : (a b : Bool) (m n : ℕ) → beq a b ≡ false → n ≤ m → signed a m +ℤ signed b n ≡ signed a (m - n)
 unfolding signed
 sum_down a b m n h l = ap (λ (s : Bool). signed a m +ℤ signed s n) (other_sign a b h) ∙ go a
   where
@@ -113,8 +113,8 @@ sum_down a b m n h l = ap (λ (s : Bool). signed a m +ℤ signed s n) (other_sig
 neg_zero : (n : ℕ) → n ≡ 0 → neg_ℤ (pos n) ≡ pos n
 neg_zero n e = rw e
 
-pub times : (a b : Bool) (m n : ℕ) → signed a m *ℤ signed b n ≡ signed (differ a b) (m * n)
-unfolding signed differ
+pub times : (a b : Bool) (m n : ℕ) → signed a m *ℤ signed b n ≡ signed (not (beq a b)) (m * n)
+unfolding signed
 times false false m n = refl
 times false true m zero = sym (neg_zero (m * 0) (mul-zero m))
 times false true m (suc n) = refl
@@ -124,8 +124,8 @@ times true true zero n = zero-*ℤ (neg_ℤ (pos n)) ∙ ap pos (sym (zero-mul n
 times true true (suc m) zero = neg_zero (suc m * 0) (mul-zero (suc m))
 times true true (suc m) (suc n) = refl
 
-pub over : (a b : Bool) (m n : ℕ) → (n ≡ 0 → ⊥) → quot_z (signed a m) (signed b n) ≡ signed (differ a b) (m / n)
-unfolding signed differ
+pub over : (a b : Bool) (m n : ℕ) → (n ≡ 0 → ⊥) → quot_z (signed a m) (signed b n) ≡ signed (not (beq a b)) (m / n)
+unfolding signed
 over a b m zero h = absurd (h refl)
 over false false m (suc n) h = refl
 over false true m (suc n) h = refl
@@ -150,10 +150,6 @@ rest a b m n = go a m (signed b n) ∙ ap (λ (k : ℕ). signed a (m % k)) (size
     go false m d = refl
 
 -- ── by scale 1 ──
-pub over_one : (z : ℤ) → quot_z z (pos 1) ≡ z
-over_one (pos n) = ap pos (div-one n)
-over_one (negsuc n) = ap (λ (k : ℕ). neg_ℤ (pos k)) (div-one (suc n))
-
 pub times_one : (z : ℤ) → z *ℤ pos 1 ≡ z
 times_one (pos n) = ap pos (mul-one n)
 times_one (negsuc n) = ap (λ (k : ℕ). neg_ℤ (pos k)) (mul-one (suc n))
@@ -166,26 +162,6 @@ zero_sign false n = refl
 
 -- ── the mutators ──
 module _ (x y : ℤ) where
-  pub by_add : calculated Add x y ≡ fitted (x +ℤ y)
-  unfolding calculated
-  by_add = refl
-
-  pub by_subtract : calculated Subtract x y ≡ fitted (x +ℤ neg_ℤ y)
-  unfolding calculated
-  by_subtract = refl
-
-  pub by_multiply : calculated Multiply x y ≡ fitted (x *ℤ y)
-  unfolding calculated
-  by_multiply = ap fitted (over_one (x *ℤ y))
-
-  pub by_insert : calculated Insert x y ≡ fitted x
-  unfolding calculated
-  by_insert = refl
-
-  pub by_delete : calculated Delete x y ≡ fitted x
-  unfolding calculated
-  by_delete = refl
-
   by_divide : is_zero y ≡ false → calculated Divide x y ≡ fitted (quot_z x y)
   unfolding calculated
   by_divide h = rw (calculated, h) (ap (λ (z : ℤ). fitted (quot_z z y)) (times_one x))
@@ -199,23 +175,14 @@ module _ (x y : ℤ) where
   by_zero h = (rw (calculated, h), rw (calculated, h))
 
 module _ (a b : Bool) (m n : ℕ) where
-  pub zero_divisor : n ≡ 0 → (calculated Divide (signed a m) (signed b n) ≡ ByZero) × (calculated Remainder (signed a m) (signed b n) ≡ ByZero)
-  zero_divisor h = by_zero (signed a m) (signed b n) (zero_sign b n ∙ eq-eqb n 0 h)
+  pub zero_divide : n ≡ 0 → calculated Divide (signed a m) (signed b n) ≡ ByZero
+  zero_divide h = (by_zero (signed a m) (signed b n) (zero_sign b n ∙ eq-eqb n 0 h)).0
 
-  pub quotient_is : (n ≡ 0 → ⊥) → calculated Divide (signed a m) (signed b n) ≡ fitted (signed (differ a b) (m / n))
+  pub zero_remainder : n ≡ 0 → calculated Remainder (signed a m) (signed b n) ≡ ByZero
+  zero_remainder h = (by_zero (signed a m) (signed b n) (zero_sign b n ∙ eq-eqb n 0 h)).1
+
+  pub quotient_is : (n ≡ 0 → ⊥) → calculated Divide (signed a m) (signed b n) ≡ fitted (signed (not (beq a b)) (m / n))
   quotient_is h = by_divide (signed a m) (signed b n) (zero_sign b n ∙ ne_eqb n 0 h) ∙ ap fitted (over a b m n h)
 
   pub remainder_is : (n ≡ 0 → ⊥) → calculated Remainder (signed a m) (signed b n) ≡ fitted (signed a (m % n))
   remainder_is h = by_remainder (signed a m) (signed b n) (zero_sign b n ∙ ne_eqb n 0 h) ∙ ap fitted (rest a b m n)
-
--- ── products beyond 64 bits ──
-pub wraps_is : (m n : ℕ) → (m ≡ 0 → ⊥) → ltb (18446744073709551615 / m) n ≡ ltb 18446744073709551615 (m * n)
-wraps_is m n h = split (ltb (18446744073709551615 / m) n)
-    (λ e. e ∙ sym (lt-ltb 18446744073709551615 (m * n) (rw (mul_comm m n) ((div-lt_iff_lt-mul {k = m} {x = 18446744073709551615} {y = n} p).0 (ltb-true (18446744073709551615 / m) n e)))))
-    (λ e. e ∙ sym (le-ltb 18446744073709551615 (m * n) (rw (mul_comm m n) ((le-div_iff_mul-le {k = m} {x = n} {y = 18446744073709551615} p).0 (ltb-false (18446744073709551615 / m) n e)))))
-  where
-    p : 0 < m
-    p = omega (arith, h)
-
-pub wraps_none : (m n : ℕ) → m ≡ 0 → false ≡ ltb 18446744073709551615 (m * n)
-wraps_none m n h = sym (le-ltb 18446744073709551615 (m * n) (let e : m * n ≡ 0 = ap (λ (k : ℕ). k * n) h ∙ zero-mul n in omega arith))

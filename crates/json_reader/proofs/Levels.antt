@@ -1,4 +1,6 @@
 -- What a table of ends says stays true when an end is kept. Assumes nothing.
+use Rattle.std.specs.Prelude.{Ok, Err}
+use Rattle.model.specs.Scan.{Read}
 use mathlib.Core.Path.{◌≡◌, refl, sym, ap, ◌∙◌}
 use mathlib.Core.Logic.{◌⊎◌, inr}
 use mathlib.Core.List.{List}
@@ -10,8 +12,6 @@ use borrow.Author.Tests.{eqb-true, eqb-false}
 use lib.ListN.{length, get_or, set}
 use lib.Dec.{ltb, eqb}
 use lib.Seq.{set_out, get_or-set_same, get_or-set_other}
-use Rattle.model.specs.declared.Read.{Read}
-use Rattle.model.specs.declared.Read.TheVariants.{End, Stop, Deep}
 use Rattle.model.specs.Scan.{spaces_at}
 use Rattle.model.specs.Strings.{string_at}
 use Rattle.model.specs.Json.{value_at}
@@ -21,24 +21,23 @@ use Rattle.json_reader.proofs.Mono.{levels_more}
 use Rattle.json_reader.specs.Table.{noted}
 
 module _ (s ends : List ℕ) (says : Says s ends) (at : ℕ) where
-  says_set : (e : ℕ) → (value_at 12 s at).read ≡ End e → Says s (set ends at e)
+  says_set : (e : ℕ) → (value_at 12 s at).read ≡ Ok e → Says s (set ends at e)
   unfolding Says
   says_set e h p = go (dec_lt at (length ends)) (eqb p at) refl
     where
-      go : Dec (at < length ends) → (b : Bool) → eqb p at ≡ b → (get_or (set ends at e) p 0 ≡ 0) ⊎ ((value_at 12 s p).read ≡ End (get_or (set ends at e) p 0))
+      go : Dec (at < length ends) → (b : Bool) → eqb p at ≡ b → (get_or (set ends at e) p 0 ≡ 0) ⊎ ((value_at 12 s p).read ≡ Ok (get_or (set ends at e) p 0))
       go (no n) b d = rw (set_out ends at e (omega (arith, n))) (says p)
       go (yes y) true d = let q = eqb-true p at d in rw (q, get_or-set_same ends at e 0 y) (inr h)
       go (yes y) false d = let n = eqb-false p at d in rw (get_or-set_other ends at p e 0 n) (says p)
 
-  says_noted : (r : Read) → ((e : ℕ) → r ≡ End e → (value_at 12 s at).read ≡ End e) → Says s (noted ends at r)
+  says_noted : (r : Read) → ((e : ℕ) → r ≡ Ok e → (value_at 12 s at).read ≡ Ok e) → Says s (noted ends at r)
   unfolding noted
-  says_noted (End e) h = go (ltb e 65536) refl
+  says_noted (Ok e) h = go (ltb e 65536) refl
     where
-      go : (b : Bool) → ltb e 65536 ≡ b → Says s (noted ends at (End e))
+      go : (b : Bool) → ltb e 65536 ≡ b → Says s (noted ends at (Ok e))
       go true t = rw (noted, t) (says_set e (h e refl))
       go false t = rw (noted, t) says
-  says_noted (Stop e) h = says
-  says_noted (Deep e) h = says
+  says_noted (Err e) h = says
 
   -- the theorem: what was read with at most 12 levels is true with 12
   pub says_level : (l : ℕ) → l ≤ 12 → {r : Read} → r ≡ (value_at l s at).read → Says s (noted ends at r)

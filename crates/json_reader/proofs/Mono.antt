@@ -1,4 +1,8 @@
 -- What reads where so many levels may be opened reads the same where more may be. Assumes nothing.
+use Rattle.std.specs.Prelude.{Ok, Err}
+use Rattle.model.specs.declared.ReadError.TheVariants.{Deep}
+use Rattle.std.specs.declared.ops.ControlFlow.TheVariants.{Continue, Break}
+use Rattle.model.specs.Scan.{Read, Next}
 use mathlib.Core.Path.{◌≡◌, refl, sym, ap, ◌∙◌}
 use mathlib.Core.List.{List, [], ◌∷◌}
 use mathlib.Core.Bool.{Bool, true, false}
@@ -6,10 +10,6 @@ use Prim.Native.Nat.{ℕ, zero, suc, ◌+◌}
 use native.Mathlib.Omega.{arith}
 use lib.ListN.{length}
 use lib.Dec.{eqb}
-use Rattle.model.specs.declared.Read.{Read}
-use Rattle.model.specs.declared.Read.TheVariants.{End, Stop, Deep}
-use Rattle.model.specs.declared.Next.{Next}
-use Rattle.model.specs.declared.Next.TheVariants.{More, Done}
 use Rattle.model.specs.declared.Open.{Open}
 use Rattle.model.specs.declared.Open.TheVariants.{Array, Object, Scalar}
 use Rattle.model.specs.Scan.{byte, Parsed, and_then, run, spaces_at}
@@ -17,7 +17,7 @@ use Rattle.model.specs.Json.{Json, key_at, after_item, item_turn, list_at, array
 
 -- q reads whatever p reads, and the same
 abbrev pub Below : {A : Type 0} → (ℕ → Parsed A) → (ℕ → Parsed A) → Type 0
-Below p q = (i e : ℕ) → (p i).read ≡ End e → q i ≡ p i
+Below p q = (i e : ℕ) → (p i).read ≡ Ok e → q i ≡ p i
 
 module _ (s : List ℕ) where
   -- an item whose reading failed is the last, and fails
@@ -28,21 +28,20 @@ module _ (s : List ℕ) where
     abbrev Q : ℕ → ℕ → Parsed (List A)
     Q = run (item_turn q s close)
 
-    run_more : (n i e : ℕ) → (P n i).read ≡ End e → Q n i ≡ P n i
+    run_more : (n i e : ℕ) → (P n i).read ≡ Ok e → Q n i ≡ P n i
     unfolding run after_item
     run_more zero i e h = let z : ◌≡◌ {A = ℕ} 0 1 = cc in absurd (omega arith)
     run_more (suc n) i e h = go (p i).read refl (run_more n)
       where
-        turn : (t : Next) → after_item s close (p i).read ≡ t → q i ≡ p i → ((j d : ℕ) → (P n j).read ≡ End d → Q n j ≡ P n j) → Q (suc n) i ≡ P (suc n) i
-        turn (More j) t w ih =
-            let k : (P n j).read ≡ End e = sym (rw (run, t)) ∙ h in
+        turn : (t : Next) → after_item s close (p i).read ≡ t → q i ≡ p i → ((j d : ℕ) → (P n j).read ≡ Ok d → Q n j ≡ P n j) → Q (suc n) i ≡ P (suc n) i
+        turn (Continue j) t w ih =
+            let k : (P n j).read ≡ Ok e = sym (rw (run, t)) ∙ h in
             rw (run, w, t, ih j e k) (ap (λ x. record { read = (P n j).read; tree = x.tree ∷ (P n j).tree }) w)
-        turn (Done r) t w ih = rw (run, w, t) (ap (λ x. record { read = r; tree = x.tree ∷ [] }) w)
+        turn (Break r) t w ih = rw (run, w, t) (ap (λ x. record { read = r; tree = x.tree ∷ [] }) w)
 
-        go : (r : Read) → (p i).read ≡ r → ((j d : ℕ) → (P n j).read ≡ End d → Q n j ≡ P n j) → Q (suc n) i ≡ P (suc n) i
-        go (End x) r ih = turn (after_item s close (p i).read) refl (below i x r) ih
-        go (Stop x) r ih = let k : Stop x ≡ End e = sym (rw (run, after_item, r)) ∙ h in let z : ◌≡◌ {A = ℕ} 0 1 = cc in absurd (omega arith)
-        go (Deep x) r ih = let k : Deep x ≡ End e = sym (rw (run, after_item, r)) ∙ h in let z : ◌≡◌ {A = ℕ} 0 1 = cc in absurd (omega arith)
+        go : (r : Read) → (p i).read ≡ r → ((j d : ℕ) → (P n j).read ≡ Ok d → Q n j ≡ P n j) → Q (suc n) i ≡ P (suc n) i
+        go (Ok x) r ih = turn (after_item s close (p i).read) refl (below i x r) ih
+        go (Err x) r ih = let k : Err x ≡ Ok e = sym (rw (run, after_item, r)) ∙ h in let z : ◌≡◌ {A = ℕ} 0 1 = cc in absurd (omega arith)
 
     pub list_more : Below (list_at p s close) (list_at q s close)
     unfolding list_at
@@ -57,9 +56,8 @@ module _ (s : List ℕ) where
   member_more p q below i e h = go (key_at s i).read refl
     where
       go : (r : Read) → (key_at s i).read ≡ r → member_at q s i ≡ member_at p s i
-      go (End x) r = rw (member_at, r, below x e (sym (rw (member_at, r)) ∙ h))
-      go (Stop x) r = rw (member_at, r)
-      go (Deep x) r = rw (member_at, r)
+      go (Ok x) r = rw (member_at, r, below x e (sym (rw (member_at, r)) ∙ h))
+      go (Err x) r = rw (member_at, r)
 
   pub array_more : (p q : ℕ → Parsed Json) → Below p q → Below (array_at p s) (array_at q s)
   array_more p q below i e h = rw (list_more p q 93 below (spaces_at s i) e h)
@@ -76,13 +74,13 @@ module _ (s : List ℕ) where
       go Object k = rw (dispatch, k) (g i e (sym (rw (dispatch, k)) ∙ h))
       go Scalar k = rw (dispatch, k)
 
-  deep : (q : ℕ → Parsed Json) → Below (λ i. no_value (Deep i)) q
+  deep : (q : ℕ → Parsed Json) → Below (λ i. no_value (Err (Deep i))) q
   deep q i e h = let z : ◌≡◌ {A = ℕ} 0 1 = cc in absurd (omega arith)
 
   -- the theorem: one level more, and so any number
   pub level_more : (l : ℕ) → Below (value_at l s) (value_at (suc l) s)
   unfolding value_at
-  level_more zero at = dispatch_more (λ i. no_value (Deep i)) (λ i. no_value (Deep i)) (λ i. array_at (value_at zero s) s (i + 1)) (λ i. object_at (value_at zero s) s (i + 1)) (deep _) (deep _) (spaces_at s at)
+  level_more zero at = dispatch_more (λ i. no_value (Err (Deep i))) (λ i. no_value (Err (Deep i))) (λ i. array_at (value_at zero s) s (i + 1)) (λ i. object_at (value_at zero s) s (i + 1)) (deep _) (deep _) (spaces_at s at)
   level_more (suc l) at =
       dispatch_more (λ i. array_at (value_at l s) s (i + 1)) (λ i. object_at (value_at l s) s (i + 1)) (λ i. array_at (value_at (suc l) s) s (i + 1)) (λ i. object_at (value_at (suc l) s) s (i + 1))
       (λ i. array_more (value_at l s) (value_at (suc l) s) (level_more l) (i + 1)) (λ i. object_more (value_at l s) (value_at (suc l) s) (level_more l) (i + 1)) (spaces_at s at)

@@ -1,31 +1,28 @@
 // A JSON text by RFC 4627 read once: where it ends, or where it stops being one, and where each value in it ends.
 #![tactic(auto)]
 
-ghost use Rattle.std.specs.Prelude.{◌≡◌, ◌≤◌, length, replicate};
+ghost use Rattle.std.specs.Prelude.{◌≡◌, ◌≤◌};
 ghost use Rattle.model.specs.Json.{value_at, array_at, member_at, object_at, text_at};
 ghost use Rattle.inner.specs.Positions.{Says};
 ghost use Rattle.json_reader.specs.Table.{noted};
 
-use model::{Next, Open, Read};
+use model::{Open, Read, ReadError};
 use scan::{BRACE_END, BRACKET_END};
+use std::ops::ControlFlow;
 
 // Arrays and objects inside one another, at most.
 pub const LEVELS: usize = 12;
 
 // Keeps where what begins at `at` ended.
+#[tactic(auto, unfolding(crate::specs::Table::noted))]
 fn note(ends: &mut [u16], at: usize, r: Read)
     ensures { ends.new ≡ noted ends.old at r }
 {
-    match r {
-        Read::End(e) => {
-            if e < 65536 {
-                if at < ends.len() {
-                    ends[at] = e as u16;
-                }
-            }
-        }
-        Read::Stop(_) => {}
-        Read::Deep(_) => {}
+    if let Ok(e) = r
+        && e < 65536
+        && at < ends.len()
+    {
+        ends[at] = e as u16;
     }
 }
 
@@ -56,13 +53,13 @@ fn opened(text: &[u8], ends: &mut [u16], at: usize, levels: usize) -> Read
         Open::Scalar => scan::scalar(text, i),
         Open::Array => {
             if levels == 0 {
-                return Read::Deep(i);
+                return Err(ReadError::Deep(i));
             }
             array(text, ends, i + 1, levels - 1)
         }
         Open::Object => {
             if levels == 0 {
-                return Read::Deep(i);
+                return Err(ReadError::Deep(i));
             }
             object(text, ends, i + 1, levels - 1)
         }
@@ -80,20 +77,20 @@ fn array(text: &[u8], ends: &mut [u16], at: usize, levels: usize) -> Read
     let j = scan::spaces(text, at);
     let b = scan::peek(text, j);
     if b == BRACKET_END {
-        return Read::End(j + 1);
+        return Ok(j + 1);
     }
     let mut i = j;
     for k in 0..text.len() {
         let r = value(text, ends, i, levels);
         let n = scan::after(text, r, b']');
         match n {
-            Next::More(e) => {
+            ControlFlow::Continue(e) => {
                 i = e;
             }
-            Next::Done(d) => return d,
+            ControlFlow::Break(d) => return d,
         }
     }
-    Read::Stop(i)
+    Err(ReadError::Stop(i))
 }
 
 // A member of an object; where its name ends is kept at the member's place.
@@ -108,9 +105,7 @@ fn member(text: &[u8], ends: &mut [u16], at: usize, levels: usize) -> Read
     let name = scan::string(text, i);
     note(ends, at, name);
     let r = scan::colon(text, name);
-    let Read::End(e) = r else {
-        return r;
-    };
+    let e = r?;
     value(text, ends, e, levels)
 }
 
@@ -125,20 +120,20 @@ fn object(text: &[u8], ends: &mut [u16], at: usize, levels: usize) -> Read
     let j = scan::spaces(text, at);
     let b = scan::peek(text, j);
     if b == BRACE_END {
-        return Read::End(j + 1);
+        return Ok(j + 1);
     }
     let mut i = j;
     for k in 0..text.len() {
         let r = member(text, ends, i, levels);
         let n = scan::after(text, r, b'}');
         match n {
-            Next::More(e) => {
+            ControlFlow::Continue(e) => {
                 i = e;
             }
-            Next::Done(d) => return d,
+            ControlFlow::Break(d) => return d,
         }
     }
-    Read::Stop(i)
+    Err(ReadError::Stop(i))
 }
 
 // Where the value at `at` ends, with nothing kept.
@@ -149,30 +144,17 @@ pub fn end_at(text: &[u8], at: usize) -> Read
     value(text, &mut none, at, LEVELS)
 }
 
-// All of the table is 0.
-fn clear(ends: &mut [u16])
-    ensures { ends.new ≡ replicate (length ends.old) 0 }
-{
-    let mut i = 0;
-    while i < ends.len() {
-        ends[i] = 0;
-        i += 1;
-    }
-}
-
 // A whole text: a value of at most so many levels, with white space around it.
 pub fn document(text: &[u8], ends: &mut [u16]) -> Read
     ensures value { result ≡ (text_at text.now).read }
     ensures says { Says text.now ends.new }
 {
-    clear(ends);
+    ends.fill(0);
     let v = value(text, ends, 0, LEVELS);
-    let Read::End(e) = v else {
-        return v;
-    };
+    let e = v?;
     let j = scan::spaces(text, e);
     if j == text.len() {
-        return Read::End(j);
+        return Ok(j);
     }
-    Read::Stop(j)
+    Err(ReadError::Stop(j))
 }

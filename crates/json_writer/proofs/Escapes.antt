@@ -1,5 +1,6 @@
 -- A byte of a string in an answer, case by case; an integer by its 64 bits. Assumes nothing.
 use mathlib.Core.Path.{◌≡◌, refl, sym, ap, ◌∙◌}
+use mathlib.Core.Logic.{◌⊎◌, inl, inr}
 use mathlib.Core.List.{List, [], ◌∷◌, ◌++◌}
 use Prim.Native.Nat.{ℕ, ◌+◌, ◌-◌, ◌^◌, ◌<◌, ◌≤◌}
 use native.Mathlib.Numerals.{add-one}
@@ -12,13 +13,10 @@ use Rattle.model.specs.Answers.{escaped, hex_pair, integer_text, decimal}
 use Rattle.json_writer.specs.Texts.{decimal_text, integer_in, escaped_text}
 
 module _ (b : ℕ) where
-  pub escaped_quote : b ≡ 34 → (92 ∷ 34 ∷ []) ≡ escaped_text b
+  pub escaped_self : (b ≡ 34) ⊎ (b ≡ 92) → (92 ∷ b ∷ []) ≡ escaped_text b
   unfolding escaped_text
-  escaped_quote e = rw e refl
-
-  pub escaped_backslash : b ≡ 92 → (92 ∷ 92 ∷ []) ≡ escaped_text b
-  unfolding escaped_text
-  escaped_backslash e = rw e refl
+  escaped_self (inl e) = rw e refl
+  escaped_self (inr e) = rw e refl
 
   pub escaped_low : (b ≡ 34 → ⊥) → (b ≡ 92 → ⊥) → b < 32 → ((92 ∷ 117 ∷ 48 ∷ 48 ∷ []) ++ hex_pair b) ≡ escaped_text b
   unfolding escaped_text

@@ -7,7 +7,7 @@ use native.Mathlib.Numerals.{add-one}
 use native.Mathlib.Omega.{arith}
 use lib.Dec.{eqb, ltb}
 use lib.ListN.{length, take, drop, get_or, length-take, drop_of_length-le}
-use lib.Seq.{drop-cons, get_or-take, take_all}
+use lib.Seq.{drop-cons, take_all}
 use borrow.Author.Tests.{ne_eqb, ltb-true, ltb-false}
 use Rattle.model.proofs.Tests.{split}
 use Rattle.model.specs.Base.{ascii}
@@ -101,18 +101,14 @@ error_is Aborted = refl
 error_is Integrity = refl
 
 -- ── a value ──
-module _ (k : ℕ) (atoms : List (List ℕ)) (n i : ℕ) (fits : n ≤ length atoms) where
-  pub atoms_next : i < n → joined (eqb i 0) (atom_texts k (drop i (take n atoms))) ≡ comma_text (eqb i 0) ++ (atom_in k (get_or atoms i []) ++ joined (eqb (i + 1) 0) (atom_texts k (drop (i + 1) (take n atoms))))
+module _ (k : ℕ) (atoms : List (List ℕ)) (i : ℕ) where
+  pub atoms_next : i < length atoms → joined (eqb i 0) (atom_texts k (drop i atoms)) ≡ comma_text (eqb i 0) ++ (atom_in k (get_or atoms i []) ++ joined (eqb (i + 1) 0) (atom_texts k (drop (i + 1) atoms)))
   unfolding atom_texts
-  atoms_next h =
-      let c : drop i (take n atoms) ≡ get_or atoms i [] ∷ drop (i + 1) (take n atoms) =
-      drop-cons (take n atoms) i [] (omega (arith, length-take n atoms)) ∙ ap (λ (a : List ℕ). a ∷ drop (suc i) (take n atoms)) (get_or-take n atoms i [] h) ∙ ap (λ (j : ℕ). get_or atoms i [] ∷ drop j (take n atoms)) (sym (add-one i)) in
-      ap (λ (l : List (List ℕ)). joined (eqb i 0) (map (atom_in k) l)) c
-      ∙ ap (λ (b : Bool). comma_text (eqb i 0) ++ (atom_in k (get_or atoms i []) ++ joined b (map (atom_in k) (drop (i + 1) (take n atoms))))) (sym (ne_eqb (i + 1) 0 (λ e. omega arith)))
+  atoms_next h = rw (drop-cons atoms i [] h, add-one i, ne_eqb (suc i) 0 (λ e. omega arith)) refl
 
-  pub atoms_end : n ≤ i → joined (eqb i 0) (atom_texts k (drop i (take n atoms))) ≡ []
+  pub atoms_end : length atoms ≤ i → joined (eqb i 0) (atom_texts k (drop i atoms)) ≡ []
   unfolding atom_texts
-  atoms_end h = ap (λ (l : List (List ℕ)). joined (eqb i 0) (map (atom_in k) l)) (drop_of_length-le (take n atoms) {i = i} (omega (arith, length-take n atoms)))
+  atoms_end h = rw (drop_of_length-le atoms {i = i} h) refl
 
 -- as many as there are, where more are counted
 pub taken : {A : Type 0} (l : List A) (most count n : ℕ) → n ≡ min most count → length l ≡ most → take n l ≡ take count l

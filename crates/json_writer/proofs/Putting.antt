@@ -1,13 +1,15 @@
 -- Laws of text that is written as it is produced. Assumes nothing.
 use mathlib.Core.Path.{◌≡◌, refl, sym, ap, ◌∙◌}
 use mathlib.Core.List.{List, [], ◌∷◌, ◌++◌}
-use Prim.Native.Nat.{ℕ, zero, suc, ◌+◌, ◌≤◌, ◌<◌}
+use Prim.Native.Nat.{ℕ, zero, suc, ◌+◌, ◌-◌, ◌≤◌, ◌<◌, min}
 use native.Mathlib.Nat.{add-zero}
 use native.Mathlib.Numerals.{add-one}
 use native.Mathlib.Omega.{arith}
 use lib.Dec.{ltb}
-use lib.ListN.{length, take, drop, set, get_or, replicate, length-append, length-replicate, take-append-drop}
-use lib.Seq.{sets, length-sets, set_out, set_at, append_snoc, take-suc, take_all, length-take-le}
+use lib.ListN.{length, take, drop, set, replicate, length-append, length-replicate, take-append-drop}
+use Rattle.std.proofs.lemmas.List.{append_assoc, drop-drop}
+use borrow.Rule.Slice.PartMut.{put_mid}
+use lib.Seq.{sets, sets-eq, length-sets, set_out, set_at, append_snoc, take_all, length-take-le}
 use borrow.Author.Tests.{ltb-true, ltb-false}
 use Rattle.model.proofs.Tests.{split}
 use Rattle.model.specs.Octets.{filled}
@@ -38,14 +40,6 @@ unfolding put_at
 put_past o at [] h = refl
 put_past o at (x ∷ t) h = ap (λ (l : List ℕ). sets l (suc at) t) (set_out o at x h) ∙ put_past o (suc at) t (omega arith)
 
--- one byte more of a text
-pub put_more : (o : List ℕ) (at : ℕ) (t : List ℕ) (i : ℕ) → i < length t → set (put_at o at (take i t)) (at + i) (get_or t i 0) ≡ put_at o at (take (i + 1) t)
-put_more o at t i h =
-    sym (put_one (put_at o at (take i t)) (at + i) (get_or t i 0))
-    ∙ ap (λ (n : ℕ). put_at (put_at o at (take i t)) (at + n) (get_or t i 0 ∷ [])) (sym (length-take-le i t (omega arith)))
-    ∙ sym (put_append o at (take i t) (get_or t i 0 ∷ []))
-    ∙ ap (put_at o at) (sym (take-suc t i 0 h) ∙ ap (λ (n : ℕ). take n t) (sym (add-one i)))
-
 -- the part of a text that the buffer takes
 pub put_part : (o : List ℕ) (at : ℕ) (t : List ℕ) (i : ℕ) → (i < length t → length o ≤ at + i) → put_at o at (take i t) ≡ put_at o at t
 put_part o at t i h =
@@ -58,6 +52,18 @@ put_part o at t i h =
     ∙ sym (put_append o at (take i t) (drop i t))
     ∙ ap (put_at o at) (take-append-drop i t))
     (λ e. ap (put_at o at) (take_all i t (ltb-false i (length t) e)))
+
+-- that part copied at once
+pub put_copied : (o : List ℕ) (at n k : ℕ) (t u : List ℕ) → at < length o → n ≡ min (length t) (length o - at) → k ≡ n → u ≡ take n t → put_mid at k o u ≡ put_at o at t
+unfolding put_at
+put_copied o at n k t u h m kn e =
+    let v = take n t in
+    let lv : length v ≡ n = length-take-le n t (omega arith) in
+    ap (λ (l : List ℕ). put_mid at k o l) e
+    ∙ sym (append_assoc (take at o) v (drop k (drop at o)))
+    ∙ ap (λ (l : List ℕ). take at o ++ v ++ l) (drop-drop k at o ∙ ap (λ (j : ℕ). drop j o) (let q : at + k ≡ at + length v = omega (arith, lv) in q))
+    ∙ sym (sets-eq v o at (omega (arith, lv)))
+    ∙ put_part o at t n (λ g. omega arith)
 
 -- of zeros: what a buffer holds in the end
 enough : (n m : ℕ) (t : List ℕ) → n ≤ m → take n (t ++ replicate m 0) ≡ take n (t ++ replicate n 0)

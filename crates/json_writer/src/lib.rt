@@ -24,35 +24,17 @@ pub fn put_byte(out: &mut [u8], at: usize, b: u8) -> usize
     at + 1
 }
 
-// How many of n bytes a buffer takes from a position on.
-fn room(size: usize, at: usize, n: usize) -> usize
-    ensures { result ≡ min n (size - at) }
-{
-    if size <= at {
-        return 0;
-    }
-    if n < size - at {
-        return n;
-    }
-    size - at
-}
-
 // Bytes as they are.
 pub fn put_bytes(out: &mut [u8], at: usize, text: &[u8]) -> usize
     requires { at + length text.now < 2 ^ 64 }
     ensures { Put (length text.now) out.old at text.now result out.new }
 {
-    let n = room(out.len(), at, text.len());
-    let mut i = 0;
-    while i < n {
-        out[at + i] = text[i];
-        i += 1;
+    if at < out.len() {
+        let n = text.len().min(out.len() - at);
+        out[at..at + n].copy_from_slice(&text[..n]);
     }
     at + text.len()
 }
-
-// The first digit as a number.
-const ZERO: u64 = b'0' as u64;
 
 // How many digits 64 bits have at most.
 const DIGITS: usize = 20;
@@ -64,16 +46,14 @@ fn decimal_digits(digits: &mut [u8], n: u64) -> usize
     ensures digits_after { drop result digits.new ≡ decimal_text n }
 {
     let mut v = n;
-    let mut i = DIGITS;
-    while 0 < i {
-        i -= 1;
-        digits[i] = (ZERO + v % 10) as u8;
+    for i in (0..DIGITS).rev() {
+        digits[i] = b'0' + (v % 10) as u8;
         if v < 10 {
             return i;
         }
-        v = v / 10;
+        v /= 10;
     }
-    i
+    0
 }
 
 // A number in decimal.
@@ -93,11 +73,10 @@ pub fn put_integer(out: &mut [u8], at: usize, atom: &Atom) -> usize
 {
     let x = octets::number(atom, 8);
     if x < 9223372036854775808 {
-        let r = put_decimal(out, at, x);
-        return r;
+        return put_decimal(out, at, x);
     }
     let r = put_byte(out, at, b'-');
-    put_decimal(out, r, 18446744073709551615 - x + 1)
+    put_decimal(out, r, u64::MAX - x + 1)
 }
 
 // What a digit above 9 is added to: 10 gives an a.
@@ -108,10 +87,7 @@ fn hex(d: u8) -> u8
     requires { d < 16 }
     ensures { result ≡ hex_digit d }
 {
-    if d < 10 {
-        return b'0' + d;
-    }
-    LETTERS + d
+    if d < 10 { b'0' + d } else { LETTERS + d }
 }
 
 // A byte in two hexadecimal digits.
@@ -128,17 +104,17 @@ fn put_escaped(out: &mut [u8], at: usize, b: u8) -> usize
     requires { at + escaped_most < 2 ^ 64 }
     ensures { Put escaped_most out.old at (escaped_text b) result out.new }
 {
-    if b == b'"' {
-        return put_bytes(out, at, b"\\\"");
+    match b {
+        b'"' | b'\\' => {
+            let r = put_byte(out, at, b'\\');
+            put_byte(out, r, b)
+        }
+        0..32 => {
+            let r = put_bytes(out, at, b"\\u00");
+            put_hex(out, r, b)
+        }
+        _ => put_byte(out, at, b),
     }
-    if b == b'\\' {
-        return put_bytes(out, at, b"\\\\");
-    }
-    if b < 32 {
-        let r = put_bytes(out, at, b"\\u00");
-        return put_hex(out, r, b);
-    }
-    put_byte(out, at, b)
 }
 
 // The bytes of a string, escaped where they must be.
@@ -147,10 +123,8 @@ fn put_inside(out: &mut [u8], at: usize, text: &[u8]) -> usize
     ensures { Put (escaped_most * length text.now) out.old at (inside_text text.now) result out.new }
 {
     let mut r = at;
-    let mut i = 0;
-    while i < text.len() {
-        r = put_escaped(out, r, text[i]);
-        i += 1;
+    for b in text {
+        r = put_escaped(out, r, *b);
     }
     r
 }
@@ -170,11 +144,11 @@ fn put_dash(out: &mut [u8], at: usize, k: usize) -> usize
     requires { at + 1 < 2 ^ 64 }
     ensures { Put 1 out.old at (dash_text k) result out.new }
 {
-    let dash = (k == 4) | (k == 6) | (k == 8) | (k == 10);
-    if dash {
-        return put_byte(out, at, b'-');
+    if matches!(k, 4 | 6 | 8 | 10) {
+        put_byte(out, at, b'-')
+    } else {
+        at
     }
-    at
 }
 
 // The digits of an id.
@@ -183,11 +157,9 @@ fn put_digits(out: &mut [u8], at: usize, id: &[u8]) -> usize
     ensures { Put digits_most out.old at (uuid_digits 0 id.now) result out.new }
 {
     let mut r = at;
-    let mut k = 0;
-    while k < id.len() {
+    for (k, b) in id.iter().enumerate() {
         let d = put_dash(out, r, k);
-        r = put_hex(out, d, id[k]);
-        k += 1;
+        r = put_hex(out, d, *b);
     }
     r
 }
@@ -208,9 +180,10 @@ fn put_truth(out: &mut [u8], at: usize, b: u8) -> usize
     ensures { Put 5 out.old at (truth_text b) result out.new }
 {
     if b == 0 {
-        return put_bytes(out, at, b"false");
+        put_bytes(out, at, b"false")
+    } else {
+        put_bytes(out, at, b"true")
     }
-    put_bytes(out, at, b"true")
 }
 
 // A string atom.
@@ -218,9 +191,7 @@ fn put_text(out: &mut [u8], at: usize, atom: &Atom) -> usize
     requires { at + text_most < 2 ^ 64 }
     ensures { Put text_most out.old at (quoted_text (text_of atom.now)) result out.new }
 {
-    let cell = &atom[..];
-    let text = atom::text_of(atom);
-    put_quoted(out, at, text)
+    put_quoted(out, at, atom::text_of(atom))
 }
 
 // A uuid atom.
@@ -228,8 +199,7 @@ fn put_uuid(out: &mut [u8], at: usize, atom: &Atom) -> usize
     requires { at + id_most < 2 ^ 64 }
     ensures { Put id_most out.old at (id_text (take id_bytes atom.now)) result out.new }
 {
-    let cell = &atom[..];
-    put_id(out, at, &cell[0..ID])
+    put_id(out, at, &atom[..ID])
 }
 
 // An atom of a base type by its number.
@@ -237,16 +207,12 @@ pub fn put_atom(out: &mut [u8], at: usize, kind: u8, atom: &Atom) -> usize
     requires { at + text_most < 2 ^ 64 }
     ensures { Put text_most out.old at (atom_in kind atom.now) result out.new }
 {
-    if kind == 0 {
-        return put_integer(out, at, atom);
+    match kind {
+        0 => put_integer(out, at, atom),
+        1 => put_truth(out, at, atom[0]),
+        2 => put_text(out, at, atom),
+        _ => put_uuid(out, at, atom),
     }
-    if kind == 1 {
-        return put_truth(out, at, atom[0]);
-    }
-    if kind == 2 {
-        return put_text(out, at, atom);
-    }
-    put_uuid(out, at, atom)
 }
 
 // The comma before a text that is not the first.
@@ -254,10 +220,7 @@ pub fn put_comma(out: &mut [u8], at: usize, first: bool) -> usize
     requires { at + 1 < 2 ^ 64 }
     ensures { Put 1 out.old at (comma_text first) result out.new }
 {
-    if first {
-        return at;
-    }
-    put_byte(out, at, b',')
+    if first { at } else { put_byte(out, at, b',') }
 }
 
 // The first n atoms, with commas between them.
@@ -266,24 +229,11 @@ fn put_atoms(out: &mut [u8], at: usize, kind: u8, n: usize, atoms: &[Atom]) -> u
     ensures { Put atoms_most out.old at (joined true (atom_texts kind (take n atoms.now))) result out.new }
 {
     let mut r = at;
-    let mut i = 0;
-    while i < n {
+    for (i, atom) in atoms[..n].iter().enumerate() {
         let d = put_comma(out, r, i == 0);
-        r = put_atom(out, d, kind, &atoms[i]);
-        i += 1;
+        r = put_atom(out, d, kind, atom);
     }
     r
-}
-
-// A count, or the most there can be.
-fn at_most(count: u8, most: usize) -> usize
-    ensures { result ≡ min most count }
-{
-    let n = leaf::wide(count);
-    if n < most {
-        return n;
-    }
-    most
 }
 
 // A value: one element bare, others as a set.
@@ -291,16 +241,16 @@ pub fn put_value(out: &mut [u8], at: usize, kind: u8, count: u8, atoms: &[Atom])
     requires { (at + value_most < 2 ^ 64) × (length atoms.now ≡ most_elements) }
     ensures { Put value_most out.old at (set_text kind count atoms.now) result out.new }
 {
-    if count == 0 {
-        return put_bytes(out, at, b"[\"set\",[]]");
+    match count {
+        0 => put_bytes(out, at, b"[\"set\",[]]"),
+        1 => put_atom(out, at, kind, &atoms[0]),
+        _ => {
+            let n = usize::from(count).min(ELEMENTS);
+            let r = put_bytes(out, at, b"[\"set\",[");
+            let e = put_atoms(out, r, kind, n, atoms);
+            put_bytes(out, e, b"]]")
+        }
     }
-    if count == 1 {
-        return put_atom(out, at, kind, &atoms[0]);
-    }
-    let n = at_most(count, ELEMENTS);
-    let r = put_bytes(out, at, b"[\"set\",[");
-    let e = put_atoms(out, r, kind, n, atoms);
-    put_bytes(out, e, b"]]")
 }
 
 // The result of an operation that did not run.

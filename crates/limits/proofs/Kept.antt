@@ -1,10 +1,12 @@
 -- The first n elements of a list that pass a test, from the i-th on. Assumes nothing.
-use mathlib.Core.Path.{◌≡◌, ap, ◌∙◌}
-use mathlib.Core.Bool.{Bool, true, false}
+use mathlib.Core.Path.{◌≡◌, refl, ap}
+use mathlib.Core.Bool.{Bool, true, false, ◌&&◌, ◌||◌}
 use mathlib.Core.List.{List, [], ◌∷◌}
 use Prim.Native.Nat.{ℕ, ◌+◌, ◌≤◌, ◌<◌}
 use lib.ListN.{length, get_or, take, drop}
+use Rattle.std.specs.List.{filter, list_any}
 use Rattle.model.specs.Base.{any, keep}
+use Rattle.model.proofs.Tests.{split}
 use Rattle.references.proofs.Walks.{first_on, first_end}
 
 module _ {A : Type 0} (q : A → Bool) (d : A) (l : List A) (n i : ℕ) (h : n ≤ length l) where
@@ -17,12 +19,12 @@ module _ {A : Type 0} (q : A → Bool) (d : A) (l : List A) (n i : ℕ) (h : n �
   pub keep_end : n ≤ i → keep q (drop i (take n l)) ≡ []
   keep_end g = rw (first_end d l n i h g)
 
-  module _ (p : A → Bool) where
-    pub any_kept_here : i < n → q (get_or l i d) ≡ true → p (get_or l i d) ≡ true → any p (keep q (drop i (take n l))) ≡ true
-    any_kept_here g e f = ap (any p) (keep_yes g e) ∙ rw f
+-- ── what iterators say, in the model's words ──
+module _ {A : Type 0} (q : A → Bool) where
+  pub kept_list : (l : List A) → filter q l ≡ keep q l
+  kept_list [] = refl
+  kept_list (a ∷ l) = split (q a) (λ e. rw e (ap (λ (r : List A). a ∷ r) (kept_list l))) (λ e. rw e (kept_list l))
 
-    pub any_kept_on : i < n → q (get_or l i d) ≡ true → p (get_or l i d) ≡ false → any p (keep q (drop i (take n l))) ≡ any p (keep q (drop (i + 1) (take n l)))
-    any_kept_on g e f = ap (any p) (keep_yes g e) ∙ rw f
-
-    pub any_kept_no : i < n → q (get_or l i d) ≡ false → any p (keep q (drop i (take n l))) ≡ any p (keep q (drop (i + 1) (take n l)))
-    any_kept_no g e = ap (any p) (keep_no g e)
+  pub any_both : (p : A → Bool) (l : List A) → list_any (λ (a : A). q a && p a) l ≡ any p (keep q l)
+  any_both p [] = refl
+  any_both p (a ∷ l) = split (q a) (λ e. rw e (ap (λ (b : Bool). p a || b) (any_both p l))) (λ e. rw e (any_both p l))

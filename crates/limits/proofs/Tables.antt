@@ -1,5 +1,7 @@
 -- A table's limits, and one table after another. Assumes nothing.
-use mathlib.Core.Path.{◌≡◌, refl, ap, ◌∙◌}
+use mathlib.Core.Path.{◌≡◌, refl, sym, ap, ◌∙◌}
+use borrow.Author.Tests.{eq-eqb}
+use lib.Dec.{eqb}
 use mathlib.Core.Bool.{Bool, true, false, ◌&&◌}
 use mathlib.Core.List.{List, [], ◌∷◌}
 use Prim.Native.Nat.{ℕ, zero, suc, ◌+◌, ◌-◌, ◌≤◌, ◌<◌}
@@ -13,9 +15,11 @@ use Rattle.model.specs.Commit.{unique, not_over, table_good, tables_good}
 use Rattle.model.specs.Catalog.{table_from, tables_from, packed_tables, index_from, max_rows_from, table_count, indexes_offset, first_index_offset, second_index_offset}
 use Rattle.inner.specs.Working.{working}
 use Rattle.references.proofs.Packs.{tables_on, tables_end}
-use Rattle.limits.specs.Alike.{of_t, unique_cells}
+use Rattle.catalog.specs.Accepted.{Accepted}
+use Rattle.catalog.proofs.Laws.{tables_length, few_tables}
+use Rattle.limits.specs.Alike.{of_t, unique_cells, IndexFits}
 use Rattle.limits.proofs.Indexed.{of_length, unique_model}
-use Rattle.limits.proofs.Sanely.{cell_at, width_at, Below}
+use Rattle.limits.proofs.Sanely.{cell_at, width_at, Below, fits_first, fits_second}
 
 -- ── a test over the first m of two ──
 module _ {A : Type 0} (q : A → Bool) (i j : A) where
@@ -88,6 +92,71 @@ module _ (schema : List (List ℕ)) (t n : ℕ) (rows : List (List (List ℕ))) 
 
       pub good_two : Below (width_at schema t) two → 1 < count → unique_cells one mine ≡ true → good ≡ unique_cells two mine
       good_two d h e = good_is ∙ rw few (two_both unique_in one two count h (first true e) ∙ unique_model (packed_tables schema) t two d n rows)
+
+-- ── what the code knows of a table, by the bytes of its cell ──
+module _ (schema : List (List ℕ)) (ok : Accepted schema) (t n : ℕ) (rows : List (List (List ℕ))) (h : t < length (packed_tables schema)) (place : ℕ) (e : place ≡ t) where
+  abbrev cell : List ℕ
+  cell = get_or schema (1 + place) []
+
+  abbrev differ : List ℕ → Bool
+  differ index = unique_cells index (mine schema t n rows)
+
+  pub in_area : 1 + place < 29
+  in_area = omega (arith, e, h, tables_length schema 0 (table_count schema), few_tables schema ok)
+
+  there : t < table_count schema
+  there = omega (arith, h, tables_length schema 0 (table_count schema))
+
+  index_is : (offset : ℕ) (index : List ℕ) → index ≡ index_from cell offset → index ≡ index_from (cell_at schema t) offset
+  index_is offset index g = g ∙ ap (λ (u : ℕ). index_from (get_or schema (1 + u) []) offset) e
+
+  module _ (found : ℕ) (within : Bool) (p : found ≡ length (mine schema t n rows)) (q : within ≡ not_over (max_rows_from cell) found) where
+    few_is : few_enough schema t n rows ≡ within
+    few_is = sym (q ∙ ap (λ (k : ℕ). not_over (max_rows_from cell) k) p ∙ ap (λ (u : ℕ). not_over (max_rows_from (get_or schema (1 + u) [])) (length (mine schema t n rows))) e)
+
+    pub table_over : within ≡ false → within ≡ good schema t n rows
+    table_over w = w ∙ sym (good_over schema t n rows (few_is ∙ w))
+
+    module _ (number : ℕ) (r : number ≡ get_or cell indexes_offset 0) where
+      number_is : number ≡ get_or (cell_at schema t) indexes_offset 0
+      number_is = r ∙ ap (λ (u : ℕ). get_or (get_or schema (1 + u) []) indexes_offset 0) e
+
+      positive : (number ≡ 0 → ⊥) → 0 < get_or (cell_at schema t) indexes_offset 0
+      positive f = rw (← number_is) (omega (arith, f))
+
+      more : (number ≡ 0 → ⊥) → (number ≡ 1 → ⊥) → 1 < get_or (cell_at schema t) indexes_offset 0
+      more f g = rw (← number_is) (omega (arith, f, g))
+
+      pub first_fits : (number ≡ 0 → ⊥) → (index : List ℕ) → index ≡ index_from cell first_index_offset → IndexFits index
+      first_fits f index g = rw (index_is first_index_offset index g) (fits_first schema ok t there (positive f)).0
+
+      pub second_fits : (number ≡ 0 → ⊥) → (number ≡ 1 → ⊥) → (index : List ℕ) → index ≡ index_from cell second_index_offset → IndexFits index
+      second_fits f g index d = rw (index_is second_index_offset index d) (fits_second schema ok t there (more f g)).0
+
+      module _ (w : within ≡ true) where
+        few : few_enough schema t n rows ≡ true
+        few = few_is ∙ w
+
+        pub table_none : number ≡ 0 → eqb number 0 ≡ good schema t n rows
+        table_none f = eq-eqb number 0 f ∙ sym (good_none schema t n rows few (sym number_is ∙ f))
+
+        module _ (f : number ≡ 0 → ⊥) (index : List ℕ) (g : index ≡ index_from cell first_index_offset) (unlike : Bool) (d : unlike ≡ unique_cells index (mine schema t n rows)) where
+          said : unique_cells (index_from (cell_at schema t) first_index_offset) (mine schema t n rows) ≡ unlike
+          said = ap differ (sym (index_is first_index_offset index g)) ∙ sym d
+
+          below : Below (width_at schema t) (index_from (cell_at schema t) first_index_offset)
+          below = (fits_first schema ok t there (positive f)).1
+
+          pub table_alike : unlike ≡ false → unlike ≡ good schema t n rows
+          table_alike u = u ∙ sym (good_first_no schema t n rows few below (positive f) (said ∙ u))
+
+          pub table_one : unlike ≡ true → number ≡ 1 → eqb number 1 ≡ good schema t n rows
+          table_one u o = eq-eqb number 1 o ∙ sym (good_one schema t n rows few below (sym number_is ∙ o) (said ∙ u))
+
+          pub table_two : unlike ≡ true → (number ≡ 1 → ⊥) → (other : List ℕ) → other ≡ index_from cell second_index_offset → (last : Bool) → last ≡ unique_cells other (mine schema t n rows) → last ≡ good schema t n rows
+          table_two u o other i last v =
+              v ∙ ap differ (index_is second_index_offset other i)
+              ∙ sym (good_two schema t n rows few below (fits_second schema ok t there (more f o)).1 (more f o) (said ∙ u))
 
 -- ── one table after another ──
 module _ (schema : List (List ℕ)) (n : ℕ) (rows : List (List (List ℕ))) (t : ℕ) where

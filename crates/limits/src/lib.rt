@@ -30,12 +30,10 @@ fn row_enough(row: &Row, schema: &Catalog) -> bool
 {
     let table = rows::table_of(row);
     let w = references::width(schema, table);
-    let mut c = 0;
-    while c < w {
+    for c in 0..w {
         if rows::count_of(row, c) < minimum(schema, table, c) {
             return false;
         }
-        c += 1;
     }
     true
 }
@@ -46,14 +44,7 @@ pub fn all_enough(schema: &Catalog, rows: &[Row], n: usize) -> bool
     requires n_in_bounds { n ≤ length rows.now }
     ensures { result ≡ all_enough (packed_tables schema.now) (working (packed_tables schema.now) n rows.now) }
 {
-    let mut i = 0;
-    while i < n {
-        if !row_enough(&rows[i], schema) {
-            return false;
-        }
-        i += 1;
-    }
-    true
+    rows[..n].iter().all(|row| row_enough(row, schema))
 }
 
 // Whether a row is one of a table.
@@ -68,25 +59,14 @@ fn rows_of(rows: &[Row], n: usize, table: u8) -> usize
     requires { n ≤ length rows.now }
     ensures { result ≡ length (keep (of_t table) (take n rows.now)) }
 {
-    let mut k = 0;
-    let mut i = 0;
-    while i < n {
-        if is_of(table, &rows[i]) {
-            k += 1;
-        }
-        i += 1;
-    }
-    k
+    rows[..n].iter().filter(|row| is_of(table, *row)).count()
 }
 
 // Whether so many rows are within a table's limit, if it has one.
 fn within(entry: &Entry, k: usize) -> bool
     ensures { result ≡ not_over (max_rows_from entry.now) k }
 {
-    if !catalog::is_limited(entry) {
-        return true;
-    }
-    k as u64 <= catalog::max_rows(entry)
+    !catalog::is_limited(entry) || k as u64 <= catalog::max_rows(entry)
 }
 
 // Whether two rows are equal in the columns of an index.
@@ -94,13 +74,10 @@ fn same_in(index: &[u8], x: &Row, y: &Row) -> bool
     requires { IndexFits index.now }
     ensures { result ≡ same_cells index.now x.now y.now }
 {
-    let mut k = 0;
-    while k < index.len() {
-        let c = leaf::wide(index[k]);
-        if !rows::same_column(x, y, c) {
+    for c in index {
+        if !rows::same_column(x, y, leaf::wide(*c)) {
             return false;
         }
-        k += 1;
     }
     true
 }
@@ -111,16 +88,10 @@ fn again(index: &[u8], rows: &[Row], n: usize, table: u8, i: usize) -> bool
     requires i_lt_n { (i < n) × (n ≤ length rows.now) }
     ensures { result ≡ any (same_cells index.now (get_or rows.now i [])) (keep (of_t table) (drop (i + 1) (take n rows.now))) }
 {
-    let mut j = i + 1;
-    while j < n {
-        if is_of(table, &rows[j]) {
-            if same_in(index, &rows[i], &rows[j]) {
-                return true;
-            }
-        }
-        j += 1;
-    }
-    false
+    let row = &rows[i];
+    rows[i + 1..n]
+        .iter()
+        .any(|next| is_of(table, next) && same_in(index, row, next))
 }
 
 // Whether no two rows of a table are equal in an index.
@@ -129,14 +100,10 @@ fn unique(index: &[u8], rows: &[Row], n: usize, table: u8) -> bool
     requires n_in_bounds { n ≤ length rows.now }
     ensures { result ≡ unique_cells index.now (keep (of_t table) (take n rows.now)) }
 {
-    let mut i = 0;
-    while i < n {
-        if is_of(table, &rows[i]) {
-            if again(index, rows, n, table, i) {
-                return false;
-            }
+    for i in 0..n {
+        if is_of(table, &rows[i]) && again(index, rows, n, table, i) {
+            return false;
         }
-        i += 1;
     }
     true
 }
@@ -149,20 +116,11 @@ fn table_good(schema: &Catalog, table: u8, rows: &[Row], n: usize) -> bool
     ensures { result ≡ table_good (table_from schema.now table) (of_table table (working (packed_tables schema.now) n rows.now)) }
 {
     let entry = &schema[1 + leaf::wide(table)];
-    if !within(entry, rows_of(rows, n, table)) {
-        return false;
-    }
     let count = catalog::index_count(entry);
-    if count == 0 {
-        return true;
-    }
-    if !unique(catalog::first_index(entry), rows, n, table) {
-        return false;
-    }
-    if count == 1 {
-        return true;
-    }
-    unique(catalog::second_index(entry), rows, n, table)
+    within(entry, rows_of(rows, n, table))
+        && (count == 0
+            || unique(catalog::first_index(entry), rows, n, table)
+                && (count == 1 || unique(catalog::second_index(entry), rows, n, table)))
 }
 
 // Whether every table has no more rows than it may, and no two that are equal in an index.
@@ -172,12 +130,10 @@ pub fn tables_good(schema: &Catalog, rows: &[Row], n: usize) -> bool
     ensures { result ≡ tables_good 0 (packed_tables schema.now) (working (packed_tables schema.now) n rows.now) }
 {
     let k = catalog::table_count(&schema[0]);
-    let mut t = 0;
-    while t < k {
+    for t in 0..k {
         if !table_good(schema, t, rows, n) {
             return false;
         }
-        t += 1;
     }
     true
 }

@@ -18,8 +18,7 @@ fn has_key(rows: &[Row], key: &Key) -> bool
     requires { Ordered (length rows.now) rows.now }
     ensures { (s : Schema) → result ≡ has (value key.now) (working s (length rows.now) rows.now) }
 {
-    let bytes = &key[..];
-    rows::has_key(rows, rows.len(), bytes[0], &bytes[ID_OFFSET..COUNTS_OFFSET])
+    rows::has_key(rows, rows.len(), key[0], &key[ID_OFFSET..])
 }
 
 // How many of these keys are those of rows that are in order.
@@ -28,12 +27,10 @@ fn count_keys(rows: &[Row], keys: &[Key]) -> u64
     ensures { (s : Schema) → result ≡ count_true (λ k. has k (working s (length rows.now) rows.now)) (map value keys.now) }
 {
     let mut count = 0;
-    let mut i = 0;
-    while i < keys.len() {
-        if has_key(rows, &keys[i]) {
+    for key in keys {
+        if has_key(rows, key) {
             count += 1;
         }
-        i += 1;
     }
     count
 }
@@ -44,12 +41,10 @@ fn count_ids(rows: &[Row], ids: &[[u8; ID]]) -> u64
     ensures { (s : Schema) → result ≡ count_true (λ i. has_id i (working s (length rows.now) rows.now)) (map value ids.now) }
 {
     let mut count = 0;
-    let mut i = 0;
-    while i < ids.len() {
-        if rows::has_id(rows, rows.len(), &ids[i]) {
+    for id in ids {
+        if rows::has_id(rows, rows.len(), id) {
             count += 1;
         }
-        i += 1;
     }
     count
 }

@@ -4,11 +4,11 @@ use mathlib.Core.Bool.{Bool, true, false, ◌&&◌}
 use mathlib.Core.List.{List, [], ◌∷◌, ◌++◌, map, map-append}
 use Prim.Native.Nat.{ℕ, zero, suc, ◌+◌, ◌≤◌, ◌<◌}
 use native.Mathlib.Omega.{arith}
-use native.Mathlib.Numerals.{add-one}
 use lib.Dec.{eqb}
 use lib.ListN.{length, get_or, take, set, length-set}
 use lib.Seq.{take-suc, get_or-set_same, get_or-set_other, get_or-take, length-take-le}
 use borrow.Author.Tests.{eqb-true, eqb-false}
+use Rattle.std.specs.List.{filter}
 use Rattle.model.specs.Base.{count}
 use Rattle.model.specs.Schema.{Column, Schema, columns_of}
 use Rattle.model.specs.Rows.{Row}
@@ -20,9 +20,6 @@ use Rattle.marks.specs.Marks.{Narrowed, MarkedRows, marked}
 
 below : (j i : ℕ) → j ≤ i → (j ≡ i → ⊥) → j < i
 below j i l n = omega arith
-
-above : (j i : ℕ) → i ≤ j → (j ≡ i → ⊥) → i + 1 ≤ j
-above j i l n = omega arith
 
 -- a mark that is set is one of the marks
 marked_within : (marks : List Bool) (i : ℕ) → get_or marks i false ≡ true → i < length marks
@@ -76,14 +73,19 @@ marking_on {q} {rows} {marks} {i} {m} g h e = record {
 }
 
 -- ── counted ──
-module _ (marks : List Bool) (i : ℕ) where
-  pub marked_yes : get_or marks i false ≡ true → marked marks (i + 1) ≡ marked marks i + 1
-  unfolding marked
-  marked_yes e = ap (marked marks) (add-one i) ∙ rw (marked, e) (sym (add-one (marked marks i)))
+filter_more : (l : List Bool) (b : Bool) → length (filter (λ (m : Bool). m) (l ++ b ∷ [])) ≡ length (filter (λ (m : Bool). m) l) + length (filter (λ (m : Bool). m) (b ∷ []))
+filter_more [] b = omega arith
+filter_more (true ∷ l) b = let z = filter_more l b in omega (arith, z)
+filter_more (false ∷ l) b = filter_more l b
 
-  pub marked_no : get_or marks i false ≡ false → marked marks (i + 1) ≡ marked marks i
-  unfolding marked
-  marked_no e = ap (marked marks) (add-one i) ∙ rw (marked, e)
+pub marked_list : (marks : List Bool) (n : ℕ) → n ≤ length marks → length (filter (λ (m : Bool). m) (take n marks)) ≡ marked marks n
+unfolding marked
+marked_list marks zero h = refl
+marked_list marks (suc n) h =
+    let i = marked_list marks n (omega (arith, h)) in
+    ap (λ (l : List Bool). length (filter (λ (m : Bool). m) l)) (take-suc marks n false (omega (arith, h)))
+    ∙ filter_more (take n marks) (get_or marks n false)
+    ∙ split (get_or marks n false) (λ e. rw (marked, e) (omega (arith, i))) (λ e. rw (marked, e) (omega (arith, i)))
 
 count_append : {A : Type 0} (q : A → Bool) (l : List A) (a : A) → count q (l ++ a ∷ []) ≡ count q l + count q (a ∷ [])
 count_append q [] a = omega arith

@@ -1,6 +1,5 @@
 -- Marks of rows: which of them meet conditions, and what a condition says of a row in cells. Assumes nothing: these are definitions.
-use Rattle.std.specs.Prelude.{ℕ, zero, suc, ◌≤◌, ◌<◌, ◌≡◌, Bool, true, false, not, ◌&&◌, List, [], ◌∷◌, eqb, length, get_or, take}
-use Rattle.std.proofs.Math.Option.{Option, none, some}
+use Rattle.std.specs.Prelude.{ℕ, zero, suc, ◌≤◌, ◌<◌, ◌≡◌, Bool, true, false, not, ◌&&◌, List, [], ◌∷◌, eqb, length, get_or, take, Option, Some, None}
 use Rattle.std.specs.Int.Signed.{lt_z, le_z}
 use Rattle.model.specs.Limits.{most_columns, most_elements, atom_bytes}
 use Rattle.model.specs.Base.{any, all, member, eq_lists, keep}
@@ -49,8 +48,8 @@ InRow (OfColumn c) = c < most_columns
 InRow Id = Unit
 
 unfoldable pub place_of : Place → Option ℕ
-place_of (OfColumn c) = some c
-place_of Id = none
+place_of (OfColumn c) = Some c
+place_of Id = None
 
 unfoldable pub atoms_at : Place → List (List ℕ) → List (List ℕ)
 atoms_at (OfColumn c) row = elements (value_in c row)

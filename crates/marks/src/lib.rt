@@ -14,7 +14,7 @@ ghost use Rattle.integers.specs.Ints.{as_int};
 ghost use Rattle.marks.specs.Marks.{every, met, InRow, atoms_at, Sized, Narrowed, OfTable, MarkedRows, marked, Deleted};
 
 use integers::Int;
-use model::{ATOM, Atom, Function, ROWS, Row};
+use model::{ATOM, Atom, Function, ID, ROWS, Row};
 
 // What a condition is about: a column by its place, or the row's id.
 #[derive(Clone, Copy)]
@@ -27,43 +27,30 @@ pub enum Place {
 fn first_of(xs: &[Atom]) -> Int
     ensures { result ≡ as_int (first_int xs.now) }
 {
-    if 0 < xs.len() {
-        return integers::of_atom(&xs[0]);
+    match xs.first() {
+        Some(x) => integers::of_atom(x),
+        None => integers::of_atom(&[0; ATOM]),
     }
-    let none = [0u8; ATOM];
-    integers::of_atom(&none)
 }
 
 // The first integers of two lists, in order.
 fn less(xs: &[Atom], ys: &[Atom]) -> bool
     ensures { result ≡ lt_z (first_int xs.now) (first_int ys.now) }
 {
-    let x = first_of(xs);
-    let y = first_of(ys);
-    integers::less(x, y)
+    integers::less(first_of(xs), first_of(ys))
 }
 
 fn at_most(xs: &[Atom], ys: &[Atom]) -> bool
     ensures { result ≡ le_z (first_int xs.now) (first_int ys.now) }
 {
-    let x = first_of(xs);
-    let y = first_of(ys);
-    integers::at_most(x, y)
+    integers::at_most(first_of(xs), first_of(ys))
 }
 
 // Whether each element of l is among xs, or none is.
 fn every(stored: bool, xs: &[Atom], l: &[Atom]) -> bool
     ensures { result ≡ every stored xs.now l.now }
 {
-    let mut i = 0;
-    while i < l.len() {
-        let m = value::member(&l[i], xs);
-        if m != stored {
-            return false;
-        }
-        i += 1;
-    }
-    true
+    l.iter().all(|x| value::member(x, xs) == stored)
 }
 
 // What the function of a condition says of the elements xs of a column and those that were written, sorted where they are to be equal.
@@ -87,8 +74,8 @@ fn atom_of(id: &[u8]) -> Atom
     requires { length id.now ≡ id_bytes }
     ensures { result ≡ uuid_atom (value id.now) }
 {
-    let mut cell = [0u8; ATOM];
-    octets::put_bytes(&mut cell, id);
+    let mut cell = [0; ATOM];
+    cell[..ID].copy_from_slice(id);
     cell
 }
 
@@ -104,8 +91,7 @@ fn holds(place: Place, f: Function, l: &[Atom], row: &Row) -> bool
             compare(f, &xs[..n], l)
         }
         Place::Id => {
-            let x = atom_of(rows::id_of(row));
-            let one = [x];
+            let one = [atom_of(rows::id_of(row))];
             compare(f, &one, l)
         }
     }
@@ -116,13 +102,10 @@ pub fn narrow(place: Place, f: Function, l: &[Atom], rows: &[Row], marks: &mut [
     requires { InRow place × (length rows.now ≤ most_rows) }
     ensures { Narrowed (λ row. met f (atoms_at place row) l.now) rows.now marks.old marks.new }
 {
-    let mut i = 0;
-    while i < rows.len() {
+    for (i, row) in rows.iter().enumerate() {
         if marks[i] {
-            let m = holds(place, f, l, &rows[i]);
-            marks[i] = m;
+            marks[i] = holds(place, f, l, row);
         }
-        i += 1;
     }
 }
 
@@ -131,12 +114,9 @@ fn is_sized(xs: &[Atom]) -> bool
     ensures { (result ≡ true) × (all (λ x. eqb (length x) atom_bytes) xs.now ≡ true) }
 {
     let mut ok = true;
-    let mut i = 0;
-    while i < xs.len() {
-        let x = &xs[i];
+    for x in xs {
         let bytes = &x[..];
-        ok = ok & (bytes.len() == ATOM);
-        i += 1;
+        ok &= bytes.len() == ATOM;
     }
     ok
 }
@@ -153,8 +133,7 @@ fn sized_at(place: Place, row: &Row) -> bool
             is_sized(&xs[..n])
         }
         Place::Id => {
-            let x = atom_of(rows::id_of(row));
-            let one = [x];
+            let one = [atom_of(rows::id_of(row))];
             is_sized(&one)
         }
     }
@@ -165,13 +144,10 @@ pub fn narrow_all(place: Place, stays: bool, rows: &[Row], marks: &mut [bool; RO
     requires { InRow place × (length rows.now ≤ most_rows) }
     ensures { (p : List (List ℕ) → Bool) → ((row : List (List ℕ)) → Sized (atoms_at place row) → p row ≡ stays) → Narrowed p rows.now marks.old marks.new }
 {
-    let mut i = 0;
-    while i < rows.len() {
+    for (i, row) in rows.iter().enumerate() {
         if marks[i] {
-            let s = sized_at(place, &rows[i]);
-            marks[i] = stays & s;
+            marks[i] = stays & sized_at(place, row);
         }
-        i += 1;
     }
 }
 
@@ -181,11 +157,8 @@ pub fn of_table(table: u8, rows: &[Row]) -> [bool; ROWS]
     ensures { OfTable table rows.now result }
 {
     let mut marks = [false; ROWS];
-    let mut i = 0;
-    while i < rows.len() {
-        let t = rows::table_of(&rows[i]);
-        marks[i] = table == t;
-        i += 1;
+    for (i, row) in rows.iter().enumerate() {
+        marks[i] = table == rows::table_of(row);
     }
     marks
 }
@@ -195,15 +168,7 @@ pub fn count(marks: &[bool; ROWS], n: usize) -> usize
     requires { n ≤ most_rows }
     ensures { result ≡ marked marks.now n }
 {
-    let mut found = 0;
-    let mut i = 0;
-    while i < n {
-        if marks[i] {
-            found += 1;
-        }
-        i += 1;
-    }
-    found
+    marks[..n].iter().filter(|mark| **mark).count()
 }
 
 // The row at one place copied to another.
@@ -211,11 +176,9 @@ fn copy_row(rows: &mut [Row], to: usize, from: usize)
     requires { (to ≤ from) × (from < length rows.old) }
     ensures { rows.new ≡ set rows.old to (get_or rows.old from []) }
 {
-    if from <= to {
-        return;
+    if to < from {
+        rows[to] = rows[from];
     }
-    let r = rows[from];
-    rows[to] = r;
 }
 
 // The marked ones of the first n rows taken out; how many are left. The rows after those are free.
@@ -224,13 +187,11 @@ pub fn delete_rows(marks: &[bool; ROWS], rows: &mut [Row], n: usize) -> usize
     ensures { (cs : List Column) (table : ℕ) (ts : List Test) → MarkedRows cs ts table n rows.old marks.now → Deleted cs table ts n result rows.old rows.new }
 {
     let mut kept = 0;
-    let mut i = 0;
-    while i < n {
+    for i in 0..n {
         if !marks[i] {
             copy_row(rows, kept, i);
             kept += 1;
         }
-        i += 1;
     }
     kept
 }

@@ -1,4 +1,8 @@
 -- Slots filled member by member. Assumes nothing.
+use Rattle.std.specs.Prelude.{Ok, Err}
+use Rattle.model.specs.declared.ReadError.TheVariants.{Stop}
+use Rattle.model.specs.Scan.{Read}
+use Rattle.std.specs.Prelude.{Option, Some}
 use mathlib.Core.Path.{◌≡◌, refl, sym, subst, ◌∙◌}
 use mathlib.Core.List.{List, [], ◌∷◌}
 use mathlib.Core.Bool.{Bool, true, false, not, ◌&&◌, ◌||◌}
@@ -10,10 +14,6 @@ use lib.ListN.{length, get_or, set, replicate, length-set}
 use lib.Seq.{get_or-set_same, get_or-set_other}
 use Rattle.model.specs.Octets.{eq_bytes}
 use Rattle.model.specs.Base.{member, distinct}
-use Rattle.model.specs.declared.Read.{Read}
-use Rattle.model.specs.declared.Read.TheVariants.{End, Stop, Deep}
-use Rattle.model.specs.declared.Found.{Found}
-use Rattle.model.specs.declared.Found.TheVariants.{At}
 use Rattle.model.specs.Scan.{byte, and_then, within_at, spaces_at, end_or}
 use Rattle.model.specs.Strings.{string_at}
 use Rattle.model.specs.Json.{Json, null, str, Named, key_at, member_at, value_at}
@@ -143,35 +143,34 @@ module _ (s : List ℕ) (ws : List (List ℕ)) where
 
 -- ── a walk over members ──
 module _ (s : List ℕ) where
-  within_positive : (low high x e : ℕ) → within_at s low high (End x) ≡ End e → 0 < e
+  within_positive : (low high x e : ℕ) → within_at s low high (Ok x) ≡ Ok e → 0 < e
   unfolding within_at
   within_positive low high x e h =
       split
       (ltb (byte s x) low)
-      (λ a. absurd (let q : Stop x ≡ End e = rw (within_at, a) at h in let z : ◌≡◌ {A = ℕ} 0 1 = cc in omega arith))
+      (λ a. absurd (let q : Err (Stop x) ≡ Ok e = rw (within_at, a) at h in let z : ◌≡◌ {A = ℕ} 0 1 = cc in omega arith))
       (λ a.
       split
       (ltb high (byte s x))
-      (λ b. absurd (let q : Stop x ≡ End e = rw (within_at, a, b) at h in let z : ◌≡◌ {A = ℕ} 0 1 = cc in omega arith))
-      (λ b. let q : End (x + 1) ≡ End e = rw (within_at, a, b) at h in let z : x + 1 ≡ e = cc in omega arith))
+      (λ b. absurd (let q : Err (Stop x) ≡ Ok e = rw (within_at, a, b) at h in let z : ◌≡◌ {A = ℕ} 0 1 = cc in omega arith))
+      (λ b. let q : Ok (x + 1) ≡ Ok e = rw (within_at, a, b) at h in let z : x + 1 ≡ e = cc in omega arith))
 
   -- a member's value begins past the key, and so never at 0
-  value_positive : (p e : ℕ) → (key_at s p).read ≡ End e → 0 < e
+  value_positive : (p e : ℕ) → (key_at s p).read ≡ Ok e → 0 < e
   unfolding key_at and_then
   value_positive p e = go (string_at s (spaces_at s p)).read
     where
       t : List ℕ
       t = (string_at s (spaces_at s p)).tree
 
-      go : (r : Read) → (and_then [] (λ e. record { read = within_at s 58 58 (End (spaces_at s e)); tree = t }) r).read ≡ End e → 0 < e
-      go (End x) h = within_positive 58 58 (spaces_at s x) e h
-      go (Stop x) h = absurd (let z : ◌≡◌ {A = ℕ} 0 1 = cc in omega arith)
-      go (Deep x) h = absurd (let z : ◌≡◌ {A = ℕ} 0 1 = cc in omega arith)
+      go : (r : Read) → (and_then [] (λ e. record { read = within_at s 58 58 (Ok (spaces_at s e)); tree = t }) r).read ≡ Ok e → 0 < e
+      go (Ok x) h = within_positive 58 58 (spaces_at s x) e h
+      go (Err x) h = absurd (let z : ◌≡◌ {A = ℕ} 0 1 = cc in omega arith)
 
-  module _ (ws : List (List ℕ)) (apart : distinct ws ≡ true) (few : length ws ≤ 9) {g : Found} {p : ℕ} (h : g ≡ At p) (fine : members_fine s g ≡ true) where
+  module _ (ws : List (List ℕ)) (apart : distinct ws ≡ true) (few : length ws ≤ 9) {g : Option ℕ} {p : ℕ} (h : g ≡ Some p) (fine : members_fine s g ≡ true) where
     pub kept_pass : {ms : List Named} {slots : List ℕ} → Kept s ws ms slots (members_from s g) → Kept s ws ms (set slots (choice ws (tree_at s p)) (end_or p (key_at s p).read)) (members_from s (next_member s p))
     kept_pass k =
-        let well = (members_fine_lem s p (subst (λ (x : Found). members_fine s x ≡ true) h fine)).0 in
+        let well = (members_fine_lem s p (subst (λ (x : Option ℕ). members_fine s x ≡ true) h fine)).0 in
         let e = member_well s p well in
         kept_step
         s

@@ -10,7 +10,7 @@ ghost use Rattle.model.specs.Members.{members_in};
 ghost use Rattle.model.specs.SchemaText.{members_or, truth_or};
 ghost use Rattle.members.specs.Fields.{most_words, words_of, choice, slot_tree, Slots};
 
-use model::{Found, Kind, Whole};
+use model::{Kind, Whole};
 
 // Words at once, at most; as a word's number, that there is none.
 pub const WORDS: usize = 9;
@@ -25,7 +25,7 @@ pub fn choose(text: &[u8], at: usize, words: &[u8]) -> usize
     ensures { result ≡ choice (words_of words.now) (tree_at text.now at) }
 {
     let f = text::body_at(text, at);
-    let Found::At(i) = f else {
+    let Some(i) = f else {
         return WORDS;
     };
     let mut a = 0;
@@ -60,19 +60,15 @@ pub fn fields(text: &[u8], ends: &[u16], at: usize, words: &[u8]) -> Places
 {
     let mut slots = [0usize; SLOTS];
     let mut g = nav::first(text, at, b'{', b'}');
-    loop {
-        match g {
-            Found::At(p) => {
-                let k = choose(text, p, words);
-                let v = nav::member_value(text, ends, p);
-                if k < NOTED {
-                    slots[k] = v;
-                }
-                g = nav::next_past(text, ends, p, v);
-            }
-            Found::Nothing => return slots,
+    while let Some(p) = g {
+        let k = choose(text, p, words);
+        let v = nav::member_value(text, ends, p);
+        if k < NOTED {
+            slots[k] = v;
         }
+        g = nav::next_past(text, ends, p, v);
     }
+    slots
 }
 
 // The same of the value at `at`, which stands for the first word's member where it is no object.

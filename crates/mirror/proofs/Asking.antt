@@ -1,10 +1,10 @@
 -- What a mirror tells of itself. Assumes nothing.
+use Rattle.std.specs.Prelude.{Option, Some, None}
 use mathlib.Core.Path.{◌≡◌, refl, sym, ap, ◌∙◌}
-use mathlib.Core.Bool.{Bool, true, false, not, ◌||◌}
+use mathlib.Core.Bool.{Bool}
 use mathlib.Core.List.{List}
-use mathlib.Core.Option.{Option, none, some}
 use Prim.Native.Nat.{ℕ}
-use borrow.Author.Tests.{eq-eqb, eqb-true, eqb-false, not-false}
+use borrow.Author.Tests.{eqb-true, eqb-false}
 use lib.Dec.{eqb}
 use lib.ListN.{length, replicate}
 use lib.Seq.{get_or-drop}
@@ -18,7 +18,6 @@ use Rattle.model.specs.Areas.{decode_store, MirrorState, decode_mirror, mirror_o
 use Rattle.model.specs.Calls.{asked, Progress, progress_of, Presence, presence_of, Contents, no_contents, contents_of, mirror_column}
 use Rattle.model.specs.declared.Status.{Status}
 use Rattle.model.specs.declared.Status.TheVariants.{Accepted, Disordered, WrongLength}
-use Rattle.model.proofs.Tests.{clash, or_l, or_r}
 use Rattle.model.proofs.TextUtf8.{by_test}
 use Rattle.area.specs.Writing.{top_in, number_in}
 use Rattle.area.specs.Layout.{row_count}
@@ -70,38 +69,33 @@ module _ {A : Type 0} (a : List ℕ) (refuse : Status → A) (ask : Mirror → A
 
   module _ (size : length a ≡ mirror_bytes) where
     chosen : Option MirrorState → A
-    chosen o = elim o [ none ↦ refuse Disordered | some m ↦ ask m.mirror ]
+    chosen o = elim o [ None ↦ refuse Disordered | Some m ↦ ask m.mirror ]
 
     by_state : asked a refuse ask ≡ chosen (mirror_of a)
     unfolding chosen
     by_state = by_test (λ (z : A). z ≡ chosen (mirror_of a)) (eqb (length a) mirror_bytes) (λ e. refl) (λ e. absurd (eqb-false (length a) mirror_bytes e size))
 
-    pub ask_bad : mirror_of a ≡ none → asked a refuse ask ≡ refuse Disordered
+    pub ask_bad : mirror_of a ≡ None → asked a refuse ask ≡ refuse Disordered
     unfolding chosen
     ask_bad e = by_state ∙ ap chosen e
 
-    pub ask_state : (m : MirrorState) → mirror_of a ≡ some m → asked a refuse ask ≡ ask m.mirror
+    pub ask_state : (m : MirrorState) → mirror_of a ≡ Some m → asked a refuse ask ≡ ask m.mirror
     unfolding chosen
     ask_state m e = by_state ∙ ap chosen e
 
-    pub ask_good : mirror_of a ≡ some (decode_mirror a) → asked a refuse ask ≡ ask (decode_mirror a).mirror
+    pub ask_good : mirror_of a ≡ Some (decode_mirror a) → asked a refuse ask ≡ ask (decode_mirror a).mirror
     ask_good e = ask_state (decode_mirror a) e
 
 -- a column's question: an output or an area of another length, and one that is answered
 module _ (a : List ℕ) (t : ℕ) (id : List ℕ) (c : ℕ) (out : List ℕ) where
-  pub column_other : (not (eqb (length out) 101) || not (eqb (length a) mirror_bytes)) ≡ true → mirror_column a t id c out ≡ record { status = WrongLength; out = replicate (length out) 0 }
+  pub column_other : (length out ≡ 101 → length a ≡ mirror_bytes → ⊥) → mirror_column a t id c out ≡ record { status = WrongLength; out = replicate (length out) 0 }
   unfolding mirror_column
   column_other h =
       by_test (λ (z : Contents). z ≡ no_contents out WrongLength) (eqb (length out) 101)
-      (λ e. ask_other a (no_contents out) (contents_of t id c) (λ l. clash (not (eqb (length a) mirror_bytes)) (sym (ap (λ (b : Bool). not b || not (eqb (length a) mirror_bytes)) e) ∙ h) (ap not (eq-eqb (length a) mirror_bytes l))))
+      (λ e. ask_other a (no_contents out) (contents_of t id c) (h (eqb-true (length out) 101 e)))
       (λ e. refl)
 
   pub column_asked : length out ≡ 101 → mirror_column a t id c out ≡ asked a (no_contents out) (contents_of t id c)
   unfolding mirror_column
   column_asked h =
       by_test (λ (z : Contents). z ≡ asked a (no_contents out) (contents_of t id c)) (eqb (length out) 101) (λ e. refl) (λ e. absurd (eqb-false (length out) 101 e h))
-
--- neither length is another
-pub both_sized : (m n : ℕ) → (not (eqb m 101) || not (eqb n mirror_bytes)) ≡ false → (m ≡ 101) × (n ≡ mirror_bytes)
-both_sized m n h =
-    (eqb-true m 101 (not-false (eqb m 101) (or_l (not (eqb m 101)) (not (eqb n mirror_bytes)) h)), eqb-true n mirror_bytes (not-false (eqb n mirror_bytes) (or_r (not (eqb m 101)) (not (eqb n mirror_bytes)) h)))

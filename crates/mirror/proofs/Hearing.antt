@@ -1,8 +1,8 @@
 -- What an arrival leaves in a mirror's area. Assumes nothing.
+use Rattle.std.specs.Prelude.{Option, Some, None}
 use mathlib.Core.Path.{◌≡◌, refl, sym, ap, ◌∙◌, subst}
 use mathlib.Core.Bool.{Bool, true, false, not, ◌&&◌}
 use mathlib.Core.List.{List}
-use mathlib.Core.Option.{Option, none, some}
 use Prim.Native.Nat.{ℕ, ◌^◌, ◌≤◌, max}
 use native.Mathlib.Omega.{arith}
 use borrow.Author.Tests.{eqb-true, eqb-false, lt-ltb, not-true, not-false}
@@ -20,7 +20,7 @@ use Rattle.inner.specs.Working.{working, Tidy}
 use Rattle.model.proofs.Order.{Good}
 use Rattle.model.specs.Calls.{Arrived, mirror_after, hear_on, mirror_hear}
 use Rattle.model.specs.declared.Status.TheVariants.{Disordered, WrongLength}
-use Rattle.model.proofs.Tests.{clash, and_l, and_r, whole}
+use Rattle.model.proofs.Tests.{and_l, and_r, whole}
 use Rattle.model.proofs.TextUtf8.{by_test}
 use Rattle.model.proofs.Octets.{octet}
 use Rattle.model.proofs.GoodOrder.{of_good}
@@ -69,7 +69,7 @@ fine_fits m f =
     pass_fits (store_part m) (whole (head_tests (store_part m)) (f.accepted, (lt-ltb m.run (256 ^ 4) f.run, (lt-ltb m.mirror.n (256 ^ 4) f.n, tt)))) (of_good m.database.tables m.mirror.rows f.rows)
 
 -- ── an area in good order, and what an arrival left of its rows ──
-module _ (a x : List ℕ) (schema : List (List ℕ)) (cells exit : List (List (List ℕ))) (r : Outcome) (state : mirror_of a ≡ some (decode_mirror a)) (h : Held a schema cells)
+module _ (a x : List ℕ) (schema : List (List ℕ)) (cells exit : List (List (List ℕ))) (r : Outcome) (state : mirror_of a ≡ Some (decode_mirror a)) (h : Held a schema cells)
     (st : Stepped schema (value (part 0 4 a)) (numbers_in a) x (row_count a) cells exit r) (bytes : all octet x ≡ true) (room : 32 ≤ length exit) where
   abbrev m : MirrorState
   m = decode_mirror a
@@ -168,7 +168,7 @@ module _ (a x : List ℕ) (schema : List (List ℕ)) (cells exit : List (List (L
 
 -- the same, with what the code read of the area
 pub hear_got : (a x : List ℕ) (schema : List (List ℕ)) (cells exit : List (List (List ℕ))) (r : Outcome) (run : ℕ) (was : Numbers) (count : ℕ) → run ≡ value (part 0 4 a) → was ≡ numbers_in a → count ≡ row_count a
-    → mirror_of a ≡ some (decode_mirror a) → Held a schema cells → Stepped schema run was x count cells exit r → all octet x ≡ true → 32 ≤ length exit
+    → mirror_of a ≡ Some (decode_mirror a) → Held a schema cells → Stepped schema run was x count cells exit r → all octet x ≡ true → 32 ≤ length exit
     → (after : List ℕ) → after ≡ rewritten was r.numbers r.count exit a → mirror_hear a x ≡ record { status = r.status; area = after }
 hear_got a x schema cells exit r run was count u w k state h st bytes room after e =
     let s : Stepped schema (value (part 0 4 a)) (numbers_in a) x (row_count a) cells exit r =
@@ -177,36 +177,12 @@ hear_got a x schema cells exit r run was count u w k state h st bytes room after
     hear_is a x schema cells exit r state h s bytes room
     ∙ ap (λ (l : List ℕ). record { status = r.status; area = l }) (sym (e ∙ ap (λ (m : Numbers). rewritten m r.numbers r.count exit a) w))
 
--- ── what is written, by the tests that the code makes ──
-module _ (was is : Numbers) (count : ℕ) (cells : List (List (List ℕ))) (a : List ℕ) where
-  abbrev own : List ℕ → List ℕ
-  own l = placed store_bytes 6 (tail_bytes is.top is.heard is.whole) l
-
-  pub rewrite_all : (is.n ≡ was.n → ⊥) → (x y z : List ℕ) → x ≡ placed 4 4 (big 4 is.n) a → y ≡ placed count_offset 20001 (rows_part count cells) x → z ≡ own y → z ≡ rewritten was is count cells a
-  unfolding rewritten
-  rewrite_all h x y z p q e =
-      by_test (λ (l : List ℕ). z ≡ l) (eqb is.n was.n) (λ b. absurd (h (eqb-true is.n was.n b))) (λ _. e ∙ ap own (q ∙ ap (placed count_offset 20001 (rows_part count cells)) p))
-
-  abbrev still : Bool
-  still = eqb is.top was.top && not (is.heard && not was.heard)
-
-  module _ (n : is.n ≡ was.n) where
-    pub rewrite_none : still ≡ true → a ≡ rewritten was is count cells a
-    unfolding rewritten
-    rewrite_none h =
-        by_test (λ (l : List ℕ). a ≡ l) (eqb is.n was.n) (λ _. by_test (λ (l : List ℕ). a ≡ l) still (λ _. refl) (λ b. absurd (clash still h b))) (λ b. absurd (eqb-false is.n was.n b n))
-
-    pub rewrite_own : still ≡ false → (z : List ℕ) → z ≡ own a → z ≡ rewritten was is count cells a
-    unfolding rewritten
-    rewrite_own h z e =
-        by_test (λ (l : List ℕ). z ≡ l) (eqb is.n was.n) (λ _. by_test (λ (l : List ℕ). z ≡ l) still (λ b. absurd (clash still b h)) (λ _. e)) (λ b. absurd (eqb-false is.n was.n b n))
-
 -- ── an area that is refused ──
 module _ (a x : List ℕ) where
   pub hear_other : (length a ≡ mirror_bytes → ⊥) → mirror_hear a x ≡ record { status = WrongLength; area = a }
   unfolding mirror_hear
   hear_other h = by_test (λ (z : Arrived). z ≡ record { status = WrongLength; area = a }) (eqb (length a) mirror_bytes) (λ e. absurd (h (eqb-true (length a) mirror_bytes e))) (λ e. refl)
 
-  pub hear_bad : length a ≡ mirror_bytes → mirror_of a ≡ none → mirror_hear a x ≡ record { status = Disordered; area = a }
+  pub hear_bad : length a ≡ mirror_bytes → mirror_of a ≡ None → mirror_hear a x ≡ record { status = Disordered; area = a }
   unfolding mirror_hear
   hear_bad h n = by_test (λ (z : Arrived). z ≡ record { status = Disordered; area = a }) (eqb (length a) mirror_bytes) (λ e. ap (hear_on a x) n) (λ e. absurd (eqb-false (length a) mirror_bytes e h))

@@ -1,8 +1,8 @@
 -- What is found in a mirror's area, by the tests that the code makes of it. Assumes nothing.
+use Rattle.std.specs.Prelude.{Some, None}
 use mathlib.Core.Path.{◌≡◌, refl, sym, ap, subst, ◌∙◌}
 use mathlib.Core.Bool.{Bool, true, false, ◌&&◌}
 use mathlib.Core.List.{List, map}
-use mathlib.Core.Option.{none, some}
 use Prim.Native.Nat.{ℕ}
 use native.Mathlib.Omega.{arith}
 use lib.ListN.{length, drop}
@@ -24,10 +24,10 @@ use Rattle.mirror.specs.Held.{Held, Opened}
 
 -- ── by what was found ──
 module _ {a : List ℕ} {schema : List (List ℕ)} {cells : List (List (List ℕ))} {r : Bool} (o : Opened a schema cells r) where
-  pub state_bad : r ≡ false → mirror_of a ≡ none
+  pub state_bad : r ≡ false → mirror_of a ≡ None
   state_bad e = o.state ∙ ap (λ (b : Bool). when b (decode_mirror a)) e
 
-  pub state_good : r ≡ true → mirror_of a ≡ some (decode_mirror a)
+  pub state_good : r ≡ true → mirror_of a ≡ Some (decode_mirror a)
   state_good e = o.state ∙ ap (λ (b : Bool). when b (decode_mirror a)) e
 
 -- its rows are in order, by how many the code says they are

@@ -1,8 +1,8 @@
 -- A mirror that starts. Assumes nothing.
+use Rattle.std.specs.Prelude.{Some, None}
 use mathlib.Core.Path.{◌≡◌, refl, sym, ap, ◌∙◌}
 use mathlib.Core.Bool.{true, false}
 use mathlib.Core.List.{List, ◌++◌}
-use mathlib.Core.Option.{none, some}
 use Prim.Native.Nat.{ℕ, ◌<◌}
 use native.Mathlib.Omega.{arith}
 use borrow.Author.Tests.{eqb-true, eqb-false}
@@ -27,13 +27,13 @@ module _ (a schema : List ℕ) (run : ℕ) where
   start_other h = by_test (λ (z : Started). z ≡ record { status = WrongLength; area = a }) (eqb (length a) mirror_bytes) (λ e. absurd (h (eqb-true (length a) mirror_bytes e))) (λ e. refl)
 
   module _ (size : length a ≡ mirror_bytes) where
-    pub start_refused : read_schema schema ≡ none → mirror_start a schema run ≡ record { status = BadSchema; area = a }
+    pub start_refused : read_schema schema ≡ None → mirror_start a schema run ≡ record { status = BadSchema; area = a }
     unfolding mirror_start
     start_refused h =
         by_test (λ (z : Started). z ≡ record { status = BadSchema; area = a }) (eqb (length a) mirror_bytes) (λ e. rw h) (λ e. absurd (eqb-false (length a) mirror_bytes e size))
 
     -- the store's part with no rows written, and then the mirror's own bytes
-    pub start_is : (cells : List (List (List ℕ))) (d : Database) (x y : List ℕ) → read_schema schema ≡ some d → run < 4294967296 → x ≡ encode_store (store_in d run 0 0 cells) ++ drop store_bytes a → y ≡ placed store_bytes 6 (tail_bytes 0 false true) x
+    pub start_is : (cells : List (List (List ℕ))) (d : Database) (x y : List ℕ) → read_schema schema ≡ Some d → run < 4294967296 → x ≡ encode_store (store_in d run 0 0 cells) ++ drop store_bytes a → y ≡ placed store_bytes 6 (tail_bytes 0 false true) x
         → mirror_start a schema run ≡ record { status = Accepted; area = y }
     unfolding mirror_start encode_mirror store_in working tail_bytes
     start_is cells d x y h u p q =

@@ -37,31 +37,27 @@ fn opened(area: &[u8], schema: &mut Catalog, rows: &mut [Row]) -> bool
     ensures { Opened area.now schema.new rows.new result }
 {
     area::read_catalog(area, &mut schema[..]);
-    if !catalog::rules::is_accepted(schema) {
-        return false;
-    }
-    if !area::part_good(area, schema, rows) {
-        return false;
-    }
-    area::mirror_part(area)
+    catalog::rules::is_accepted(schema)
+        && area::part_good(area, schema, rows)
+        && area::mirror_part(area)
 }
 
 // A mirror's numbers, where they lie in its area.
+#[tactic(auto, unfolding(crate::specs::Held::numbers_in))]
 fn numbers_of(area: &[u8]) -> Numbers
     requires { mirror_bytes ≤ length area.now }
     ensures { result ≡ numbers_in area.now }
 {
-    let n = area::number_of(area);
-    let top = area::top_of(area);
     Numbers {
-        n,
-        top,
+        n: area::number_of(area),
+        top: area::top_of(area),
         heard: area[HEARD_OFFSET] == 1,
         whole: area[WHOLE_OFFSET] == 1,
     }
 }
 
 // What an arrival changed, written to the area.
+#[tactic(auto, unfolding(crate::specs::Held::rewritten))]
 fn rewrite(area: &mut [u8], was: Numbers, is: Numbers, rows: &[Row], count: usize)
     requires { (mirror_bytes ≤ length area.old) × (count ≤ most_rows) × (most_rows ≤ length rows.now) }
     ensures { area.new ≡ rewritten was is count rows.now area.old }
@@ -70,12 +66,9 @@ fn rewrite(area: &mut [u8], was: Numbers, is: Numbers, rows: &[Row], count: usiz
         area::write_number(area, is.n);
         area::write_rows(area, rows, count);
         area::write_tail(area, is.top, is.heard, is.whole);
-        return;
+    } else if is.top != was.top || is.heard && !was.heard {
+        area::write_tail(area, is.top, is.heard, is.whole);
     }
-    if (is.top == was.top) & !(is.heard & !was.heard) {
-        return;
-    }
-    area::write_tail(area, is.top, is.heard, is.whole);
 }
 
 // A new mirror of a schema and a run: no rows, and nothing heard.
@@ -193,7 +186,7 @@ pub fn column(area: &[u8], table: u8, id: &[u8; ID], column: u8, out: &mut [u8])
     ensures result_value { number_of result ≡ column_number area.now out.old }
     ensures out_value { mirror_column area.now table id.now column out.old ≡ record { status = result; out = out.new } }
 {
-    if (out.len() != VALUE_BYTES) | (area.len() != MIRROR_BYTES) {
+    if out.len() != VALUE_BYTES || area.len() != MIRROR_BYTES {
         return no_contents(out, Status::WrongLength);
     }
     let mut schema = [[0u8; ENTRY]; ENTRIES];

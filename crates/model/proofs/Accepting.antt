@@ -1,8 +1,8 @@
 -- What an accepted call leaves, and demand 1 of every call. Assumes nothing.
+use Rattle.std.specs.Prelude.{Option, Some, None}
 use mathlib.Core.Path.{◌≡◌, refl, sym, ◌∙◌, ap, subst}
 use mathlib.Core.Bool.{Bool, true, false, not, ◌&&◌}
 use mathlib.Core.List.{List, [], ◌∷◌, ◌++◌, map, append-nil}
-use mathlib.Core.Option.{Option, none, some}
 use Prim.Native.Nat.{ℕ, ◌+◌, ◌-◌, ◌≤◌}
 use native.Mathlib.Omega.{arith}
 use borrow.Author.Tests.{leb-true, eqb-true}
@@ -42,7 +42,7 @@ use Rattle.model.proofs.Replied.{reply_as, replied_laid, replied_diff, transact_
 use Rattle.model.proofs.StoreCalls.{filled_is, transact_there}
 
 -- ── a store in good order ──
-module _ (area : List ℕ) (st : Store) (here : store_of area ≡ some st) where
+module _ (area : List ℕ) (st : Store) (here : store_of area ≡ Some st) where
   pub fine_at : StoreFine st
   fine_at = store_parts st (store_of_is area st here).1
 
@@ -92,15 +92,15 @@ module _ (number : ℕ) (room : ℕ) (few : number ≤ last_number) where
   reply_room d rows request fresh = go (read_request request)
     where
       go : (o : Option Request) → Room number room (reply_to d number rows (fresh_ids fresh) room o)
-      go none = no_more BadRequest rows
-      go (some q) = split (eq_bytes q.name d.name)
+      go None = no_more BadRequest rows
+      go (Some q) = split (eq_bytes q.name d.name)
           (λ e. split (ids_good (fresh_ids fresh) rows)
           (λ f. rw (named, e, freshly, f) (concluded_room d.tables rows (transact_rows d.tables (fresh_ids fresh) rows q.operations)))
           (λ f. rw (named, e, freshly, f) (no_more BadFreshIds rows)))
           (λ e. rw (named, e) (no_more OtherDatabase rows))
 
 -- the store after a reply is in good order
-pub after_good : (area : List ℕ) (st : Store) → store_of area ≡ some st → (request fresh : List ℕ) (room : ℕ) → length fresh ≡ fresh_bytes → all octet fresh ≡ true
+pub after_good : (area : List ℕ) (st : Store) → store_of area ≡ Some st → (request fresh : List ℕ) (room : ℕ) → length fresh ≡ fresh_bytes → all octet fresh ≡ true
     → store_good (store_after st (reply_of st request fresh room)) ≡ true
 after_good area st here request fresh room l b =
     let f = fine_at area st here in
@@ -110,9 +110,9 @@ after_good area st here request fresh room l b =
     (record { accepted = f.accepted; run = f.run; number = omega (arith, n.last); rows = o.good; meets = o.meet; lawful = o.laws })
 
 -- ── what a transact leaves that is not refused ──
-there_is : (o : Option Store) → is_some o ≡ true → o ≡ some (store_or o)
-there_is none h = absurd (clash false h refl)
-there_is (some st) h = refl
+there_is : (o : Option Store) → is_some o ≡ true → o ≡ Some (store_or o)
+there_is None h = absurd (clash false h refl)
+there_is (Some st) h = refl
 
 module _ (area request fresh records text : List ℕ) where
   abbrev st : Store
@@ -122,7 +122,7 @@ module _ (area request fresh records text : List ℕ) where
   r = reply_of st request fresh (length text)
 
   pub record Given : Type 0 where
-    pub here : store_of area ≡ some st
+    pub here : store_of area ≡ Some st
     pub sized : length fresh ≡ fresh_bytes
     pub wide : least_records ≤ length records
     pub rows : r.rows ≡ rows_laid area request fresh
@@ -135,7 +135,7 @@ module _ (area request fresh records text : List ℕ) where
   abbrev lengths : List Bool
   lengths = eqb (length area) store_bytes ∷ eqb (length fresh) fresh_bytes ∷ leb least_records (length records) ∷ leb least_answer (length text) ∷ []
 
-  given_of : lengths_good area fresh records text ≡ true → store_of area ≡ some st → is_refusal r.status ≡ false → Given
+  given_of : lengths_good area fresh records text ≡ true → store_of area ≡ Some st → is_refusal r.status ≡ false → Given
   given_of h here a =
       let p = parts lengths h in
       let laid = replied_laid (reply_as st.database st.number st.rows request fresh (length text)) a in
@@ -169,8 +169,8 @@ module _ (area request fresh records text : List ℕ) where
       answer_there x y = split (is_refusal y.status) (λ e. rw (transact_replied, e)) (λ e. rw (transact_replied, e))
 
       gone : lengths_good area fresh records text ≡ true → (o : Option Store) → store_of area ≡ o → is_some o ≡ false → is_refusal (store_transact area request fresh records text).status ≡ true
-      gone h none e s = rw (store_transact, h, e)
-      gone h (some x) e s = absurd (clash true refl s)
+      gone h None e s = rw (store_transact, h, e)
+      gone h (Some x) e s = absurd (clash true refl s)
 
   -- records and answer fit, and zeros follow them
   pub records_fit_laid : (g : Given) → all octet fresh ≡ true → length (records_laid area request fresh) ≤ length records
@@ -200,8 +200,8 @@ mark_accepted area out = split (every (eqb (length area) store_bytes ∷ leb lea
   where
     go : Trues (eqb (length area) store_bytes ∷ leb least_mark (length out) ∷ []) → (o : Option Store) → is_refusal (mark_on out o).status ≡ false
         → (9 ≤ length out) × ((mark_on out o).mark ≡ encode (mark (store_or o).run (store_or o).number) ++ replicate (length out - 9) 0)
-    go p none h = absurd (clash true refl h)
-    go p (some st) h = let l = leb-true least_mark (length out) p.1.0 in (l, filled_is (length out) (encode (mark st.run st.number)) l)
+    go p None h = absurd (clash true refl h)
+    go p (Some st) h = let l = leb-true least_mark (length out) p.1.0 in (l, filled_is (length out) (encode (mark st.run st.number)) l)
 
 pub mark_ends : (area out : List ℕ) → MarkEnds area out
 mark_ends area out = record {
@@ -224,7 +224,7 @@ module _ {A : Type 0} (area : List ℕ) (refuse : Status → A) (ask : Mirror �
       (λ e. rw (asked, e) (λ h. p WrongLength))
 
   -- and one that is not refused is asked of the mirror that the area holds
-  asked_accepted : (P : Mirror → A → Type 0) (answer : A → Status) → ((a : Status) → answer (refuse a) ≡ a) → ((m : MirrorState) → mirror_of area ≡ some m → P m.mirror (ask m.mirror))
+  asked_accepted : (P : Mirror → A → Type 0) (answer : A → Status) → ((a : Status) → answer (refuse a) ≡ a) → ((m : MirrorState) → mirror_of area ≡ Some m → P m.mirror (ask m.mirror))
       → is_refusal (answer (asked area refuse ask)) ≡ false → P (mirror_or (mirror_of area)).mirror (asked area refuse ask)
   asked_accepted P answer q p = split (eqb (length area) mirror_bytes)
       (λ e. look (mirror_of area) (λ o. rw (asked, e, o) (λ h. absurd (clash (is_refusal (answer (refuse Disordered))) (rw (q Disordered)) h))) (λ m o. rw (asked, e, o) (λ h. p m o)))

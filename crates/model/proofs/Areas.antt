@@ -1,8 +1,8 @@
 -- Areas: what is encoded is decoded, in its length; an area in good order is the encoding of its state, and the encoding of a state in good order is that area. Assumes nothing.
+use Rattle.std.specs.Prelude.{Some, None}
 use mathlib.Core.Path.{◌≡◌, refl, sym, ◌∙◌, ap}
 use mathlib.Core.Bool.{Bool, true, false, ◌&&◌}
 use mathlib.Core.List.{List, [], ◌∷◌, ◌++◌, map, append_assoc, append-nil}
-use mathlib.Core.Option.{none, some}
 use Prim.Native.Nat.{ℕ, ◌+◌, ◌-◌, ◌*◌, ◌^◌, ◌≤◌, ◌<◌}
 use native.Mathlib.Omega.{arith}
 use borrow.Author.Tests.{eq-eqb, ltb-true}
@@ -226,17 +226,17 @@ module _ (m : MirrorState) (f : Fits (store_part m)) where
 -- ── good order ──
 -- a state that an area gives back, where a test of it passes, is the area's state
 module _ {S : Type 0} (encode : S → List ℕ) (decode : List ℕ → S) (good : S → Bool) where
-  state_some : (s : S) → decode (encode s) ≡ s → good s ≡ true → state_of encode decode good (encode s) ≡ some s
-  state_some s e g = rw (e, bytes_self (encode s), g, state_of) (ap some e)
+  state_some : (s : S) → decode (encode s) ≡ s → good s ≡ true → state_of encode decode good (encode s) ≡ Some s
+  state_some s e g = rw (e, bytes_self (encode s), g, state_of) (ap Some e)
 
-  state_is : (a : List ℕ) (s : S) → state_of encode decode good a ≡ some s → (encode s ≡ a) × (good s ≡ true)
+  state_is : (a : List ℕ) (s : S) → state_of encode decode good a ≡ Some s → (encode s ≡ a) × (good s ≡ true)
   state_is a s h = split (eq_bytes (encode (decode a)) a && good (decode a))
       (λ q.
       let p : decode a ≡ s = cc in
       (rw (← p) (bytes_same (encode (decode a)) a (and_l (eq_bytes (encode (decode a)) a) (good (decode a)) q)), rw (← p) (and_r (eq_bytes (encode (decode a)) a) (good (decode a)) q)))
       (λ q. absurd (none_some s (rw (q, state_of) at h)))
     where
-      none_some : (x : S) → none ≡ some x → ⊥
+      none_some : (x : S) → None ≡ Some x → ⊥
       none_some x e = let z : ◌≡◌ {A = ℕ} 0 1 = cc in omega arith
 
 good_fits : (st : Store) → store_good st ≡ true → Fits st
@@ -247,16 +247,16 @@ good_fits st h =
     (meets_pass st.database.tables st.rows (and_r (every (head_tests st)) (rows_pass meets st.database.tables st.rows) p))
 
 -- the encoding of a store in good order is in good order, and is that store's area
-pub store_of_encode : (st : Store) → store_good st ≡ true → store_of (encode_store st) ≡ some st
+pub store_of_encode : (st : Store) → store_good st ≡ true → store_of (encode_store st) ≡ Some st
 unfolding store_of
 store_of_encode st h = state_some encode_store decode_store store_good st (ap decode_store (sym (append-nil (encode_store st))) ∙ store_read st (good_fits st h) []) h
 
 -- an area in good order is the encoding of its store
-pub store_of_is : (a : List ℕ) (st : Store) → store_of a ≡ some st → (encode_store st ≡ a) × (store_good st ≡ true)
+pub store_of_is : (a : List ℕ) (st : Store) → store_of a ≡ Some st → (encode_store st ≡ a) × (store_good st ≡ true)
 unfolding store_of
 store_of_is a st h = state_is encode_store decode_store store_good a st h
 
-pub store_of_length : (a : List ℕ) (st : Store) → store_of a ≡ some st → length a ≡ store_bytes
+pub store_of_length : (a : List ℕ) (st : Store) → store_of a ≡ Some st → length a ≡ store_bytes
 store_of_length a st h = let p = store_of_is a st h in ap length (sym p.0) ∙ store_length st (good_fits st p.1)
 
 module _ (m : MirrorState) (h : mirror_good m ≡ true) where
@@ -275,13 +275,13 @@ module _ (m : MirrorState) (h : mirror_good m ≡ true) where
       ltb-true m.mirror.top (256 ^ 4)
       (parts (mirror_tests m.mirror) (and_r (every (head_tests (store_part m)) && rows_pass canonical_for m.database.tables m.mirror.rows) (every (mirror_tests m.mirror)) h)).0
 
-  pub mirror_of_encode : mirror_of (encode_mirror m) ≡ some m
+  pub mirror_of_encode : mirror_of (encode_mirror m) ≡ Some m
   unfolding mirror_of
   mirror_of_encode = state_some encode_mirror decode_mirror mirror_good m (mirror_read m mirror_fits mirror_top) h
 
-pub mirror_of_is : (a : List ℕ) (m : MirrorState) → mirror_of a ≡ some m → (encode_mirror m ≡ a) × (mirror_good m ≡ true)
+pub mirror_of_is : (a : List ℕ) (m : MirrorState) → mirror_of a ≡ Some m → (encode_mirror m ≡ a) × (mirror_good m ≡ true)
 unfolding mirror_of
 mirror_of_is a m h = state_is encode_mirror decode_mirror mirror_good a m h
 
-pub mirror_of_length : (a : List ℕ) (m : MirrorState) → mirror_of a ≡ some m → length a ≡ mirror_bytes
+pub mirror_of_length : (a : List ℕ) (m : MirrorState) → mirror_of a ≡ Some m → length a ≡ mirror_bytes
 mirror_of_length a m h = let p = mirror_of_is a m h in ap length (sym p.0) ∙ mirror_length m (mirror_fits m p.1)

@@ -1,8 +1,8 @@
 -- A mirror and a list of arrivals, against a history's records. Assumes nothing.
+use Rattle.std.specs.Prelude.{Option, Some, None}
 use mathlib.Core.Path.{◌≡◌, refl}
 use mathlib.Core.Bool.{true, false, not, ◌&&◌, ◌||◌}
 use mathlib.Core.List.{List, [], ◌∷◌}
-use mathlib.Core.Option.{Option, none, some}
 use Prim.Native.Nat.{ℕ, zero, suc, ◌≤◌, ◌<◌, max}
 use native.Mathlib.Omega.{arith}
 use borrow.Author.Tests.{leb-true, leb-false, eqb-true, eqb-false}
@@ -36,19 +36,19 @@ sound_fits s end h = tt
 
 -- the mirror's choice, by its cases
 pub data Said (s : Schema) (run : ℕ) (m : Mirror) : Option Record → Step → Type 0 where
-  unread : Said s run m none (record { status = BadRecord; next = m })
-  strange_mark : (u k : ℕ) → eqb u run ≡ false → Said s run m (some (mark u k)) (record { status = OtherRun; next = m })
-  marked : (u k : ℕ) → u ≡ run → Said s run m (some (mark u k)) (record { status = Heard; next = hears m k })
-  unfit : (u k : ℕ) (e : Change) → bad s m k e ≡ true → Said s run m (some (numbered u k e)) (record { status = BadRecord; next = m })
-  strange : (u k : ℕ) (e : Change) → eqb u run ≡ false → Said s run m (some (numbered u k e)) (record { status = OtherRun; next = m })
-  again : (u k : ℕ) (e : Change) → u ≡ run → 0 < k → k ≤ m.n → Said s run m (some (numbered u k e)) (record { status = Repeat; next = m })
-  next : (u k : ℕ) (e : Change) → bad s m k e ≡ false → u ≡ run → k ≡ suc m.n → Said s run m (some (numbered u k e)) (record { status = Applied; next = applies s m e })
-  early : (u k : ℕ) (e : Change) → u ≡ run → suc m.n < k → Said s run m (some (numbered u k e)) (record { status = Behind; next = hears m k })
+  unread : Said s run m None (record { status = BadRecord; next = m })
+  strange_mark : (u k : ℕ) → eqb u run ≡ false → Said s run m (Some (mark u k)) (record { status = OtherRun; next = m })
+  marked : (u k : ℕ) → u ≡ run → Said s run m (Some (mark u k)) (record { status = Heard; next = hears m k })
+  unfit : (u k : ℕ) (e : Change) → bad s m k e ≡ true → Said s run m (Some (numbered u k e)) (record { status = BadRecord; next = m })
+  strange : (u k : ℕ) (e : Change) → eqb u run ≡ false → Said s run m (Some (numbered u k e)) (record { status = OtherRun; next = m })
+  again : (u k : ℕ) (e : Change) → u ≡ run → 0 < k → k ≤ m.n → Said s run m (Some (numbered u k e)) (record { status = Repeat; next = m })
+  next : (u k : ℕ) (e : Change) → bad s m k e ≡ false → u ≡ run → k ≡ suc m.n → Said s run m (Some (numbered u k e)) (record { status = Applied; next = applies s m e })
+  early : (u k : ℕ) (e : Change) → u ≡ run → suc m.n < k → Said s run m (Some (numbered u k e)) (record { status = Behind; next = hears m k })
 
 pub said : (s : Schema) (run : ℕ) (m : Mirror) (o : Option Record) → Said s run m o (on_read s run m o)
-said s run m none = unread
-said s run m (some (mark u k)) = split (eqb u run) (λ p. rw p (marked u k (eqb-true u run p))) (λ p. rw p (strange_mark u k p))
-said s run m (some (numbered u k e)) = split (bad s m k e) (λ p. rw p (unfit u k e p))
+said s run m None = unread
+said s run m (Some (mark u k)) = split (eqb u run) (λ p. rw p (marked u k (eqb-true u run p))) (λ p. rw p (strange_mark u k p))
+said s run m (Some (numbered u k e)) = split (bad s m k e) (λ p. rw p (unfit u k e p))
     (λ p. split (eqb u run)
     (λ q. split (leb k m.n)
     (λ x.
@@ -101,7 +101,7 @@ module _ (s : Schema) (run : ℕ) (es : List Change) (final : List Row) (chain :
   held_hears : {m : Mirror} (k : ℕ) → Held m → Held (hears m k)
   held_hears {m} k h = record { within = h.within; made = h.made; ends = h.ends; topped = omega (arith, h.topped); loud = λ _. refl }
 
-  pub held_said : {m : Mirror} {l : Record} {x : Step} → Held m → Tells run es l → Said s run m (some l) x → Held x.next × (is_refusal x.status ≡ false)
+  pub held_said : {m : Mirror} {l : Record} {x : Step} → Held m → Tells run es l → Said s run m (Some l) x → Held x.next × (is_refusal x.status ≡ false)
   held_said h t (strange_mark u k p) = absurd (eqb-false u run p t.0)
   held_said h t (marked u k r) = (held_hears k h, refl)
   held_said {m} h t (unfit u k e p) = absurd (clash (bad s m k e) p (rw (t.1.2, t.1.3) (fit m h t.1.0 t.1.1)))
@@ -123,10 +123,10 @@ module _ (s : Schema) (run : ℕ) (es : List Change) (final : List Row) (chain :
   held_said h t (early u k e r p) = (held_hears k h, refl)
 
   -- record n+1 moves n by one
-  pub moves_said : {m : Mirror} {e : Change} {x : Step} → Held m → m.n < length es → e ≡ get_or es m.n end → Said s run m (some (numbered run (suc m.n) e)) x → (x.status ≡ Applied) × (x.next.n ≡ suc m.n)
+  pub moves_said : {m : Mirror} {e : Change} {x : Step} → Held m → m.n < length es → e ≡ get_or es m.n end → Said s run m (Some (numbered run (suc m.n) e)) x → (x.status ≡ Applied) × (x.next.n ≡ suc m.n)
   moves_said {m} {e} h l q v = go v refl
     where
-      go : {k : ℕ} {x : Step} → Said s run m (some (numbered run k e)) x → k ≡ suc m.n → (x.status ≡ Applied) × (x.next.n ≡ suc m.n)
+      go : {k : ℕ} {x : Step} → Said s run m (Some (numbered run k e)) x → k ≡ suc m.n → (x.status ≡ Applied) × (x.next.n ≡ suc m.n)
       go (unfit u k e p) z = absurd (clash (bad s m k e) p (rw (z, q) (fit m h m.n l)))
       go (strange u k e p) z = absurd (eqb-false u run p refl)
       go (again u k e r a b) z = absurd (omega arith)

@@ -1,8 +1,8 @@
 -- What is written is read: values, records and marks, and a buffer of them. Assumes nothing.
+use Rattle.std.specs.Prelude.{Some}
 use mathlib.Core.Path.{◌≡◌, refl, sym, ◌∙◌, ap}
 use mathlib.Core.Bool.{Bool, true, false}
 use mathlib.Core.List.{List, [], ◌∷◌, ◌++◌, map, append_assoc, append-nil}
-use mathlib.Core.Option.{some}
 use Prim.Native.Nat.{ℕ, zero, suc, ◌*◌, ◌^◌, ◌≤◌, ◌<◌}
 use native.Mathlib.Nat.{add_comm, mul-suc, mul-zero}
 use native.Mathlib.Omega.{arith}
@@ -83,17 +83,17 @@ abbrev pub AllWide : List Record → Type 0
 AllWide [] = Unit
 AllWide (r ∷ rs) = Wide r × AllWide rs
 
-decode_numbered : (u n : ℕ) (e : Change) → u < 256 ^ 4 → n < 256 ^ 4 → Fits e → decode (encode (numbered u n e)) ≡ some (numbered u n e)
-decode_numbered u n (born t i) hu hn hi = λ j. some (numbered (value_big_fits 4 u hu j) (value_big_fits 4 n hn j) (born t (value_big_fits 16 i hi j)))
-decode_numbered u n (gone t i) hu hn hi = λ j. some (numbered (value_big_fits 4 u hu j) (value_big_fits 4 n hn j) (gone t (value_big_fits 16 i hi j)))
+decode_numbered : (u n : ℕ) (e : Change) → u < 256 ^ 4 → n < 256 ^ 4 → Fits e → decode (encode (numbered u n e)) ≡ Some (numbered u n e)
+decode_numbered u n (born t i) hu hn hi = λ j. Some (numbered (value_big_fits 4 u hu j) (value_big_fits 4 n hn j) (born t (value_big_fits 16 i hi j)))
+decode_numbered u n (gone t i) hu hn hi = λ j. Some (numbered (value_big_fits 4 u hu j) (value_big_fits 4 n hn j) (gone t (value_big_fits 16 i hi j)))
 decode_numbered u n (column t i c v) hu hn hi =
     let e : length (flat v.atoms) ≡ 100 = omega (arith, length_value v hi.1) in
-    rw e (λ j. some (numbered (value_big_fits 4 u hu j) (value_big_fits 4 n hn j) (column t (value_big_fits 16 i hi.0 j) c (value_read v hi.1 j))))
-decode_numbered u n end hu hn hi = λ j. some (numbered (value_big_fits 4 u hu j) (value_big_fits 4 n hn j) end)
+    rw e (λ j. Some (numbered (value_big_fits 4 u hu j) (value_big_fits 4 n hn j) (column t (value_big_fits 16 i hi.0 j) c (value_read v hi.1 j))))
+decode_numbered u n end hu hn hi = λ j. Some (numbered (value_big_fits 4 u hu j) (value_big_fits 4 n hn j) end)
 
-pub decode_encode : (r : Record) → Wide r → decode (encode r) ≡ some r
+pub decode_encode : (r : Record) → Wide r → decode (encode r) ≡ Some r
 decode_encode (numbered u n e) h = decode_numbered u n e h.0 h.1 h.2
-decode_encode (mark u n) h = λ j. some (mark (value_big_fits 4 u h.0 j) (value_big_fits 4 n h.1 j))
+decode_encode (mark u n) h = λ j. Some (mark (value_big_fits 4 u h.0 j) (value_big_fits 4 n h.1 j))
 
 -- ── a buffer of records ──
 module _ (k : ℕ) (b rest : List ℕ) (fuel : ℕ) where

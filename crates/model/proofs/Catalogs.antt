@@ -1,8 +1,8 @@
 -- A catalog is read back as the database that it was made of, in its length. Assumes nothing.
+use Rattle.std.specs.Prelude.{Option, Some, None}
 use mathlib.Core.Path.{◌≡◌, refl, sym, ◌∙◌, ap}
 use mathlib.Core.Bool.{Bool, true, false, ◌&&◌}
 use mathlib.Core.List.{List, [], ◌∷◌, ◌++◌, map, append_assoc, append-nil}
-use mathlib.Core.Option.{Option, none, some}
 use Prim.Native.Nat.{ℕ, zero, suc, ◌+◌, ◌-◌, ◌*◌, ◌≤◌}
 use native.Mathlib.Omega.{arith}
 use borrow.Author.Tests.{eq-eqb, leb-true}
@@ -153,9 +153,9 @@ slots_read (a ∷ b ∷ []) tail n h =
     λ j. first j ∷ second j ∷ []
 slots_read (a ∷ b ∷ c ∷ ls) tail n h = absurd (omega arith)
 
-max_rows_read : (m : Option ℕ) → max_rows_sane m ≡ true → elim (eqb (bit (is_some m)) 1) [ true ↦ some (value (big 8 (number_or0 m))) | false ↦ none ] ≡ m
-max_rows_read none h = refl
-max_rows_read (some k) h = ap some (value_big_fits 8 k (omega (arith, leb-true k 9223372036854775807 (and_r (leb 1 k) _ h))))
+max_rows_read : (m : Option ℕ) → max_rows_sane m ≡ true → elim (eqb (bit (is_some m)) 1) [ true ↦ Some (value (big 8 (number_or0 m))) | false ↦ None ] ≡ m
+max_rows_read None h = refl
+max_rows_read (Some k) h = ap Some (value_big_fits 8 k (omega (arith, leb-true k 9223372036854775807 (and_r (leb 1 k) _ h))))
 
 index_few : (n : ℕ) (l : List ℕ) → sane_index n l ≡ true → few_columns l ≡ true
 unfolding sane_index few_columns
@@ -216,7 +216,7 @@ module _ (n : ℕ) (t : Table) (h : sane_table n t ≡ true) where
         name = name_read t.name t_short t_rest j;
         columns = ((λ i. map column_from (take (b 0 i) cs)) ∙ e) j;
         root = (ap (λ (k : ℕ). eqb k 1) (b 1) ∙ bit_read t.root) j;
-        max_rows = ((λ i. elim (eqb (b 2 i) 1) [ true ↦ some (value (take 8 (d 3 i))) | false ↦ none ]) ∙ max_rows_read t.max_rows p.1.1.1.1.1.1.0) j;
+        max_rows = ((λ i. elim (eqb (b 2 i) 1) [ true ↦ Some (value (take 8 (d 3 i))) | false ↦ None ]) ∙ max_rows_read t.max_rows p.1.1.1.1.1.1.0) j;
         indexes = ((λ i. take (b 11 i) (take (b 12 i) (d 13 i) ∷ take (b 16 i) (d 17 i) ∷ [])) ∙ slots_read t.indexes (replicate 3 0) t_indexes t_few) j;
       }
 

@@ -1,8 +1,8 @@
 -- Records that each fit the rows they meet, from rows to rows. Assumes nothing.
+use Rattle.std.specs.Prelude.{Some, None}
 use mathlib.Core.Path.{◌≡◌, refl}
 use mathlib.Core.Bool.{Bool, true, false}
 use mathlib.Core.List.{List, [], ◌∷◌, ◌++◌, map}
-use mathlib.Core.Option.{none, some}
 use Prim.Native.Nat.{ℕ, zero, suc, ◌≤◌, ◌<◌}
 use native.Mathlib.Omega.{arith}
 use borrow.Author.Tests.{lt-ltb}
@@ -88,8 +88,8 @@ initial_alike (c ∷ cs) (w ∷ ws) k = initial_alike cs ws k.1
 -- the walk. Pend before p rest: of the rows `rest` that are still to be written, p are those that stand, as they were before
 pub data Pend (before : List Row) : List Row → List Row → Type 0 where
   done : Pend before [] []
-  same : {x r : Row} {p rest : List Row} → find (key r) before ≡ some x → x.table ≡ r.table → x.id ≡ r.id → Alike x.columns r.columns → Pend before p rest → Pend before (x ∷ p) (r ∷ rest)
-  new : {r : Row} {p rest : List Row} → find (key r) before ≡ none → Pend before p rest → Pend before p (r ∷ rest)
+  same : {x r : Row} {p rest : List Row} → find (key r) before ≡ Some x → x.table ≡ r.table → x.id ≡ r.id → Alike x.columns r.columns → Pend before p rest → Pend before (x ∷ p) (r ∷ rest)
+  new : {r : Row} {p rest : List Row} → find (key r) before ≡ None → Pend before p rest → Pend before p (r ∷ rest)
 
 module _ {before : List Row} where
   pend_above : {p rest : List Row} (k : ℕ) → Pend before p rest → Above k rest → Above k p
@@ -128,7 +128,7 @@ pub walk_chain : (s : Schema) (before d : List Row) {p rest : List Row} → Pend
 walk_chain s before d done o u g m = refl
 walk_chain s before d (same {x = x} {r = r} {p = p} {rest = rest} e t i l h) o u g m =
     let ih : Chain s (walk s before rest) ((d ++ r ∷ []) ++ p) ((d ++ r ∷ []) ++ rest) = walk_chain s before (d ++ r ∷ []) h (rw (append_snoc d r rest) o) (rw (append_snoc d r rest) u) g.1 (rw (append_snoc d r rest) m) in
-    rw e (chain_append s (row_writes s (some x) r) (walk s before rest) (d ++ x ∷ p) (d ++ r ∷ p) (d ++ r ∷ rest)
+    rw e (chain_append s (row_writes s (Some x) r) (walk s before rest) (d ++ x ∷ p) (d ++ r ∷ p) (d ++ r ∷ rest)
     (rw (row_is) (writes_chain s same_value value_same r.table r.id g.0.here d p (below_at d r rest o) 0 [] x.columns r.columns refl l g.0.typed))
     (rw (append_snoc d r p, append_snoc d r rest) at ih))
   where

@@ -1,9 +1,9 @@
 -- Collection: what removing loose rows keeps, that it ends with none left, and that it takes no row that a closed part holds. Assumes nothing.
+use Rattle.std.specs.Prelude.{Option, Some, None}
 use mathlib.Core.Path.{◌≡◌, refl, sym, ◌∙◌, ap}
 use mathlib.Core.Bool.{Bool, true, false, not, ◌&&◌}
 use mathlib.Core.List.{List, [], ◌∷◌}
 use mathlib.Core.Logic.{inl, inr, ⊎_elim}
-use mathlib.Core.Option.{Option, none, some}
 use Prim.Native.Nat.{ℕ, zero, suc, ◌≤◌, ◌<◌}
 use native.Mathlib.Omega.{arith}
 use borrow.Author.Tests.{eq-eqb, ne_eqb, eqb-true, eqb-false, not-true}
@@ -122,20 +122,20 @@ module _ (s : Schema) where
   loose_free : (rows : List Row) (r : Row) → loose s rows r ≡ true → any (holds (key r)) rows ≡ false
   loose_free rows r h = not-true (any (holds (key r)) rows) (and_r (not (is_root s r.table)) (not (any (holds (key r)) rows)) h)
 
-  first_none : (rows l : List Row) → first_loose s rows l ≡ none → any (loose s rows) l ≡ false
+  first_none : (rows l : List Row) → first_loose s rows l ≡ None → any (loose s rows) l ≡ false
   first_none rows [] h = refl
   first_none rows (r ∷ l) h = split (loose s rows r) (λ e. absurd (no (rw (e, first_loose) at h))) (λ e. rw (e, first_none rows l (rw (e, first_loose) at h)))
     where
-      no : some (key r) ≡ none → ⊥
+      no : Some (key r) ≡ None → ⊥
       no p = let z : ◌≡◌ {A = ℕ} 0 1 = cc in omega arith
 
-  first_some : {P : Type 0} (rows l : List Row) (k : ℕ) → first_loose s rows l ≡ some k → ((r : Row) → In r l → loose s rows r ≡ true → k ≡ key r → P) → P
+  first_some : {P : Type 0} (rows l : List Row) (k : ℕ) → first_loose s rows l ≡ Some k → ((r : Row) → In r l → loose s rows r ≡ true → k ≡ key r → P) → P
   first_some rows [] k h f = absurd (no h)
     where
-      no : none ≡ some k → ⊥
+      no : None ≡ Some k → ⊥
       no p = let z : ◌≡◌ {A = ℕ} 0 1 = cc in omega arith
   first_some rows (r ∷ l) k h f = split (loose s rows r)
-      (λ e. let p : some (key r) ≡ some k = rw (e, first_loose) at h in f r (inl refl) e cc)
+      (λ e. let p : Some (key r) ≡ Some k = rw (e, first_loose) at h in f r (inl refl) e cc)
       (λ e. first_some rows l k (rw (e, first_loose) at h) (λ x i q p. f x (inr i) q p))
 
 -- ── "A row of a non-root table with no strong reference from a different row goes, and again until none is left", in whatever order ──
@@ -161,8 +161,8 @@ module _ (s : Schema) where
   collect_goes (suc n) rows h = go (λ l f. collect_goes n l f) (first_loose s rows rows) refl
     where
       go : ((l : List Row) → length l ≤ n → Goes s l (collect s n l)) → (o : Option ℕ) → first_loose s rows rows ≡ o → Goes s rows (collect s (suc n) rows)
-      go ih none e = rw (e, collect) (none_left (first_none s rows rows e))
-      go ih (some k) e = rw (e, collect) (first_some s rows rows k e (λ r i l q. rw q (one_goes r i l (ih (remove (key r) rows) (omega (arith, remove_fewer rows r i, h))))))
+      go ih None e = rw (e, collect) (none_left (first_none s rows rows e))
+      go ih (Some k) e = rw (e, collect) (first_some s rows rows k e (λ r i l q. rw q (one_goes r i l (ih (remove (key r) rows) (omega (arith, remove_fewer rows r i, h))))))
 
   -- and where no row is loose it changes nothing
   pub collect_none : (n : ℕ) (rows : List Row) → any (loose s rows) rows ≡ false → collect s n rows ≡ rows
@@ -170,8 +170,8 @@ module _ (s : Schema) where
   collect_none (suc n) rows h = go (first_loose s rows rows) refl
     where
       go : (o : Option ℕ) → first_loose s rows rows ≡ o → collect s (suc n) rows ≡ rows
-      go none e = rw (e, collect)
-      go (some k) e = first_some s rows rows k e (λ r i l q. absurd (clash (loose s rows r) l (none_in (loose s rows) rows r h i)))
+      go None e = rw (e, collect)
+      go (Some k) e = first_some s rows rows k e (λ r i l q. absurd (clash (loose s rows r) l (none_in (loose s rows) rows r h i)))
 
   -- ── what is kept ──
   pub goes_good : {rows rest : List Row} → Goes s rows rest → Good s rows → Good s rest

@@ -1,8 +1,8 @@
 -- Where commits end among the records of a history. Assumes nothing.
+use Rattle.std.specs.Prelude.{Option, Some, None}
 use mathlib.Core.Path.{◌≡◌, refl, ◌∙◌}
 use mathlib.Core.Bool.{Bool, true, false}
 use mathlib.Core.List.{List, [], ◌∷◌, ◌++◌}
-use mathlib.Core.Option.{Option, none, some}
 use Prim.Native.Nat.{ℕ, zero, suc, ◌+◌, ◌-◌, ◌≤◌, ◌<◌}
 use native.Mathlib.Omega.{arith}
 use borrow.Author.Tests.{ltb-true, ltb-false}
@@ -37,8 +37,8 @@ no_writes skip t i c (v ∷ vs) [] = tt
 no_writes skip t i c (v ∷ vs) (w ∷ ws) = split (skip v w) (λ e. rw e (no_writes skip t i (suc c) vs ws)) (λ e. rw e (refl, no_writes skip t i (suc c) vs ws))
 
 no_row : (s : Schema) (o : Option Row) (r : Row) → NoEnd (row_writes s o r)
-no_row s none r = (refl, no_writes never r.table r.id 0 (initials s r.table) r.columns)
-no_row s (some p) r = no_writes same_value r.table r.id 0 p.columns r.columns
+no_row s None r = (refl, no_writes never r.table r.id 0 (initials s r.table) r.columns)
+no_row s (Some p) r = no_writes same_value r.table r.id 0 p.columns r.columns
 
 no_walk : (s : Schema) (before rows : List Row) → NoEnd (walk s before rows)
 no_walk s before [] = tt

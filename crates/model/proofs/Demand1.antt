@@ -1,8 +1,8 @@
 -- Demand 1: every call ends with its answer or with the first refusal that applies, exactly when it applies; a refused call leaves its area and zeroes the rest. Assumes nothing.
+use Rattle.std.specs.Prelude.{Option, Some, None}
 use mathlib.Core.Path.{◌≡◌, refl, ◌∙◌, ap}
 use mathlib.Core.Bool.{Bool, true, false, not, ◌&&◌}
 use mathlib.Core.List.{List, [], ◌∷◌}
-use mathlib.Core.Option.{Option, none, some}
 use Prim.Native.Nat.{ℕ, suc, ◌+◌}
 use lib.Dec.{eqb, leb}
 use lib.ListN.{length}
@@ -32,9 +32,9 @@ use Rattle.model.proofs.Areas.{store_of_is}
 use Rattle.model.proofs.Laid.{laid_text, laid_changes}
 
 -- by what there is, with its equation
-pub look : {A P : Type 0} (o : Option A) → (o ≡ none → P) → ((a : A) → o ≡ some a → P) → P
-look none f g = f refl
-look (some a) f g = g a refl
+pub look : {A P : Type 0} (o : Option A) → (o ≡ None → P) → ((a : A) → o ≡ Some a → P) → P
+look None f g = f refl
+look (Some a) f g = g a refl
 
 -- the number of the first condition that applies, of those in a list that is in the paper's order
 abbrev first : ℕ → List Condition → ℕ
@@ -59,7 +59,7 @@ starts_refused bytes area schema made = split (eqb (length area) bytes)
     (λ e. rw (start_as, e) (λ h. refl))
 
 pub starts_accepted : (bytes : ℕ) (area schema : List ℕ) (made : Database → List ℕ) → is_refusal (start_as bytes area schema made).status ≡ false
-    → (d : Database) × (read_schema schema ≡ some d) × ((start_as bytes area schema made).area ≡ made d)
+    → (d : Database) × (read_schema schema ≡ Some d) × ((start_as bytes area schema made).area ≡ made d)
 starts_accepted bytes area schema made h = split (eqb (length area) bytes)
     (λ e. look (read_schema schema)
     (λ f. absurd (clash true refl (rw (start_as, e, f) at h)))
@@ -90,7 +90,7 @@ mirror_start_ends area schema run = (
 
 -- ── transact ──
 -- the schema of a store in good order keeps every rule
-pub holds_schema : (area : List ℕ) (st : Store) → store_of area ≡ some st → sane st.database ≡ true
+pub holds_schema : (area : List ℕ) (st : Store) → store_of area ≡ Some st → sane st.database ≡ true
 unfolding store_good
 holds_schema area st e =
     let g = (store_of_is area st e).1 in
@@ -138,8 +138,8 @@ reply_first d number rows request fresh room = go (read_request request)
         let t = transact_rows d.tables (fresh_ids fresh) rows q.operations in
         number_of (reply_to d number rows (fresh_ids fresh) room o).status
         ≡ first 0 (record { number = 4; applies = not (is_some o) } ∷ reply_conditions d number rows (fresh_ids fresh) room q t.text (changes_of d.tables rows t))
-    go none = refl
-    go (some q) = named_first d number rows (fresh_ids fresh) room q
+    go None = refl
+    go (Some q) = named_first d number rows (fresh_ids fresh) room q
 
 replied : (area records text : List ℕ) (st : Store) (r : Reply) → (transact_replied area records text st r).status ≡ r.status
 replied area records text st r = split (is_refusal r.status) (λ e. rw (transact_replied, e)) (λ e. rw (transact_replied, e))
@@ -161,8 +161,8 @@ on_first : (area request fresh records text : List ℕ) (o : Option Store) → s
     let d = st.database in
     let t = transact_rows d.tables (fresh_ids fresh) st.rows (request_or (read_request request)).operations in
     number_of (transact_on area request fresh records text o).status ≡ first 0 (store_conditions request fresh (length text) o t.text (changes_of d.tables st.rows t))
-on_first area request fresh records text none e = refl
-on_first area request fresh records text (some st) e =
+on_first area request fresh records text None e = refl
+on_first area request fresh records text (Some st) e =
     rw (holds_schema area st e) (ap number_of (replied area records text st (reply_of st request fresh (length text))) ∙ reply_first st.database st.number st.rows request fresh (length text))
 
 pub transact_first : (area request fresh records text : List ℕ)
@@ -191,8 +191,8 @@ transact_refused_lem area request fresh records text = split (lengths_good area 
         (λ e. rw (transact_replied, e) (λ h. absurd (clash (is_refusal r.status) h e)))
 
     go : (o : Option Store) → is_refusal (transact_on area request fresh records text o).status ≡ true → Untouched area records text (transact_on area request fresh records text o)
-    go none h = (refl, refl, refl)
-    go (some st) h = on st (reply_of st request fresh (length text)) h
+    go None h = (refl, refl, refl)
+    go (Some st) h = on st (reply_of st request fresh (length text)) h
 
 -- ── mark ──
 mark_as : Marked → ℕ
@@ -205,8 +205,8 @@ mark_first area out =
     (go (store_of area))
   where
     go : (o : Option Store) → number_of (mark_on out o).status ≡ first 0 (record { number = 1; applies = not (is_some o) } ∷ [])
-    go none = refl
-    go (some st) = refl
+    go None = refl
+    go (Some st) = refl
 
 pub mark_refused : (area out : List ℕ) → is_refusal (store_mark area out).status ≡ true → (store_mark area out).mark ≡ zeroed out
 unfolding store_mark
@@ -215,15 +215,15 @@ mark_refused area out = split (every (eqb (length area) store_bytes ∷ leb leas
     (λ e. rw (store_mark, e) (λ h. refl))
   where
     go : (o : Option Store) → is_refusal (mark_on out o).status ≡ true → (mark_on out o).mark ≡ zeroed out
-    go none h = refl
-    go (some st) h = absurd (clash false h refl)
+    go None h = refl
+    go (Some st) h = absurd (clash false h refl)
 
 -- ── arrivals ──
 pub step_first : (s : Schema) (run : ℕ) (m : Mirror) (o : Option Record)
     → number_of (on_read s run m o).status ≡ given (record_conditions s run m o) (heard_as m.n o)
-step_first s run m none = refl
-step_first s run m (some (mark u k)) = split (eqb u run) (λ e. rw e) (λ e. rw e)
-step_first s run m (some (numbered u k e)) = split (bad s m k e)
+step_first s run m None = refl
+step_first s run m (Some (mark u k)) = split (eqb u run) (λ e. rw e) (λ e. rw e)
+step_first s run m (Some (numbered u k e)) = split (bad s m k e)
     (λ p. rw p)
     (λ p. split (eqb u run)
     (λ q. split (leb k m.n) (λ x. rw (p, q, x)) (λ x. split (eqb k (suc m.n)) (λ y. rw (p, q, x, y)) (λ y. rw (p, q, x, y))))
@@ -245,8 +245,8 @@ hear_first area x =
         → let m = mirror_or o in
         number_of (hear_on area x o).status
         ≡ first (heard_as m.mirror.n (decode x)) (record { number = 1; applies = not (is_some o) } ∷ record_conditions m.database.tables m.run m.mirror (decode x))
-    go none = refl
-    go (some m) = ap number_of (heard_answer area m (step m.database.tables m.run m.mirror x)) ∙ step_first m.database.tables m.run m.mirror (decode x)
+    go None = refl
+    go (Some m) = ap number_of (heard_answer area m (step m.database.tables m.run m.mirror x)) ∙ step_first m.database.tables m.run m.mirror (decode x)
 
 pub hear_refused : (area x : List ℕ) → is_refusal (mirror_hear area x).status ≡ true → (mirror_hear area x).area ≡ area
 unfolding mirror_hear
@@ -260,8 +260,8 @@ hear_refused area x = split (eqb (length area) mirror_bytes)
         (λ e. rw (hear_step, e) (λ h. absurd (clash (is_refusal y.status) h e)))
 
     go : (o : Option MirrorState) → is_refusal (hear_on area x o).status ≡ true → (hear_on area x o).area ≡ area
-    go none h = refl
-    go (some m) h = on m (step m.database.tables m.run m.mirror x) h
+    go None h = refl
+    go (Some m) h = on m (step m.database.tables m.run m.mirror x) h
 
 pub hear_ends : (area x : List ℕ) → HearEnds area x
 hear_ends area x = record { first = hear_first area x; refused = λ h. (hear_refused area x h, tt); accepted = λ h. tt }

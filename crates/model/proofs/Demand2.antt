@@ -1,9 +1,9 @@
 -- Demand 2, of a transact on any bytes. Assumes nothing.
+use Rattle.std.specs.Prelude.{Option, Some}
 use mathlib.Core.Path.{◌≡◌, refl, sym, ◌∙◌, ap, subst}
 use mathlib.Core.Logic.{◌↔◌}
 use mathlib.Core.Bool.{Bool, true, false, not, ◌&&◌}
 use mathlib.Core.List.{List, [], ◌∷◌, map}
-use mathlib.Core.Option.{Option, some}
 use Prim.Native.Nat.{ℕ, suc, ◌+◌, ◌≤◌}
 use native.Mathlib.Nat.{add-zero}
 use native.Mathlib.Omega.{arith}
@@ -82,7 +82,7 @@ module _ (area request fresh records text : List ℕ) where
 
   module _ (b : all octet fresh ≡ true) (g : G) where
     -- the area after it is in good order, and holds the rows laid down
-    holds : store_of it.area ≡ some after
+    holds : store_of it.area ≡ Some after
     holds =
         let e : store_after st (reply_of st request fresh (length text)) ≡ after =
         (λ i. record { run = st.run; number = st.number + length (g.changes i); database = st.database; rows = g.rows i }) in

@@ -1,9 +1,9 @@
 -- Demand 3, proved: one claim about a whole history and a whole list of arrivals. Assumes nothing.
+use Rattle.std.specs.Prelude.{Some}
 use mathlib.Core.Path.{◌≡◌, refl, sym, ◌∙◌, ap}
 use mathlib.Core.Logic.{◌⊎◌, inl, inr}
 use mathlib.Core.Bool.{true, false, ◌&&◌, ◌||◌, or-true, or-false}
 use mathlib.Core.List.{List, [], ◌∷◌, Memᴰ}
-use mathlib.Core.Option.{some}
 use Prim.Native.Nat.{ℕ, zero, suc, ◌^◌, ◌≤◌, ◌<◌, max}
 use native.Mathlib.Nat.{zero-max}
 use native.Mathlib.Omega.{arith}
@@ -51,16 +51,16 @@ module _ (s : Schema) (run : ℕ) (short : run < 256 ^ 4) (calls : List Call) (k
   Holds m = Held s run R F chain m
 
   -- what is sent is read back as what the history wrote
-  tells : (l : Record) → Issued run 0 R l → Tells run R l × (decode (encode l) ≡ some l)
+  tells : (l : Record) → Issued run 0 R l → Tells run R l × (decode (encode l) ≡ Some l)
   tells l (tell_mark k h) = ((refl, omega arith), decode_encode (mark run k) (short, omega (arith, room)))
   tells l (tell j k e h p q) =
       let c : sound s e ≡ true = rw q (chain_at s R [] F chain j h).0 in
       ((refl, (j, h, omega arith, q)), decode_encode (numbered run k e) (short, omega (arith, room), sound_fits s e c))
 
   -- one arrival of what was sent
-  of_record : (m : Mirror) (l : Record) (x : List ℕ) → Holds m → x ≡ encode l → Tells run R l → decode (encode l) ≡ some l → Holds (step s run m x).next × (is_refusal (step s run m x).status ≡ false)
+  of_record : (m : Mirror) (l : Record) (x : List ℕ) → Holds m → x ≡ encode l → Tells run R l → decode (encode l) ≡ Some l → Holds (step s run m x).next × (is_refusal (step s run m x).status ≡ false)
   unfolding Holds
-  of_record m l x h p t d = rw (p, d) (held_said s run R F chain h t (said s run m (some l)))
+  of_record m l x h p t d = rw (p, d) (held_said s run R F chain h t (said s run m (Some l)))
 
   of_sent : (m : Mirror) (x : List ℕ) → Holds m → Memᴰ x sent → Holds (step s run m x).next × (is_refusal (step s run m x).status ≡ false)
   unfolding sent R
@@ -116,7 +116,7 @@ module _ (s : Schema) (run : ℕ) (short : run < 256 ^ 4) (calls : List Call) (k
     rows = h.made;
     moves = λ x l p.
         let d = decode_encode (numbered run (suc m.n) (get_or R m.n end)) (short, omega (arith, room), sound_fits s (get_or R m.n end) (chain_at s R [] F chain m.n l).0) in
-        rw (p, d) (moves_said s run R F chain h l refl (said s run m (some (numbered run (suc m.n) (get_or R m.n end)))));
+        rw (p, d) (moves_said s run R F chain h l refl (said s run m (Some (numbered run (suc m.n) (get_or R m.n end)))));
     refuses_none = λ x b. (of_sent m x h b).1;
     top = top;
     loud = heard;

@@ -1,8 +1,8 @@
 -- Demand 3 from bytes to bytes: one claim about a whole history of calls on a store's area and a whole list of arrivals at a mirror's. Assumes nothing.
+use Rattle.std.specs.Prelude.{Option, Some}
 use mathlib.Core.Path.{◌≡◌, refl, sym, ◌∙◌, ap, subst}
 use mathlib.Core.Bool.{true, false}
 use mathlib.Core.List.{List, [], ◌∷◌, map, Memᴰ}
-use mathlib.Core.Option.{Option, some}
 use Prim.Native.Nat.{ℕ, zero, suc, ◌^◌, ◌≤◌, ◌<◌}
 use native.Mathlib.Omega.{arith}
 use lib.ListN.{length, get_or, take, length-map}
@@ -47,19 +47,19 @@ use Rattle.model.proofs.MirrorArrivals.{mirror_at, progress_is, has_row_is, colu
 not_refused : (a : Status) → a ≡ Accepted → is_refusal a ≡ false
 not_refused a e = ap is_refusal e
 
-same_some : {A : Type 0} (x y : A) (o : Option A) → o ≡ some x → o ≡ some y → x ≡ y
+same_some : {A : Type 0} (x y : A) (o : Option A) → o ≡ Some x → o ≡ Some y → x ≡ y
 same_some x y o p q = cc
 
-start_is : (bytes : ℕ) (area schema : List ℕ) (made : Database → List ℕ) (d : Database) → read_schema schema ≡ some d → (start_as bytes area schema made).status ≡ Accepted → (start_as bytes area schema made).area ≡ made d
+start_is : (bytes : ℕ) (area schema : List ℕ) (made : Database → List ℕ) (d : Database) → read_schema schema ≡ Some d → (start_as bytes area schema made).status ≡ Accepted → (start_as bytes area schema made).area ≡ made d
 start_is bytes area schema made d e h =
     let r = starts_accepted bytes area schema made (not_refused (start_as bytes area schema made).status h) in
     r.2 ∙ ap made (same_some r.0 d (read_schema schema) r.1 e)
 
-store_start_lem : (old schema : List ℕ) (run : ℕ) (d : Database) → read_schema schema ≡ some d → (store_start old schema run).status ≡ Accepted → (store_start old schema run).area ≡ encode_store (store_at d run empty)
+store_start_lem : (old schema : List ℕ) (run : ℕ) (d : Database) → read_schema schema ≡ Some d → (store_start old schema run).status ≡ Accepted → (store_start old schema run).area ≡ encode_store (store_at d run empty)
 unfolding store_start
 store_start_lem old schema run d e h = start_is store_bytes old schema (λ (x : Database). encode_store (store_at x run empty)) d e h
 
-mirror_start_lem : (old schema : List ℕ) (run : ℕ) (d : Database) → read_schema schema ≡ some d → (mirror_start old schema run).status ≡ Accepted → (mirror_start old schema run).area ≡ encode_mirror (mirror_at d run fresh)
+mirror_start_lem : (old schema : List ℕ) (run : ℕ) (d : Database) → read_schema schema ≡ Some d → (mirror_start old schema run).status ≡ Accepted → (mirror_start old schema run).area ≡ encode_mirror (mirror_at d run fresh)
 unfolding mirror_start
 mirror_start_lem old schema run d e h = start_is mirror_bytes old schema (λ (x : Database). encode_mirror (mirror_at x run fresh)) d e h
 
@@ -68,7 +68,7 @@ fit_at [] j f h = absurd (omega arith)
 fit_at (e ∷ es) zero f h = f.0
 fit_at (e ∷ es) (suc j) f h = fit_at es j f.1 (omega arith)
 
-carried : (l : Record) → Wide l → number_carried (some l) < 256 ^ 4 → number_carried (decode (encode l)) < 256 ^ 4
+carried : (l : Record) → Wide l → number_carried (Some l) < 256 ^ 4 → number_carried (decode (encode l)) < 256 ^ 4
 carried l w h = rw (decode_encode l w) h
 
 -- a step leaves what its answer's number says
@@ -136,7 +136,7 @@ module _ (d : Database) (run : ℕ) (sound : sane d ≡ true) (short : run < 256
   after_is : (j : ℕ) → finally s run empty (take j history) ≡ after j
   after_is j = ap (finally s run empty) (sym (map_take (call_of d) j calls))
 
-  store_after_lem : (j : ℕ) → store_of (area_after_all area (take j calls)) ≡ some (store_at d run (after j))
+  store_after_lem : (j : ℕ) → store_of (area_after_all area (take j calls)) ≡ Some (store_at d run (after j))
   store_after_lem j = ap store_of (up_to j).area ∙ store_of_encode (store_at d run (after j)) (up_to j).good
 
   history_keeps : Keeps d run area calls
@@ -208,7 +208,7 @@ module _ (d : Database) (run : ℕ) (sound : sane d ≡ true) (short : run < 256
       n = m.n;
       within = omega (arith, count, f.within);
       bytes = ap (λ (y : Mirror). encode_mirror (mirror_at d run y)) mirror_is;
-      state = mirror_of_encode (mirror_at d run m) (mirror_whole (mirror_at d run m) g) ∙ ap (λ (y : Mirror). some (mirror_at d run y)) mirror_is;
+      state = mirror_of_encode (mirror_at d run m) (mirror_whole (mirror_at d run m) g) ∙ ap (λ (y : Mirror). Some (mirror_at d run y)) mirror_is;
       tells = progress_is (mirror_at d run m) g ∙ ap (λ (y : Mirror). record { status = Accepted; n = m.n; level = level y }) mirror_is;
       tells_row = λ t id. has_row_is (mirror_at d run m) g t id ∙ ap (λ (y : Mirror). record { status = Accepted; there = has (key_of t (value id)) y.rows }) mirror_is;
       tells_column = λ t id c out l. column_is (mirror_at d run m) g t id c out l ∙ ap (λ (y : Mirror). record { status = Accepted; out = column_answer y t (value id) c }) mirror_is;

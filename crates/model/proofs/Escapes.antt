@@ -1,4 +1,6 @@
 -- Four hexadecimal digits are read exactly where they stand, with the number that they are. Assumes nothing.
+use Rattle.std.specs.Prelude.{Ok, Err}
+use Rattle.model.specs.declared.ReadError.TheVariants.{Stop}
 use mathlib.Core.Path.{◌≡◌, refl, sym, ap, ◌∙◌}
 use mathlib.Core.Bool.{Bool, true, false, not}
 use mathlib.Core.List.{List}
@@ -7,7 +9,6 @@ use Prim.Native.Nat.{ℕ, ◌+◌, ◌-◌, ◌*◌, ◌≤◌, ◌<◌}
 use native.Mathlib.Omega.{arith}
 use borrow.Author.Tests.{ne_eqb, eq-eqb, eqb-true, eqb-false, not-true}
 use lib.Dec.{eqb}
-use Rattle.model.specs.declared.Read.TheVariants.{End, Stop}
 use Rattle.model.specs.Scan.{byte, Parsed}
 use Rattle.model.specs.Strings.{◌to◌, is_second_half, hex_of, stopped_at, digit_by, digit_from, digit_at, tested_from, tested, no_digits, begins_second, unit_at, second_at}
 use Rattle.model.specs.Characters.{Digits, digits_number, UnitDigits, SecondDigits}
@@ -16,20 +17,20 @@ use Rattle.model.proofs.Utf8.{in_range_lem, over_range, under_range, of_range}
 use Rattle.model.proofs.TextUtf8.{hex_digit_lem, not_range}
 
 abbrev number : ℕ → ℕ → Parsed ℕ
-number e v = record { read = End e; tree = v }
+number e v = record { read = Ok e; tree = v }
 
 -- a test of the number so far
 module _ (f : ℕ → Bool) (e v : ℕ) where
-  pub test_holds : f v ≡ true → tested f (record { read = End e; tree = v }) ≡ record { read = End e; tree = v }
+  pub test_holds : f v ≡ true → tested f (record { read = Ok e; tree = v }) ≡ record { read = Ok e; tree = v }
   unfolding tested tested_from
   test_holds h = rw (tested, tested_from, h)
 
-  pub test_fails : f v ≡ false → tested f (record { read = End e; tree = v }) ≡ stopped_at (e - 1)
+  pub test_fails : f v ≡ false → tested f (record { read = Ok e; tree = v }) ≡ stopped_at (e - 1)
   unfolding tested tested_from
   test_fails h = rw (tested, tested_from, h)
 
 never : {e v x : ℕ} → number e v ≡ stopped_at x → ⊥
-never {e} {v} {x} h = let r : End e ≡ Stop x = ap (λ p. p.read) h in let z : ◌≡◌ {A = ℕ} 0 1 = cc in omega arith
+never {e} {v} {x} h = let r : Ok e ≡ Err (Stop x) = ap (λ p. p.read) h in let z : ◌≡◌ {A = ℕ} 0 1 = cc in omega arith
 
 -- whether the first two of four digits begin a second half tells whether all four are one
 abbrev of4 : ℕ → ℕ → ℕ → ℕ → ℕ
@@ -67,7 +68,7 @@ module _ (s : List ℕ) where
   digit_is e v a h = ap (digit_by e v) h
 
   same : {e v e' v' : ℕ} → e ≡ e' → v ≡ v' → number e v ≡ number e' v'
-  same p q = λ i. record { read = End (p i); tree = q i }
+  same p q = λ i. record { read = Ok (p i); tree = q i }
 
   digit_on : (e v a e' v' : ℕ) → hex_of (byte s e) ≡ a → (a ≡ 16 → ⊥) → e + 1 ≡ e' → v * 16 + a ≡ v' → digit_at s (number e v) ≡ number e' v'
   digit_on e v a e' v' h n p q = digit_is e v a h ∙ by_digit e v a n ∙ same p q
@@ -160,7 +161,7 @@ module _ (s : List ℕ) where
     Found e v = (a < 16) × (b < 16) × (c < 16) × (d < 16) × (e ≡ at + 4) × (v ≡ of4 a b c d)
 
     equal : {e v e' v' : ℕ} → number e v ≡ number e' v' → (e ≡ e') × (v ≡ v')
-    equal {e} {v} {e'} {v'} h = let r : End e ≡ End e' = ap (λ p. p.read) h in let y : e ≡ e' = cc in (y, ap (λ p. p.tree) h)
+    equal {e} {v} {e'} {v'} h = let r : Ok e ≡ Ok e' = ap (λ p. p.read) h in let y : e ≡ e' = cc in (y, ap (λ p. p.tree) h)
 
     -- ── a unit ──
     unit_on : (a ≡ 16 → ⊥) → (b ≡ 16 → ⊥) → (c ≡ 16 → ⊥) → (d ≡ 16 → ⊥) → no_second (a * 16 + b) ≡ true → nonzero (of4 a b c d) ≡ true → unit_at s at ≡ number (at + 4) (of4 a b c d)

@@ -1,8 +1,8 @@
 -- The heart of demand 3: the records of a commit, in order, fit one after another and make of the rows before it the rows after it. Assumes nothing.
+use Rattle.std.specs.Prelude.{None}
 use mathlib.Core.Path.{◌≡◌, refl, sym, ◌∙◌, ap}
 use mathlib.Core.Bool.{true, false}
 use mathlib.Core.List.{List, [], ◌∷◌, ◌++◌}
-use mathlib.Core.Option.{none}
 use Prim.Native.Nat.{ℕ, ◌+◌, ◌*◌, ◌/◌, ◌%◌, ◌<◌}
 use native.Mathlib.Nat.{mul-add-div_right, mul-add-mod_self_right, mod-eq_of_lt, div-eq_of_lt, add-zero}
 use native.Mathlib.Omega.{arith}
@@ -70,7 +70,7 @@ above_has : (j k : ℕ) (rs : List Row) → Above j rs → has k rs ≡ true →
 above_has j k [] a h = absurd (clash false h refl)
 above_has j k (r ∷ rs) a h = split (eqb k (key r)) (λ p. rw (eqb-true k (key r) p) a.0) (λ p. above_has j k rs a.1 (has_other k r rs h p))
 
-above_none : (k : ℕ) (rs : List Row) → Above k rs → find k rs ≡ none
+above_none : (k : ℕ) (rs : List Row) → Above k rs → find k rs ≡ None
 above_none k [] a = refl
 above_none k (r ∷ rs) a = rw (ne_eqb k (key r) (omega arith), above_none k rs a.1)
 

@@ -1,8 +1,8 @@
 -- A commit's records have their widths and their lengths, and are never more than the least records buffer holds. Assumes nothing.
+use Rattle.std.specs.Prelude.{Option, Some, None}
 use mathlib.Core.Path.{◌≡◌, refl, ap}
 use mathlib.Core.Bool.{Bool, true}
 use mathlib.Core.List.{List, [], ◌∷◌, ◌++◌, map}
-use mathlib.Core.Option.{Option, none, some}
 use Prim.Native.Nat.{ℕ, zero, suc, ◌+◌, ◌*◌, ◌^◌, ◌≤◌, ◌<◌}
 use native.Mathlib.Omega.{arith}
 use borrow.Author.Tests.{leb-true}
@@ -72,8 +72,8 @@ writes_size skip t i c (v ∷ vs) [] = omega arith
 writes_size skip t i c (v ∷ vs) (w ∷ ws) = let z = writes_size skip t i (suc c) vs ws in split (skip v w) (λ e. rw e (omega arith)) (λ e. rw e (omega arith))
 
 row_size : (s : Schema) (o : Option Row) (r : Row) → sizes (row_writes s o r) ≤ 26 + 128 * length r.columns
-row_size s none r = omega (arith, writes_size never r.table r.id 0 (initials s r.table) r.columns)
-row_size s (some p) r = omega (arith, writes_size same_value r.table r.id 0 p.columns r.columns)
+row_size s None r = omega (arith, writes_size never r.table r.id 0 (initials s r.table) r.columns)
+row_size s (Some p) r = omega (arith, writes_size same_value r.table r.id 0 p.columns r.columns)
 
 pub narrow_at : (s : Schema) (t : ℕ) → narrow s ≡ true → length (columns_of s t) ≤ 6
 narrow_at [] t h = omega arith

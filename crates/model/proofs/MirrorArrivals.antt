@@ -1,9 +1,9 @@
 -- A list of arrivals at a mirror's area, as a list of arrivals at its state. Assumes nothing.
+use Rattle.std.specs.Prelude.{Option, Some, None}
 use mathlib.Core.Path.{◌≡◌, refl, sym, ◌∙◌, ap, subst}
 use mathlib.Core.Logic.{◌⊎◌, inl, inr}
 use mathlib.Core.Bool.{true, false}
 use mathlib.Core.List.{List, [], ◌∷◌, Memᴰ}
-use mathlib.Core.Option.{Option, none, some}
 use Prim.Native.Nat.{ℕ, zero, suc, ◌^◌, ◌<◌}
 use borrow.Author.Tests.{eq-eqb}
 use lib.Dec.{eqb}
@@ -34,9 +34,9 @@ mirror_at d run m = record { run = run; database = d; mirror = m }
 -- a question to it is answered by it
 pub asked_there : {A : Type 0} (m : MirrorState) → MirrorFine m → (refuse : Status → A) (ask : Mirror → A) → asked (encode_mirror m) refuse ask ≡ ask m.mirror
 asked_there m f refuse ask =
-    let there : mirror_of (encode_mirror m) ≡ some m = mirror_of_encode m (mirror_whole m f) in
+    let there : mirror_of (encode_mirror m) ≡ Some m = mirror_of_encode m (mirror_whole m f) in
     let size : eqb (length (encode_mirror m)) mirror_bytes ≡ true = eq-eqb (length (encode_mirror m)) mirror_bytes (mirror_of_length (encode_mirror m) m there) in
-    rw (asked, size) (ap (λ (o : Option MirrorState). elim o [ none ↦ refuse Disordered | some y ↦ ask y.mirror ]) there)
+    rw (asked, size) (ap (λ (o : Option MirrorState). elim o [ None ↦ refuse Disordered | Some y ↦ ask y.mirror ]) there)
 
 pub progress_is : (m : MirrorState) → MirrorFine m → mirror_progress (encode_mirror m) ≡ record { status = Accepted; n = m.mirror.n; level = level m.mirror }
 unfolding mirror_progress

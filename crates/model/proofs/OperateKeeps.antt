@@ -1,9 +1,10 @@
 -- An operation without a fault keeps what holds of working rows: they are in order, and every value meets its type. Assumes nothing.
+use Rattle.std.specs.Prelude.{Option, Some, None}
+use Rattle.std.proofs.lemmas.Option.{none-some}
 use mathlib.Core.Path.{◌≡◌, refl}
 use mathlib.Core.Bool.{Bool, true, false, not}
 use mathlib.Core.List.{List, [], ◌∷◌, map}
 use mathlib.Core.Logic.{inl, inr}
-use mathlib.Core.Option.{Option, none, some, none-ne-some}
 use Prim.Native.Nat.{ℕ, suc, ◌^◌, ◌≤◌, ◌<◌}
 use native.Mathlib.Omega.{arith}
 use borrow.Author.Tests.{lt-ltb, ltb-true, eqb-true}
@@ -37,11 +38,11 @@ use Rattle.model.proofs.RowLaws.{Keeps, meets_typed, same_keeps, keep_keeps, add
 -- ── what is supposed ──
 -- the columns of a schema that is accepted: "min 0 or 1, max from 1"
 abbrev pub Modest : Schema → Type 0
-Modest s = (t k : ℕ) (c : Column) → column_at s t k ≡ some c → (c.min ≤ 1) × (1 ≤ c.max)
+Modest s = (t k : ℕ) (c : Column) → column_at s t k ≡ Some c → (c.min ≤ 1) × (1 ≤ c.max)
 
 -- a fresh id that may be used: not zero, of 16 bytes, and no row's
 pub record Fresh (i : ℕ) (rows : List Row) : Type 0 where
-  pub some : eqb i 0 ≡ false
+  pub is_some_id : eqb i 0 ≡ false
   pub short : i < 256 ^ 16
   pub new : has_id i rows ≡ false
 
@@ -68,7 +69,7 @@ default_meets c low high f = initial_meets c low high (split (eqb c.min 0) (λ e
     blank_in : eqb c.min 0 ≡ false → atom_in_limits c c.base blank ≡ true
     blank_in e = and_l (atom_in_limits c c.base blank) true (rw e at within)
 
-else_initial : (cs : List Column) → ((k : ℕ) (c : Column) → nth cs k ≡ some c → (c.min ≤ 1) × (1 ≤ c.max)) → Else default_fault cs (map initial cs)
+else_initial : (cs : List Column) → ((k : ℕ) (c : Column) → nth cs k ≡ Some c → (c.min ≤ 1) × (1 ≤ c.max)) → Else default_fault cs (map initial cs)
 else_initial [] h = tt
 else_initial (c ∷ cs) h = (default_meets c (h 0 c refl).0 (h 0 c refl).1, else_initial cs (λ k x e. h (suc k) x e))
 
@@ -84,34 +85,34 @@ module _ (names : Names) (absent named : Column → Fault) where
     where
       go : (o : Option Json) → member_named c.name ms ≡ o → is_fine (column_written names absent named c o).fault ≡ true → Meets cs (assigned (columns_written names absent named cs ms).got vs)
           → Meets (c ∷ cs) (assigned ((column_written names absent named c o).got ∷ (columns_written names absent named cs ms).got) (v ∷ vs))
-      go none e g rest = (d.0 g, rest)
-      go (some j) e g rest = (value_meets names c j (find_good c.name ms j h e) (earlier_fine (value_written names c j).fault (named c) g).0, rest)
+      go None e g rest = (d.0 g, rest)
+      go (Some j) e g rest = (value_meets names c j (find_good c.name ms j h e) (earlier_fine (value_written names c j).fault (named c) g).0, rest)
 
   row_meets_lem : (cs : List Column) (ms : List Named) → all named_good ms ≡ true → is_fine (read_row names absent named cs ms).fault ≡ true
       → (vs : List Value) → Else absent cs vs → Meets cs (assigned (read_row names absent named cs ms).got vs)
   row_meets_lem cs ms h f = go (member_as object_in (ascii "row") ms) refl f
     where
-      good : (r : List Named) → member_as object_in (ascii "row") ms ≡ some r → all named_good r ≡ true
+      good : (r : List Named) → member_as object_in (ascii "row") ms ≡ Some r → all named_good r ≡ true
       good r e = let p = member_good object_in (ascii "row") ms r h e in object_good p.0 r p.1 p.2
 
       go : (o : Option (List Named)) → member_as object_in (ascii "row") ms ≡ o
-          → let q : Judged (List (Option Value)) = elim o [ none ↦ record { fault = Syntax; got = [] } | some r ↦ row_of names absent named cs r ] in
+          → let q : Judged (List (Option Value)) = elim o [ None ↦ record { fault = Syntax; got = [] } | Some r ↦ row_of names absent named cs r ] in
           is_fine q.fault ≡ true → (vs : List Value) → Else absent cs vs → Meets cs (assigned q.got vs)
-      go none e g = absurd (clash false g refl)
-      go (some r) e g = λ vs d. columns_meet cs r vs (good r e) d (earlier_fine (check (known_names cs r) Syntax Fine) (columns_written names absent named cs r).fault g).1
+      go None e g = absurd (clash false g refl)
+      go (Some r) e g = λ vs d. columns_meet cs r vs (good r e) d (earlier_fine (check (known_names cs r) Syntax Fine) (columns_written names absent named cs r).fault g).1
 
 -- ── the table ──
-place_below : (w : List ℕ) (ws : List (List ℕ)) (k : ℕ) → place_of w ws ≡ some k → k < length ws
-place_below w [] k e = absurd (none-ne-some k e)
+place_below : (w : List ℕ) (ws : List (List ℕ)) (k : ℕ) → place_of w ws ≡ Some k → k < length ws
+place_below w [] k e = absurd (none-some k e)
 place_below w (x ∷ ws) k e = go (place_below w ws) (eq_bytes w x) (place_of w ws) refl e
   where
-    go : ((n : ℕ) → place_of w ws ≡ some n → n < length ws) → (b : Bool) (o : Option ℕ) → place_of w ws ≡ o
-        → elim b [ true ↦ some 0 | false ↦ elim o [ none ↦ none | some n ↦ some (suc n) ] ] ≡ some k → k < suc (length ws)
+    go : ((n : ℕ) → place_of w ws ≡ Some n → n < length ws) → (b : Bool) (o : Option ℕ) → place_of w ws ≡ o
+        → elim b [ true ↦ Some 0 | false ↦ elim o [ None ↦ None | Some n ↦ Some (suc n) ] ] ≡ Some k → k < suc (length ws)
     go rest true o p q = let z : 0 ≡ k = cc in omega arith
-    go rest false none p q = absurd (none-ne-some k q)
-    go rest false (some n) p q = let z : suc n ≡ k = cc in omega (arith, rest n p)
+    go rest false None p q = absurd (none-some k q)
+    go rest false (Some n) p q = let z : suc n ≡ k = cc in omega (arith, rest n p)
 
-pub table_below : (s : Schema) (ms : List Named) (t : ℕ) → table_in s ms ≡ some t → t < length s
+pub table_below : (s : Schema) (ms : List Named) (t : ℕ) → table_in s ms ≡ Some t → t < length s
 table_below s ms t e =
     let p = then_some (member_as string_in (ascii "table") ms) (table_named s) t e in
     omega (arith, place_below p.0 (map (λ (x : Table). x.name) s) t p.2, length-map s (λ (x : Table). x.name))
@@ -138,7 +139,7 @@ module _ (s : Schema) (names : Names) (i : ℕ) (rows : List Row) (g : Good s ro
       row_meets_lem names default_fault no_fault cs ms h fs.1.0 (map initial cs) (else_initial cs (λ k c e. modest t k c e)) in
       let few : length rows < 32 = ltb-true (length rows) 32 (check_true (ltb (length rows) most_rows) Resources refl fs.1.1.0) in
       let row : Row = record { table = t; id = i; columns = assigned r.got (map initial cs) } in
-      let fine : FineRow s row = record { here = rw (lt-ltb t (length s) l, new.some, lt-ltb i (256 ^ 16) new.short); short = new.short; typed = meets_typed cs row.columns v } in
+      let fine : FineRow s row = record { here = rw (lt-ltb t (length s) l, new.is_some_id, lt-ltb i (256 ^ 16) new.short); short = new.short; typed = meets_typed cs row.columns v } in
       add_keeps s row rows fine v new.new few g m
 
   -- a row that matches is of the table
@@ -182,14 +183,14 @@ module _ (s : Schema) (names : Names) (i : ℕ) (rows : List Row) (g : Good s ro
   mutations_read : (ms : List Named) (cs : List Column) → all named_good ms ≡ true → is_fine (read_mutation_list names cs ms).fault ≡ true → AllReadWell cs (read_mutation_list names cs ms).got
   mutations_read ms cs h f = go (member_as array_in (ascii "mutations") ms) refl f
     where
-      good : (l : List Json) → member_as array_in (ascii "mutations") ms ≡ some l → all texts_good l ≡ true
+      good : (l : List Json) → member_as array_in (ascii "mutations") ms ≡ Some l → all texts_good l ≡ true
       good l e = let p = member_good array_in (ascii "mutations") ms l h e in array_good p.0 l p.1 p.2
 
       go : (o : Option (List Json)) → member_as array_in (ascii "mutations") ms ≡ o
-          → let q : Judged (List Mutation) = elim o [ none ↦ record { fault = Syntax; got = [] } | some l ↦ read_mutations names cs l ] in
+          → let q : Judged (List Mutation) = elim o [ None ↦ record { fault = Syntax; got = [] } | Some l ↦ read_mutations names cs l ] in
           is_fine q.fault ≡ true → AllReadWell cs q.got
-      go none e n = absurd (clash false n refl)
-      go (some l) e n = mutations_well names cs l (good l e) n
+      go None e n = absurd (clash false n refl)
+      go (Some l) e n = mutations_well names cs l (good l e) n
 
   mutate_keeps : (ms : List Named) (t : ℕ) → all named_good ms ≡ true → Kept (run_mutate names rows ms t (columns_of s t))
   mutate_keeps ms t h f =
@@ -218,8 +219,8 @@ module _ (s : Schema) (names : Names) (i : ℕ) (rows : List Row) (g : Good s ro
   on_keeps f ms k = go (table_in s ms) refl
     where
       go : (o : Option ℕ) → table_in s ms ≡ o → Kept (on_table s f rows o)
-      go none e = failed_keeps (failed Syntax rows) refl
-      go (some t) e = k t (table_below s ms t e)
+      go None e = failed_keeps (failed Syntax rows) refl
+      go (Some t) e = k t (table_below s ms t e)
 
   -- ── any operation ──
   pub operate_keeps : (given : List (List ℕ)) (ms : List Named) → Modest s → Fresh i rows → all named_good ms ≡ true → is_fine (operate s names given i rows ms).fault ≡ true
@@ -227,8 +228,8 @@ module _ (s : Schema) (names : Names) (i : ℕ) (rows : List Row) (g : Good s ro
   operate_keeps given ms modest new h = go (member_as string_in (ascii "op") ms)
     where
       go : (o : Option (List ℕ)) → Kept (perform s names given i rows ms o)
-      go none = failed_keeps (failed Syntax rows) refl
-      go (some w) =
+      go None = failed_keeps (failed Syntax rows) refl
+      go (Some w) =
           either Kept (eq_bytes w (ascii "insert")) (on_keeps (run_insert names given i rows ms) ms (λ t l. insert_keeps given ms t modest new h l))
           (either Kept (eq_bytes w (ascii "select")) (on_keeps (run_select names rows ms) ms (λ t l. select_keeps ms t))
           (either Kept (eq_bytes w (ascii "update")) (on_keeps (run_update names rows ms) ms (λ t l. update_keeps ms t h))

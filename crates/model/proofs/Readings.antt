@@ -1,9 +1,9 @@
 -- Document 01's starred readings, one claim over one table of calls on areas; and what the listed mistakes would get wrong. What the calls make of areas is carried to
 -- states by law, and computed there. Assumes nothing.
+use Rattle.std.specs.Prelude.{Option, Some, None}
 use mathlib.Core.Path.{◌≡◌, refl, sym, ◌∙◌, ap, subst}
 use mathlib.Core.Bool.{Bool, true, false}
 use mathlib.Core.List.{List, [], ◌∷◌, map}
-use mathlib.Core.Option.{Option, none, some}
 use Prim.Native.Nat.{ℕ, zero, suc, ◌+◌, ◌*◌, ◌≤◌}
 use native.Mathlib.Nat.{add-zero}
 use native.Mathlib.Omega.{arith}
@@ -95,7 +95,7 @@ record Sound (d : Database) (x : Said) : Type 0 where
   cut : pieces (padded least_records (flat x.lines)) ≡ x.lines
 
 module _ (st : Store) (g : store_good st ≡ true) (q : List ℕ) (i : ℕ) where
-  abbrev here : store_of (encode_store st) ≡ some st
+  abbrev here : store_of (encode_store st) ≡ Some st
   here = store_of_encode st g
 
   abbrev sized : length (ids_from 16 i) ≡ fresh_bytes
@@ -168,14 +168,14 @@ abbrev heard_by : Database → Reading → List (List ℕ)
 heard_by d r = picks r.hears (said_of d r).lines
 
 abbrev on_state : Reading → Option Database → Gave
-on_state r none = tells (begun no_database) fresh
-on_state r (some d) = tells (said_of d r) (through d.tables 1 fresh (heard_by d r))
+on_state r None = tells (begun no_database) fresh
+on_state r (Some d) = tells (said_of d r) (through d.tables 1 fresh (heard_by d r))
 
 abbrev fits : Reading → Option Database → Bool
-fits r none = false
-fits r (some d) = all wide (heard_by d r)
+fits r None = false
+fits r (Some d) = all wide (heard_by d r)
 
-module _ (r : Reading) (d : Database) (read : read_schema r.schema ≡ some d) (w : all wide (heard_by d r) ≡ true) where
+module _ (r : Reading) (d : Database) (read : read_schema r.schema ≡ Some d) (w : all wide (heard_by d r) ≡ true) where
   abbrev accepted : sane d ≡ true
   accepted = read_sane r.schema d read
 
@@ -215,9 +215,9 @@ module _ (r : Reading) (d : Database) (read : read_schema r.schema ≡ some d) (
       (λ j. heard_all (mirror_starts_lem j).area (picks r.hears ((ap (λ (c : Transacted). pieces c.records) calls_of_lem ∙ calls.1.cut) j)))
       ∙ hearing.0
 
-  got_is : got r ≡ on_state r (some d)
+  got_is : got r ≡ on_state r (Some d)
   got_is =
-      let there : mirror_of (encode_mirror (mirror_at d 1 m)) ≡ some (mirror_at d 1 m) = mirror_of_encode (mirror_at d 1 m) (mirror_whole (mirror_at d 1 m) hearing.1) in
+      let there : mirror_of (encode_mirror (mirror_at d 1 m)) ≡ Some (mirror_at d 1 m) = mirror_of_encode (mirror_at d 1 m) (mirror_whole (mirror_at d 1 m) hearing.1) in
       (λ j. gave (calls_of_lem j) (mirror_on_lem j))
       ∙ (λ j. record {
         status = number_of (said_of d r).status;
@@ -236,8 +236,8 @@ got_all (r ∷ l) h = λ j. one (read_schema r.schema) refl (all_head test r l h
     test y = fits y (read_schema y.schema)
 
     one : (o : Option Database) → read_schema r.schema ≡ o → fits r o ≡ true → got r ≡ on_state r o
-    one none e f = absurd (clash false f refl)
-    one (some d) e f = got_is r d e f
+    one None e f = absurd (clash false f refl)
+    one (Some d) e f = got_is r d e f
 
 pub readings : Readings
 unfolding opened

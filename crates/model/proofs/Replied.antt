@@ -1,8 +1,8 @@
 -- A transact on a store's rows: what stays where it does not commit, and a reply as a refusal that leaves everything or as what the rules make. Assumes nothing.
+use Rattle.std.specs.Prelude.{Option, Some, None}
 use mathlib.Core.Path.{◌≡◌, refl, sym, ◌∙◌}
 use mathlib.Core.Bool.{true, false}
 use mathlib.Core.List.{List, []}
-use mathlib.Core.Option.{Option, none, some}
 use Prim.Native.Nat.{ℕ, ◌+◌}
 use lib.Dec.{leb}
 use lib.ListN.{length}
@@ -56,8 +56,8 @@ reply_as d number rows request fresh room = go (read_request request)
   where
     go : (o : Option Request)
         → Replied d.tables rows (transact_rows d.tables (fresh_ids fresh) rows (request_or o).operations) (reply_to d number rows (fresh_ids fresh) room o)
-    go none = refusing _ refl
-    go (some q) = split (eq_bytes q.name d.name)
+    go None = refusing _ refl
+    go (Some q) = split (eq_bytes q.name d.name)
         (λ e. split (ids_good (fresh_ids fresh) rows)
         (λ f. rw (named, e, freshly, f) (concluded_as d.tables number rows room (transact_rows d.tables (fresh_ids fresh) rows q.operations)))
         (λ f. rw (named, e, freshly, f) (refusing _ refl)))

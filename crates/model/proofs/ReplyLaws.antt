@@ -2,14 +2,13 @@
 use mathlib.Core.Path.{◌≡◌, refl, sym, ◌∙◌, ap}
 use mathlib.Core.Bool.{Bool, true, false}
 use mathlib.Core.List.{List, []}
-use mathlib.Core.Option.{Option, none, some}
 use Prim.Native.Nat.{ℕ, ◌+◌}
 use native.Mathlib.Omega.{arith}
 use lib.Dec.{leb}
 use lib.ListN.{length}
 use Rattle.model.specs.Octets.{eq_bytes}
 use Rattle.model.specs.Limits.{fresh_bytes, last_number}
-use Rattle.std.specs.Prelude.{if◌then◌else◌}
+use Rattle.std.specs.Prelude.{if◌then◌else◌, Option, Some, None}
 use Rattle.model.specs.Base.{all}
 use Rattle.model.specs.Schema.{Schema, Database}
 use Rattle.model.specs.Rows.{Row}
@@ -45,8 +44,8 @@ abbrev named_rows : Database → List Row → List ℕ → ℕ → Request → L
 named_rows d rows ids room q = elim (eq_bytes q.name d.name) [ true ↦ fresh_rows d.tables rows ids room q | false ↦ rows ]
 
 abbrev reply_by : Database → List ℕ → ℕ → List Row → Option Request → List Row
-reply_by d fresh room rows none = rows
-reply_by d fresh room rows (some q) = named_rows d rows (fresh_ids fresh) room q
+reply_by d fresh room rows None = rows
+reply_by d fresh room rows (Some q) = named_rows d rows (fresh_ids fresh) room q
 
 abbrev pub reply_rows : Database → List ℕ → List ℕ → ℕ → List Row → List Row
 reply_rows d request fresh room rows = reply_by d fresh room rows (read_request request)
@@ -96,8 +95,8 @@ pub reply_call : (d : Database) (number : ℕ) (rows : List Row) (request fresh 
 reply_call d number rows request fresh room o = go (read_request request)
   where
     go : (m : Option Request) → AsCall d.tables number rows (reply_to d number rows (fresh_ids fresh) room m) (reply_by d fresh room rows m)
-    go none = refused_call d.tables number rows o BadRequest
-    go (some q) =
+    go None = refused_call d.tables number rows o BadRequest
+    go (Some q) =
         by_tests (AsCall d.tables number rows) (eq_bytes q.name d.name) (λ e. freshly_call d.tables number rows o (fresh_ids fresh) room q) (λ e. refused_call d.tables number rows o OtherDatabase)
 
 -- ── rows in good order stay so ──
@@ -106,8 +105,8 @@ pub rows_keep : (d : Database) (request fresh : List ℕ) (room : ℕ) (rows : L
 rows_keep d request fresh room rows h l b o = go (read_request request) refl
   where
     go : (m : Option Request) → read_request request ≡ m → InOrder d.tables (reply_by d fresh room rows m)
-    go none e = o
-    go (some q) e =
+    go None e = o
+    go (Some q) e =
         let t : Transaction = transact_rows d.tables (fresh_ids fresh) rows q.operations in
         let k = request_good request q e in
         by_test (InOrder d.tables) (eq_bytes q.name d.name)

@@ -1,15 +1,15 @@
 -- The operations of a request, run in order without a fault, keep what holds of working rows. Assumes nothing.
+use Rattle.std.proofs.lemmas.Option.{none-some}
 use mathlib.Core.Path.{◌≡◌, refl, ap}
 use mathlib.Core.Bool.{Bool, true, false, not, ◌&&◌}
 use mathlib.Core.List.{List, [], ◌∷◌}
-use mathlib.Core.Option.{Option, none, some, none-ne-some}
 use Prim.Native.Nat.{ℕ, zero, suc, ◌*◌, ◌^◌, ◌≤◌, ◌<◌}
 use native.Mathlib.Omega.{arith}
 use borrow.Author.Tests.{not-true, lt-ltb, ltb-true, leb-true}
 use lib.Dec.{eqb, ltb, leb}
 use lib.ListN.{length, take, drop, length-take, length-drop}
 use Rattle.model.specs.Octets.{value}
-use Rattle.std.specs.Prelude.{if◌then◌else◌}
+use Rattle.std.specs.Prelude.{if◌then◌else◌, Option, Some, None}
 use Rattle.model.specs.Base.{any, all}
 use Rattle.model.specs.Limits.{most_request_bytes, most_operations, fresh_bytes}
 use Rattle.model.specs.Json.{Json, Named, text_at}
@@ -55,12 +55,12 @@ pub fresh_length : (b : List ℕ) → length (fresh_ids b) ≡ most_operations
 fresh_length b = from_length 16 b
 
 -- ── names ──
-pub names_short : (ids : List ℕ) (os : List (List Named)) (w : List ℕ) (i : ℕ) → length os ≤ length ids → all short_id ids ≡ true → names_of ids os w ≡ some i → i < 256 ^ 16
-names_short ids [] w i n h e = absurd (none-ne-some i e)
+pub names_short : (ids : List ℕ) (os : List (List Named)) (w : List ℕ) (i : ℕ) → length os ≤ length ids → all short_id ids ≡ true → names_of ids os w ≡ Some i → i < 256 ^ 16
+names_short ids [] w i n h e = absurd (none-some i e)
 names_short [] (o ∷ os) w i n h e = absurd (omega arith)
 names_short (k ∷ ids) (o ∷ os) w i n h e = go (is_named (insert_name o) w) (names_short ids os w i (omega arith) (all_tail short_id k ids h)) e
   where
-    go : (b : Bool) → (names_of ids os w ≡ some i → i < 256 ^ 16) → elim b [ true ↦ some k | false ↦ names_of ids os w ] ≡ some i → i < 256 ^ 16
+    go : (b : Bool) → (names_of ids os w ≡ Some i → i < 256 ^ 16) → elim b [ true ↦ Some k | false ↦ names_of ids os w ] ≡ Some i → i < 256 ^ 16
     go true rest q = let z : k ≡ i = cc in rw (← z) (ltb-true k (256 ^ 16) (all_head short_id k ids h))
     go false rest q = rest q
 
@@ -71,7 +71,7 @@ ids_fresh i l rows h short =
     let b : Bool = not (has_id i rows) in
     let c : Bool = not (any (eqb i) l) in
     let p : (a && b) ≡ true = and_l (a && b) c (and_l (a && b && c) (ids_good l rows) h) in
-    record { some = not-true (eqb i 0) (and_l a b p); short = short; new = not-true (has_id i rows) (and_r a b p) }
+    record { is_some_id = not-true (eqb i 0) (and_l a b p); short = short; new = not-true (has_id i rows) (and_r a b p) }
 
 pub ids_other : (i : ℕ) (l : List ℕ) (rows : List Row) → ids_good (i ∷ l) rows ≡ true → (any (eqb i) l ≡ false) × (ids_good l rows ≡ true)
 ids_other i l rows h =
@@ -122,11 +122,11 @@ run_keeps s names given (i ∷ ids) rows (o ∷ os) modest h n short fresh g m f
     go first rest false e k = absurd (clash (is_fine (operate s names given i rows o).fault) k e)
 
 -- ── the request ──
-objects_good : (js : List Json) (os : List (List Named)) → all texts_good js ≡ true → objects_in js ≡ some os → all operation_good os ≡ true
+objects_good : (js : List Json) (os : List (List Named)) → all texts_good js ≡ true → objects_in js ≡ Some os → all operation_good os ≡ true
 objects_good [] os h e = let z : ◌≡◌ {A = List (List Named)} [] os = cc in rw (← z)
 objects_good (j ∷ js) os h e =
-    let p = then_some (object_in j) (λ (ms : List Named). elim (objects_in js) [ none ↦ none | some l ↦ some (ms ∷ l) ]) os e in
-    let q = then_some (objects_in js) (λ (l : List (List Named)). some (p.0 ∷ l)) os p.2 in
+    let p = then_some (object_in j) (λ (ms : List Named). elim (objects_in js) [ None ↦ None | Some l ↦ Some (ms ∷ l) ]) os e in
+    let q = then_some (objects_in js) (λ (l : List (List Named)). Some (p.0 ∷ l)) os p.2 in
     let z : p.0 ∷ q.0 ≡ os = cc q.2 in
     rw (← z) (all_cons operation_good p.0 q.0 (object_good j p.0 (all_head texts_good j js h) p.1) (objects_good js q.0 (all_tail texts_good j js h) q.1))
 
@@ -135,31 +135,31 @@ pub record RequestGood (r : Request) : Type 0 where
   pub operations : all operation_good r.operations ≡ true
   pub few : length r.operations ≤ most_operations
 
-by_good : (w : Option (List ℕ)) (js : List Json) (r : Request) → all texts_good js ≡ true → (o : Option (List (List Named))) → objects_in js ≡ o → request_by w o ≡ some r → RequestGood r
-by_good none js r h o p e = absurd (none-ne-some r e)
-by_good (some w) js r h none p e = absurd (none-ne-some r e)
-by_good (some w) js r h (some os) p e = go (leb (length os) most_operations) refl e
+by_good : (w : Option (List ℕ)) (js : List Json) (r : Request) → all texts_good js ≡ true → (o : Option (List (List Named))) → objects_in js ≡ o → request_by w o ≡ Some r → RequestGood r
+by_good None js r h o p e = absurd (none-some r e)
+by_good (Some w) js r h None p e = absurd (none-some r e)
+by_good (Some w) js r h (Some os) p e = go (leb (length os) most_operations) refl e
   where
-    go : (b : Bool) → leb (length os) most_operations ≡ b → (if b then some (record { name = w; operations = os }) else none) ≡ some r → RequestGood r
+    go : (b : Bool) → leb (length os) most_operations ≡ b → (if b then Some (record { name = w; operations = os }) else None) ≡ Some r → RequestGood r
     go true q k =
         let z : record { name = w; operations = os } ≡ r = cc in
         rw (← z) (record { operations = objects_good js os h p; few = leb-true (length os) 16 q })
-    go false q k = absurd (none-ne-some r k)
+    go false q k = absurd (none-some r k)
 
-items_good_lem : (l : List Json) (r : Request) → all texts_good l ≡ true → request_items l ≡ some r → RequestGood r
-items_good_lem [] r h e = absurd (none-ne-some r e)
+items_good_lem : (l : List Json) (r : Request) → all texts_good l ≡ true → request_items l ≡ Some r → RequestGood r
+items_good_lem [] r h e = absurd (none-some r e)
 items_good_lem (j ∷ js) r h e = by_good (string_in j) js r (all_tail texts_good j js h) (objects_in js) refl e
 
-pub request_good : (t : List ℕ) (r : Request) → read_request t ≡ some r → RequestGood r
+pub request_good : (t : List ℕ) (r : Request) → read_request t ≡ Some r → RequestGood r
 unfolding read_request
 request_good t r e =
     let p = when_some (leb (length t) most_request_bytes) (request_tree (text_at t)) r e in
-    let q = when_some (is_read (text_at t).read) (elim (array_in (text_at t).tree) [ none ↦ none | some l ↦ request_items l ]) r p.1 in
+    let q = when_some (is_read (text_at t).read) (elim (array_in (text_at t).tree) [ None ↦ None | Some l ↦ request_items l ]) r p.1 in
     let u = then_some (array_in (text_at t).tree) request_items r q.1 in
     items_good_lem u.0 r (array_good (text_at t).tree u.0 (text_good t) u.1) u.2
 
 -- the operations of a request, with the fresh ids of a call, on the rows of a store
-pub request_keeps : (s : Schema) (b t : List ℕ) (r : Request) (rows : List Row) → Modest s → read_request t ≡ some r → length b ≡ fresh_bytes → all octet b ≡ true → ids_good (fresh_ids b) rows ≡ true
+pub request_keeps : (s : Schema) (b t : List ℕ) (r : Request) (rows : List Row) → Modest s → read_request t ≡ Some r → length b ≡ fresh_bytes → all octet b ≡ true → ids_good (fresh_ids b) rows ≡ true
     → Good s rows → AllMeet s rows → is_fine (run_all s (names_of (fresh_ids b) r.operations) [] (fresh_ids b) rows r.operations).fault ≡ true
     → Sound s (run_all s (names_of (fresh_ids b) r.operations) [] (fresh_ids b) rows r.operations).rows
 request_keeps s b t r rows modest e l h fresh g m f =

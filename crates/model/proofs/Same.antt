@@ -1,7 +1,7 @@
 -- A commit writes nothing exactly when it changes nothing. Assumes nothing.
+use Rattle.std.specs.Prelude.{Some}
 use mathlib.Core.Path.{◌≡◌, refl, subst}
 use mathlib.Core.List.{List, [], ◌∷◌, ◌++◌}
-use mathlib.Core.Option.{some}
 use Prim.Native.Nat.{ℕ, suc}
 use native.Mathlib.Omega.{arith}
 use borrow.Author.Tests.{eq-eqb, ne_eqb}
@@ -19,7 +19,7 @@ writes_self : (t i c : ℕ) (vs : List Value) → writes same_value t i c vs vs 
 writes_self t i c [] = refl
 writes_self t i c (v ∷ vs) = rw (value_self v, writes_self t i (suc c) vs)
 
-find_at : (d : List Row) (r : Row) (p : List Row) → Below d (key r) → find (key r) (d ++ r ∷ p) ≡ some r
+find_at : (d : List Row) (r : Row) (p : List Row) → Below d (key r) → find (key r) (d ++ r ∷ p) ≡ Some r
 find_at [] r p h = rw (eq-eqb (key r) (key r) refl)
 find_at (x ∷ d) r p h = rw (ne_eqb (key r) (key x) (omega arith), find_at d r p h.1)
 

@@ -1,8 +1,9 @@
 -- A schema that is accepted is sane: its counts, limits and numbers are within bounds. Assumes nothing.
+use Rattle.std.specs.Prelude.{Option, Some, None}
+use Rattle.std.proofs.lemmas.Option.{none-some}
 use mathlib.Core.Path.{◌≡◌, refl, sym, ◌∙◌, ap}
 use mathlib.Core.Bool.{Bool, true, false, not, ◌&&◌, ◌||◌}
 use mathlib.Core.List.{List, [], ◌∷◌, map}
-use mathlib.Core.Option.{Option, none, some, none-ne-some}
 use Prim.Native.Nat.{ℕ, zero, suc, ◌≤◌, ◌<◌}
 use native.Mathlib.Omega.{arith}
 use borrow.Author.Tests.{leb-true, lt-ltb, le-leb}
@@ -31,22 +32,22 @@ module _ {A B : Type 0} where
   all_map p q f h (a ∷ l) e = rw (h a (and_l (q a) (all q l) e), all_map p q f h l (and_r (q a) (all q l) e))
 
 -- an element at a place passes what all pass
-pub all_nth : {A : Type 0} (p : A → Bool) (l : List A) (k : ℕ) (a : A) → all p l ≡ true → nth l k ≡ some a → p a ≡ true
+pub all_nth : {A : Type 0} (p : A → Bool) (l : List A) (k : ℕ) (a : A) → all p l ≡ true → nth l k ≡ Some a → p a ≡ true
 all_nth p [] k a e h = cc
 all_nth p (x ∷ l) zero a e h = let q : x ≡ a = cc in rw q at (and_l (p x) (all p l) e)
 all_nth p (x ∷ l) (suc k) a e h = all_nth p l k a (and_r (p x) (all p l) e) h
 
 -- a name that is there has a number below how many there are
-pub place_below : (w : List ℕ) (ws : List (List ℕ)) → member w ws ≡ true → (k : ℕ) × (place_of w ws ≡ some k) × (k < length ws)
+pub place_below : (w : List ℕ) (ws : List (List ℕ)) → member w ws ≡ true → (k : ℕ) × (place_of w ws ≡ Some k) × (k < length ws)
 place_below w [] h = absurd (clash false h refl)
 place_below w (x ∷ ws) h =
     split
     (eq_bytes w x)
     (λ e. (0, rw (place_of, e), omega arith))
-    (λ e. let r : (k : ℕ) × (place_of w ws ≡ some k) × (k < length ws) = place_below w ws (rw e at h) in (suc r.0, rw (place_of, e, r.1), omega arith))
+    (λ e. let r : (k : ℕ) × (place_of w ws ≡ Some k) × (k < length ws) = place_below w ws (rw e at h) in (suc r.0, rw (place_of, e, r.1), omega arith))
 
 pub number_below : (w : List ℕ) (ws : List (List ℕ)) → member w ws ≡ true → ltb (place_or w ws) (length ws) ≡ true
-number_below w ws h = let r : (k : ℕ) × (place_of w ws ≡ some k) × (k < length ws) = place_below w ws h in rw (place_or, r.1, lt-ltb _ _ r.2)
+number_below w ws h = let r : (k : ℕ) × (place_of w ws ≡ Some k) × (k < length ws) = place_below w ws h in rw (place_or, r.1, lt-ltb _ _ r.2)
 
 -- the members that count have all the names, and no others
 pub has_same : (v w : List ℕ) (ms : List Named) → eq_bytes v w ≡ true → has_member v ms ≡ has_member w ms
@@ -347,18 +348,18 @@ database_sane_lem j h =
     )
 
 -- ── what is accepted is sane ──
-when_true : {A : Type 0} (b : Bool) (o : Option A) (a : A) → elim b [ true ↦ o | false ↦ none ] ≡ some a → (b ≡ true) × (o ≡ some a)
+when_true : {A : Type 0} (b : Bool) (o : Option A) (a : A) → elim b [ true ↦ o | false ↦ None ] ≡ Some a → (b ≡ true) × (o ≡ Some a)
 when_true true o a h = (refl, h)
-when_true false o a h = absurd (none-ne-some a h)
+when_true false o a h = absurd (none-some a h)
 
-pub schema_sane : (j : Json) (d : Database) → schema_of j ≡ some d → sane d ≡ true
+pub schema_sane : (j : Json) (d : Database) → schema_of j ≡ Some d → sane d ≡ true
 unfolding schema_of
 schema_sane j d h =
-    let r : (schema_fits j ≡ true) × (some (database_of j) ≡ some d) = when_true (schema_fits j) (some (database_of j)) d h in
+    let r : (schema_fits j ≡ true) × (Some (database_of j) ≡ Some d) = when_true (schema_fits j) (Some (database_of j)) d h in
     let q : database_of j ≡ d = cc in
     rw q at (database_sane_lem j r.0)
 
-pub read_sane : (s : List ℕ) (d : Database) → read_schema s ≡ some d → sane d ≡ true
+pub read_sane : (s : List ℕ) (d : Database) → read_schema s ≡ Some d → sane d ≡ true
 unfolding read_schema
 read_sane s d h = schema_sane (text_at s).tree d (when_true (is_read (text_at s).read) _ d (when_true (leb (length s) most_schema_bytes) _ d h).1).1
 
@@ -372,6 +373,6 @@ columns_sane n [] t h = refl
 columns_sane n (x ∷ s) zero h = (parts (table_sane n x) (and_l (sane_table n x) (all (sane_table n) s) h)).1.1.0
 columns_sane n (x ∷ s) (suc t) h = columns_sane n s t (and_r (sane_table n x) (all (sane_table n) s) h)
 
-pub column_at_lem : (d : Database) (t k : ℕ) (c : Column) → sane d ≡ true → column_at d.tables t k ≡ some c → sane_column (length d.tables) c ≡ true
+pub column_at_lem : (d : Database) (t k : ℕ) (c : Column) → sane d ≡ true → column_at d.tables t k ≡ Some c → sane_column (length d.tables) c ≡ true
 unfolding sane
 column_at_lem d t k c h e = all_nth (sane_column (length d.tables)) (columns_of d.tables t) k c (columns_sane (length d.tables) d.tables t (parts (database_sane d) h).1.1.0) e

@@ -1,8 +1,8 @@
 -- Stores and mirrors in good order, part by part; a new one is in good order, and a mirror stays so at every arrival. Assumes nothing.
+use Rattle.std.specs.Prelude.{Option, Some, None}
 use mathlib.Core.Path.{◌≡◌, refl, sym, ◌∙◌, ap}
 use mathlib.Core.Bool.{true, false, not, ◌&&◌, ◌||◌}
 use mathlib.Core.List.{List, [], ◌∷◌}
-use mathlib.Core.Option.{Option, none, some}
 use Prim.Native.Nat.{ℕ, zero, suc, ◌^◌, ◌≤◌, ◌<◌}
 use native.Mathlib.Omega.{arith}
 use borrow.Author.Tests.{lt-ltb, ltb-true, le-leb, leb-true, eq-eqb, not-false}
@@ -184,8 +184,8 @@ unique_none [] = refl
 unique_none (x ∷ l) = unique_none l
 
 over_none : (o : Option ℕ) → not_over o 0 ≡ true
-over_none none = refl
-over_none (some m) = le-leb 0 m (omega arith)
+over_none None = refl
+over_none (Some m) = le-leb 0 m (omega arith)
 
 tables_none : (t : ℕ) (s : Schema) → tables_good t s [] ≡ true
 tables_none t [] = refl

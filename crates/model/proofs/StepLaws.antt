@@ -1,8 +1,9 @@
 -- A step, one mutation on one row, that has no fault leaves a row whose values meet their types. Assumes nothing.
+use Rattle.std.specs.Prelude.{Option, Some, None}
+use Rattle.std.proofs.lemmas.Option.{none-some}
 use mathlib.Core.Path.{◌≡◌, refl, ◌∙◌, ap}
 use mathlib.Core.Bool.{Bool, true, false, not, ◌&&◌}
 use mathlib.Core.List.{List, [], ◌∷◌, map}
-use mathlib.Core.Option.{Option, none, some, none-ne-some}
 use Prim.Native.Nat.{ℕ, zero, suc, ◌≤◌}
 use native.Mathlib.Omega.{arith}
 use borrow.Author.Tests.{leb-true, le-leb}
@@ -127,7 +128,7 @@ Inserts c Delete l = Unit
 
 -- a mutation on the columns cs: it has the column at its place, which its mutator suits
 pub record ReadWell (cs : List Column) (m : Mutation) : Type 0 where
-  pub at : nth cs m.place ≡ some m.column
+  pub at : nth cs m.place ≡ Some m.column
   pub suited : suits m.column m.mutator ≡ true
   pub inserts : Inserts m.column m.mutator m.atoms
 
@@ -145,13 +146,13 @@ mutated_held c Insert l xs s w k f = inserted_held c l xs w.0 w.1 k f
 mutated_held c Delete l xs s w k f = deleted_held c l xs k f
 
 -- ── a row's columns ──
-pub column_meets : (cs : List Column) (vs : List Value) (k : ℕ) (c : Column) (d : Value) → Meets cs vs → nth cs k ≡ some c → meets c (get_or vs k d) ≡ true
-column_meets [] vs k c d h e = absurd (none-ne-some c e)
+pub column_meets : (cs : List Column) (vs : List Value) (k : ℕ) (c : Column) (d : Value) → Meets cs vs → nth cs k ≡ Some c → meets c (get_or vs k d) ≡ true
+column_meets [] vs k c d h e = absurd (none-some c e)
 column_meets (x ∷ cs) [] k c d h e = absurd h
 column_meets (x ∷ cs) (v ∷ vs) zero c d h e = let q : x ≡ c = cc in rw (← q) h.0
 column_meets (x ∷ cs) (v ∷ vs) (suc k) c d h e = column_meets cs vs k c d h.1 e
 
-pub set_meets : (cs : List Column) (vs : List Value) (k : ℕ) (c : Column) (v : Value) → Meets cs vs → nth cs k ≡ some c → meets c v ≡ true → Meets cs (set vs k v)
+pub set_meets : (cs : List Column) (vs : List Value) (k : ℕ) (c : Column) (v : Value) → Meets cs vs → nth cs k ≡ Some c → meets c v ≡ true → Meets cs (set vs k v)
 set_meets [] [] k c v h e m = tt
 set_meets [] (x ∷ vs) k c v h e m = absurd h
 set_meets (x ∷ cs) [] k c v h e m = absurd h
@@ -183,20 +184,20 @@ steps_stay cs (m ∷ ms) r w h f = go (λ k. steps_stay cs ms (mutate_once m r).
     go rest false e g = absurd (clash (is_fine (mutate_once m r).fault) g e)
 
 -- ── what is read of a request ──
-triple_good : (l : List Json) (t : Triple) → all texts_good l ≡ true → triple_items l ≡ some t → texts_good t.value ≡ true
-triple_good [] t h e = absurd (none-ne-some t e)
-triple_good (a ∷ []) t h e = absurd (none-ne-some t e)
-triple_good (a ∷ b ∷ []) t h e = absurd (none-ne-some t e)
+triple_good : (l : List Json) (t : Triple) → all texts_good l ≡ true → triple_items l ≡ Some t → texts_good t.value ≡ true
+triple_good [] t h e = absurd (none-some t e)
+triple_good (a ∷ []) t h e = absurd (none-some t e)
+triple_good (a ∷ b ∷ []) t h e = absurd (none-some t e)
 triple_good (a ∷ b ∷ c ∷ []) t h e = go (string_in a) (string_in b) e
   where
     good : texts_good c ≡ true
     good = all_head texts_good c [] (all_tail texts_good b (c ∷ []) (all_tail texts_good a (b ∷ c ∷ []) h))
 
-    go : (n w : Option (List ℕ)) → triple_of n w c ≡ some t → texts_good t.value ≡ true
-    go none w q = absurd (none-ne-some t q)
-    go (some n) none q = absurd (none-ne-some t q)
-    go (some n) (some w) q = let z : record { name = n; word = w; value = c } ≡ t = cc in rw (← z) good
-triple_good (a ∷ b ∷ c ∷ d ∷ l) t h e = absurd (none-ne-some t e)
+    go : (n w : Option (List ℕ)) → triple_of n w c ≡ Some t → texts_good t.value ≡ true
+    go None w q = absurd (none-some t q)
+    go (Some n) None q = absurd (none-some t q)
+    go (Some n) (Some w) q = let z : record { name = n; word = w; value = c } ≡ t = cc in rw (← z) good
+triple_good (a ∷ b ∷ c ∷ d ∷ l) t h e = absurd (none-some t e)
 
 inserts_well : (names : Names) (c : Column) (m : Mutator) (j : Json) → texts_good j ≡ true → is_fine (written names c.base (mutation_fault c m) j).fault ≡ true → Inserts c m (written names c.base (mutation_fault c m) j).got
 inserts_well names c Add j h f = tt
@@ -211,7 +212,7 @@ no_mutation_lem : {P : Type 0} → is_fine no_mutation.fault ≡ true → P
 no_mutation_lem h = absurd (clash false h refl)
 
 module _ (names : Names) (cs : List Column) where
-  by_well : (j : Json) (k : ℕ) (m : Mutator) (c : Column) → texts_good j ≡ true → nth cs k ≡ some c → is_fine (mutation_by names j k m c).fault ≡ true → ReadWell cs (mutation_by names j k m c).got
+  by_well : (j : Json) (k : ℕ) (m : Mutator) (c : Column) → texts_good j ≡ true → nth cs k ≡ Some c → is_fine (mutation_by names j k m c).fault ≡ true → ReadWell cs (mutation_by names j k m c).got
   by_well j k m c h e f = split (suits c m)
       (λ s.
       let p = earlier_fine (written names c.base (mutation_fault c m) j).fault (check c.mutable Constraint Fine) (rw s at f) in
@@ -221,26 +222,26 @@ module _ (names : Names) (cs : List Column) where
   at_well : (j : Json) (k : ℕ) (m : Mutator) → texts_good j ≡ true → is_fine (mutation_at names cs j k m).fault ≡ true → ReadWell cs (mutation_at names cs j k m).got
   at_well j k m h f = go (nth cs k) refl f
     where
-      go : (o : Option Column) → nth cs k ≡ o → let q : Judged Mutation = elim o [ none ↦ no_mutation | some c ↦ mutation_by names j k m c ] in is_fine q.fault ≡ true → ReadWell cs q.got
-      go none e g = no_mutation_lem g
-      go (some c) e g = by_well j k m c h e g
+      go : (o : Option Column) → nth cs k ≡ o → let q : Judged Mutation = elim o [ None ↦ no_mutation | Some c ↦ mutation_by names j k m c ] in is_fine q.fault ≡ true → ReadWell cs q.got
+      go None e g = no_mutation_lem g
+      go (Some c) e g = by_well j k m c h e g
 
   of_well : (j : Json) (k : Option ℕ) (m : Option Mutator) → texts_good j ≡ true → is_fine (mutation_of names cs j k m).fault ≡ true → ReadWell cs (mutation_of names cs j k m).got
-  of_well j none m h f = no_mutation_lem f
-  of_well j (some k) none h f = no_mutation_lem f
-  of_well j (some k) (some m) h f = at_well j k m h f
+  of_well j None m h f = no_mutation_lem f
+  of_well j (Some k) None h f = no_mutation_lem f
+  of_well j (Some k) (Some m) h f = at_well j k m h f
 
   pub mutation_well : (j : Json) → texts_good j ≡ true → is_fine (read_mutation names cs j).fault ≡ true → ReadWell cs (read_mutation names cs j).got
   mutation_well j h f = go (triple_in j) refl f
     where
-      good : (t : Triple) → triple_in j ≡ some t → texts_good t.value ≡ true
+      good : (t : Triple) → triple_in j ≡ Some t → texts_good t.value ≡ true
       good t e = let p = then_some (array_in j) triple_items t e in triple_good p.0 t (array_good j p.0 h p.1) p.2
 
       go : (o : Option Triple) → triple_in j ≡ o
-          → let q : Judged Mutation = elim o [ none ↦ no_mutation | some t ↦ mutation_of names cs t.value (column_named cs t.name) (mutator_named t.word) ] in
+          → let q : Judged Mutation = elim o [ None ↦ no_mutation | Some t ↦ mutation_of names cs t.value (column_named cs t.name) (mutator_named t.word) ] in
           is_fine q.fault ≡ true → ReadWell cs q.got
-      go none e g = no_mutation_lem g
-      go (some t) e g = of_well t.value (column_named cs t.name) (mutator_named t.word) (good t e) g
+      go None e g = no_mutation_lem g
+      go (Some t) e g = of_well t.value (column_named cs t.name) (mutator_named t.word) (good t e) g
 
   pub mutations_well : (js : List Json) → all texts_good js ≡ true → is_fine (read_mutations names cs js).fault ≡ true → AllReadWell cs (read_mutations names cs js).got
   mutations_well [] h f = tt

@@ -1,8 +1,8 @@
 -- A call on the area of a store in good order, as a history's call on its state: the area after it, the records it writes, all that it sends. Assumes nothing.
+use Rattle.std.specs.Prelude.{Option, Some}
 use mathlib.Core.Path.{◌≡◌, refl, sym, ◌∙◌, ap}
 use mathlib.Core.Bool.{Bool, true, false, ◌&&◌}
 use mathlib.Core.List.{List, [], ◌∷◌, ◌++◌, map, append-nil}
-use mathlib.Core.Option.{Option, some}
 use Prim.Native.Nat.{ℕ, zero, suc, ◌+◌, ◌-◌, ◌^◌, ◌≤◌, ◌<◌}
 use native.Mathlib.Nat.{add-zero}
 use native.Mathlib.Omega.{arith}
@@ -131,7 +131,7 @@ module _ (area q f r t : List ℕ) where
   transact_short h =
       by_test (λ (z : Transacted). z ≡ transact_refused WrongLength area r t) (lengths_good area f r t) (λ e. absurd (clash (lengths_good area f r t) e h)) (λ e. refl)
 
-  pub transact_there : (st : Store) → lengths_good area f r t ≡ true → store_of area ≡ some st → store_transact area q f r t ≡ transact_replied area r t st (reply_of st q f (length t))
+  pub transact_there : (st : Store) → lengths_good area f r t ≡ true → store_of area ≡ Some st → store_transact area q f r t ≡ transact_replied area r t st (reply_of st q f (length t))
   unfolding store_transact
   transact_there st h e =
       by_test (λ (z : Transacted). z ≡ transact_replied area r t st (reply_of st q f (length t))) (lengths_good area f r t) (λ x. ap (transact_on area q f r t) e) (λ x. absurd (clash (lengths_good area f r t) h x))
@@ -144,7 +144,7 @@ module _ (area out : List ℕ) where
   unfolding store_mark
   mark_short h = by_test (λ (z : Marked). z.mark ≡ zeroed out) (every mark_tests) (λ e. absurd (clash (every mark_tests) e h)) (λ e. refl)
 
-  mark_there : (st : Store) → every mark_tests ≡ true → store_of area ≡ some st → (store_mark area out).mark ≡ filled (length out) (encode (mark st.run st.number))
+  mark_there : (st : Store) → every mark_tests ≡ true → store_of area ≡ Some st → (store_mark area out).mark ≡ filled (length out) (encode (mark st.run st.number))
   unfolding store_mark
   mark_there st h e =
       by_test (λ (z : Marked). z.mark ≡ filled (length out) (encode (mark st.run st.number))) (every mark_tests) (λ x. ap (λ (o : Option Store). (mark_on out o).mark) e)
@@ -185,7 +185,7 @@ module _ (d : Database) (run : ℕ) where
     stored : InOrder s σ.rows
     stored = record { good = fine.rows; meet = fine.meets; laws = fine.lawful }
 
-    there : store_of before ≡ some (store_at d run σ)
+    there : store_of before ≡ Some (store_at d run σ)
     there = store_of_encode (store_at d run σ) g
 
     sized : length before ≡ store_bytes

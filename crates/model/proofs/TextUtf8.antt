@@ -1,9 +1,13 @@
 -- A character that is no escape is the bytes of one character, and every string that is read is UTF-8 without 00, whatever the text. Assumes nothing.
+use Rattle.std.specs.Prelude.{Ok, Err}
+use Rattle.model.specs.declared.ReadError.TheVariants.{Stop, Deep}
+use Rattle.std.specs.declared.ops.ControlFlow.TheVariants.{Continue, Break}
+use Rattle.model.specs.Scan.{Read, Next}
+use Rattle.std.specs.Prelude.{Option, Some, None}
 use mathlib.Core.Path.{◌≡◌, refl, sym, ap, subst, ◌∙◌}
 use mathlib.Core.Bool.{Bool, true, false, not, ◌&&◌}
 use mathlib.Core.List.{List, [], ◌∷◌, ◌++◌}
 use mathlib.Core.Logic.{◌⊎◌, inl, inr}
-use mathlib.Core.Option.{Option, none, some}
 use Prim.Native.Nat.{ℕ, zero, suc, ◌+◌, ◌-◌, ◌*◌, ◌≤◌, ◌<◌}
 use native.Mathlib.Nat.{sub_self}
 use native.Mathlib.Numerals.{add-one}
@@ -12,10 +16,6 @@ use borrow.Author.Tests.{le-ltb, ne_eqb, le-leb, ltb-true, ltb-false, leb-true, 
 use lib.Dec.{eqb, ltb, leb}
 use lib.ListN.{length, drop, get_or-eq_default, length-take, length-drop, take-append-drop}
 use lib.Seq.{drop-cons}
-use Rattle.model.specs.declared.Read.{Read}
-use Rattle.model.specs.declared.Read.TheVariants.{End, Stop, Deep}
-use Rattle.model.specs.declared.Next.{Next}
-use Rattle.model.specs.declared.Next.TheVariants.{More, Done}
 use Rattle.model.specs.Base.{all}
 use Rattle.model.specs.Scan.{byte, Parsed, and_then, Turn, run, within_at, between}
 use Rattle.model.specs.Strings.{Range, ◌to◌, in_range, is_first_half, is_character, utf8, forms, rest_of, ranges_at, form_at, short_of, hex_of, digit_by, digit_from, digit_at, tested_from, tested, no_digits, unit_at, second_at, second_from, pair_of, paired, escaped_from, escaped_at, going, escape_by, is_unescaped, char_by, char_bytes, char_adds, char_turn, body_at, string_at}
@@ -34,8 +34,8 @@ run_closed P f empty join turn zero at = empty
 run_closed P f empty join turn (suc n) at = go (f at).next refl (run_closed P f empty join turn n)
   where
     go : (q : Next) → (f at).next ≡ q → ((e : ℕ) → P (run f n e).tree) → P (run f (suc n) at).tree
-    go (More e) h ih = rw (run, h) (join (f at).adds (run f n e).tree (turn at) (ih e))
-    go (Done r) h ih = rw (run, h) (turn at)
+    go (Continue e) h ih = rw (run, h) (join (f at).adds (run f n e).tree (turn at) (ih e))
+    go (Break r) h ih = rw (run, h) (turn at)
 
 -- ── characters that stand for themselves ──
 -- where a text goes on with a byte
@@ -56,52 +56,50 @@ module _ (s : List ℕ) where
   between_cons a e h g = let z : e - a ≡ suc (e - (a + 1)) = omega arith in rw (z, drop-cons s a 256 h, add-one a)
 
   -- a byte within bounds, one case at a time
-  by_within : (P : Read → Type 0) (low high e : ℕ) → P (Stop e) → (low ≤ byte s e → byte s e ≤ high → P (End (e + 1))) → P (within_at s low high (End e))
+  by_within : (P : Read → Type 0) (low high e : ℕ) → P (Err (Stop e)) → (low ≤ byte s e → byte s e ≤ high → P (Ok (e + 1))) → P (within_at s low high (Ok e))
   unfolding within_at
   by_within P low high e stop f = by_test P (ltb (byte s e) low) (λ t. stop) (λ t. by_test P (ltb high (byte s e)) (λ u. stop) (λ u. f (ltb-false (byte s e) low t) (ltb-false high (byte s e) u)))
 
-  ranges_stop : (xs : List Range) (e : ℕ) → ranges_at s xs (Stop e) ≡ Stop e
+  ranges_stop : (xs : List Range) (e : ℕ) → ranges_at s xs (Err (Stop e)) ≡ Err (Stop e)
   unfolding ranges_at within_at
   ranges_stop [] e = refl
   ranges_stop (x ∷ xs) e = ranges_stop xs e
 
   -- where the ranges are read to their end, the bytes up to there are in them
   abbrev Ranged : List Range → ℕ → Read → Type 0
-  Ranged xs a (End e) = (a ≤ e) × (e ≤ length s) × Fits xs (between s a e)
-  Ranged xs a (Stop e) = Unit
-  Ranged xs a (Deep e) = Unit
+  Ranged xs a (Ok e) = (a ≤ e) × (e ≤ length s) × Fits xs (between s a e)
+  Ranged xs a (Err e) = Unit
 
-  ranges_fit : (xs : List Range) → Tails xs → (a : ℕ) → a ≤ length s → Ranged xs a (ranges_at s xs (End a))
+  ranges_fit : (xs : List Range) → Tails xs → (a : ℕ) → a ≤ length s → Ranged xs a (ranges_at s xs (Ok a))
   unfolding ranges_at
   ranges_fit [] t a h = (omega arith, h, rw (sub_self a) done)
   ranges_fit (x ∷ xs) t a h =
       by_within (λ r. Ranged (x ∷ xs) a (ranges_at s xs r)) x.low x.high a (rw (ranges_stop xs a) tt) (λ l g.
       let i : a < length s = inside a (omega (arith, t.1)) in
-      step i l g (ranges_at s xs (End (a + 1))) (ranges_fit xs t.2 (a + 1) (omega arith)))
+      step i l g (ranges_at s xs (Ok (a + 1))) (ranges_fit xs t.2 (a + 1) (omega arith)))
     where
       step : a < length s → x.low ≤ byte s a → byte s a ≤ x.high → (r : Read) → Ranged xs (a + 1) r → Ranged (x ∷ xs) a r
-      step i l g (End e) q = (omega (arith, q.0), q.1, rw (between_cons a e i q.0) (next l g q.2))
-      step i l g (Stop e) q = tt
-      step i l g (Deep e) q = tt
+      step i l g (Ok e) q = (omega (arith, q.0), q.1, rw (between_cons a e i q.0) (next l g q.2))
+      step i l g (Err e) q = tt
 
   -- and bytes in the ranges are read to their end
-  fits_ranges : {xs : List Range} {bs : List ℕ} → Fits xs bs → (a : ℕ) (rest : List ℕ) → drop a s ≡ bs ++ rest → ranges_at s xs (End a) ≡ End (a + length bs)
+  fits_ranges : {xs : List Range} {bs : List ℕ} → Fits xs bs → (a : ℕ) (rest : List ℕ) → drop a s ≡ bs ++ rest → ranges_at s xs (Ok a) ≡ Ok (a + length bs)
   unfolding ranges_at within_at
-  fits_ranges done a rest h = let z : a + 0 ≡ a = omega arith in ap End (sym z)
+  fits_ranges done a rest h = let z : a + 0 ≡ a = omega arith in ap Ok (sym z)
   fits_ranges (next {x = x} {xs = xs} {b = b} {bs = bs} l g f) a rest h =
       let r = drop_first s a b (bs ++ rest) h in
       let lo : ltb (byte s a) x.low ≡ false = le-ltb (byte s a) x.low (omega (arith, r.0)) in
       let hi : ltb x.high (byte s a) ≡ false = le-ltb x.high (byte s a) (omega (arith, r.0)) in
       let z : a + 1 + length bs ≡ a + suc (length bs) = omega arith in
-      rw (within_at, lo, hi) (fits_ranges f (a + 1) rest r.1 ∙ ap End z)
+      rw (within_at, lo, hi) (fits_ranges f (a + 1) rest r.1 ∙ ap Ok z)
 
   -- ── a character that is no escape ──
   abbrev Plain : ℕ → ℕ → Type 0
   Plain at e = (c : ℕ) × (is_unescaped c ≡ true) × (e ≤ length s) × (between s at e ≡ utf8 c)
 
   abbrev PlainNext : ℕ → Next → Type 0
-  PlainNext at (More e) = Plain at e
-  PlainNext at (Done r) = Unit
+  PlainNext at (Continue e) = Plain at e
+  PlainNext at (Break r) = Unit
 
   unescaped : (c b : ℕ) → is_character c ≡ true → (c ≡ b) ⊎ ((128 ≤ c) × (128 ≤ b)) → 32 ≤ b → (b ≡ 34 → ⊥) → (b ≡ 92 → ⊥) → is_unescaped c ≡ true
   unfolding is_unescaped
@@ -110,19 +108,18 @@ module _ (s : List ℕ) where
 
   plain_form : (at : ℕ) → 32 ≤ byte s at → (byte s at ≡ 34 → ⊥) → (byte s at ≡ 92 → ⊥) → (o : Option (List Range)) → rest_of (byte s at) forms ≡ o → PlainNext at (going (form_at s at o))
   unfolding form_at going
-  plain_form at l m n none q = tt
-  plain_form at l m n (some xs) q =
+  plain_form at l m n None q = tt
+  plain_form at l m n (Some xs) q =
       let b : ℕ = byte s at in
       let ld = lead b q in
       let i = inside at (lead_small ld) in
-      close ld i (ranges_at s xs (End (at + 1))) (ranges_fit xs (lead_tails ld) (at + 1) (omega arith))
+      close ld i (ranges_at s xs (Ok (at + 1))) (ranges_fit xs (lead_tails ld) (at + 1) (omega arith))
     where
       close : Lead (byte s at) xs → at < length s → (r : Read) → Ranged xs (at + 1) r → PlainNext at (going r)
-      close ld i (End e) f =
+      close ld i (Ok e) f =
           let c = char_of ld f.2 in
           (c.0, unescaped c.0 (byte s at) c.1 (first_byte c.0 c.2) l m n, f.1, between_cons at e i f.0 ∙ sym c.2)
-      close ld i (Stop e) f = tt
-      close ld i (Deep e) f = tt
+      close ld i (Err e) f = tt
 
   plain_char : (at : ℕ) → (byte s at ≡ 92 → ⊥) → PlainNext at (char_by s at (byte s at))
   unfolding char_by
@@ -151,14 +148,14 @@ module _ (s : List ℕ) where
   unfolding is_unescaped
   unescaped_character c h = and_r (leb 32 c && not (eqb c 34) && not (eqb c 92)) (is_character c) h
 
-  plain_by_lem : (at e b : ℕ) → 32 ≤ b → (b ≡ 34 → ⊥) → (b ≡ 92 → ⊥) → {xs : List Range} → Lead b xs → ranges_at s xs (End (at + 1)) ≡ End e → char_by s at b ≡ More e
+  plain_by_lem : (at e b : ℕ) → 32 ≤ b → (b ≡ 34 → ⊥) → (b ≡ 92 → ⊥) → {xs : List Range} → Lead b xs → ranges_at s xs (Ok (at + 1)) ≡ Ok e → char_by s at b ≡ Continue e
   unfolding char_by form_at going
   plain_by_lem at e b l m n ld h = rw (char_by, ne_eqb b 34 m, ne_eqb b 92 n, le-ltb b 32 l, rest_of_lem ld, h)
 
-  plain_read : (at e : ℕ) → Plain at e → (char_by s at (byte s at) ≡ More e) × (byte s at ≡ 92 → ⊥)
+  plain_read : (at e : ℕ) → Plain at e → (char_by s at (byte s at) ≡ Continue e) × (byte s at ≡ 92 → ⊥)
   plain_read at e (c, good, le, is) = go (utf8 c) refl (utf8_formed c (unescaped_character c good))
     where
-      go : (l : List ℕ) → utf8 c ≡ l → Formed l → (char_by s at (byte s at) ≡ More e) × (byte s at ≡ 92 → ⊥)
+      go : (l : List ℕ) → utf8 c ≡ l → Formed l → (char_by s at (byte s at) ≡ Continue e) × (byte s at ≡ 92 → ⊥)
       go [] u f = elim f [ ]
       go (b ∷ bs) u (formed {xs = xs} ld f) =
           let rest : List ℕ = drop (e - at) (drop at s) in
@@ -168,7 +165,7 @@ module _ (s : List ℕ) where
           let size : length (between s at e) ≡ suc (length bs) = ap length (is ∙ u) in
           let z : at + 1 + length bs ≡ e = omega (arith, length-take (e - at) (drop at s), length-drop at s, size) in
           let x = of_unescaped c b good (first_byte c u) in
-          (ap (char_by s at) r.0 ∙ plain_by_lem at e b x.0 x.1 x.2 ld (ends ∙ ap End z), λ y. x.2 (sym r.0 ∙ y))
+          (ap (char_by s at) r.0 ∙ plain_by_lem at e b x.0 x.1 x.2 ld (ends ∙ ap Ok z), λ y. x.2 (sym r.0 ∙ y))
 
 -- RFC 4627 §2.5, "unescaped", in UTF-8
 pub character_bytes : CharacterBytes
@@ -195,27 +192,25 @@ hex_digit_lem b =
 
 -- a fact of a number that was read to its end
 abbrev pub Read? : (ℕ → Type 0) → ℕ → Read → Type 0
-Read? P v (End e) = P v
-Read? P v (Stop e) = Unit
-Read? P v (Deep e) = Unit
+Read? P v (Ok e) = P v
+Read? P v (Err e) = Unit
 
 abbrev pub Number : (ℕ → Type 0) → Parsed ℕ → Type 0
 Number P p = Read? P p.tree p.read
 
 -- a weaker fact
 read_map : (P Q : ℕ → Type 0) (v w : ℕ) (r : Read) → (P v → Q w) → Read? P v r → Read? Q w r
-read_map P Q v w (End e) f h = f h
-read_map P Q v w (Stop e) f h = tt
-read_map P Q v w (Deep e) f h = tt
+read_map P Q v w (Ok e) f h = f h
+read_map P Q v w (Err e) f h = tt
 
 tested_is : (f : ℕ → Bool) (P Q : ℕ → Type 0) → ((v : ℕ) → P v → f v ≡ true → Q v) → (p : Parsed ℕ) → Number P p → Number Q (tested f p)
 unfolding tested tested_from
 tested_is f P Q g p h = go p.read h
   where
     go : (r : Read) → Read? P p.tree r → Number Q (tested_from f p.tree r)
-    go (End e) h = by_test (Number Q) (f p.tree) (λ t. g p.tree h t) (λ t. tt)
-    go (Stop e) h = tt
-    go (Deep e) h = tt
+    go (Ok e) h = by_test (Number Q) (f p.tree) (λ t. g p.tree h t) (λ t. tt)
+    go (Err (Stop e)) h = tt
+    go (Err (Deep e)) h = tt
 
 pub not_range : (r : Range) (v : ℕ) → in_range r v ≡ false → (v < r.low) ⊎ (r.high < v)
 not_range r v h = split (ltb v r.low) (λ e. inl (ltb-true v r.low e)) (λ e. split (ltb r.high v) (λ d. inr (ltb-true r.high v d))
@@ -244,9 +239,9 @@ module _ (s : List ℕ) where
   digit_is P Q f p h = go p.read h
     where
       go : (r : Read) → Read? P p.tree r → Number Q (digit_from s p.tree r)
-      go (End e) h = by_test (Number Q) (eqb (hex_of (byte s e)) 16) (λ t. tt) (λ t. f p.tree (hex_of (byte s e)) h (omega (arith, hex_digit_lem (byte s e), eqb-false (hex_of (byte s e)) 16 t)))
-      go (Stop e) h = tt
-      go (Deep e) h = tt
+      go (Ok e) h = by_test (Number Q) (eqb (hex_of (byte s e)) 16) (λ t. tt) (λ t. f p.tree (hex_of (byte s e)) h (omega (arith, hex_digit_lem (byte s e), eqb-false (hex_of (byte s e)) 16 t)))
+      go (Err (Stop e)) h = tt
+      go (Err (Deep e)) h = tt
 
   pub unit_is : (at : ℕ) → Number First (unit_at s at)
   unit_is at =
@@ -274,9 +269,9 @@ module _ (s : List ℕ) where
 
   pub second_from_lem : (r : Read) → Number Second (second_from s r)
   unfolding second_from
-  second_from_lem (End e) = second_is e
-  second_from_lem (Stop e) = tt
-  second_from_lem (Deep e) = tt
+  second_from_lem (Ok e) = second_is e
+  second_from_lem (Err (Stop e)) = tt
+  second_from_lem (Err (Deep e)) = tt
 
   -- a \u escape stands for a character, and not for U+0000
   pub escaped_is : (at : ℕ) → Number Textual (escaped_at s at)
@@ -300,8 +295,8 @@ module _ (s : List ℕ) where
 
   -- ── what a turn adds is UTF-8 ──
   abbrev Adds : ℕ → Next → Type 0
-  Adds at (More e) = (c : ℕ) × (is_textual c ≡ true) × (char_bytes s at e (byte s at) ≡ utf8 c)
-  Adds at (Done r) = Unit
+  Adds at (Continue e) = (c : ℕ) × (is_textual c ≡ true) × (char_bytes s at e (byte s at) ≡ utf8 c)
+  Adds at (Break r) = Unit
 
   unescaped_textual : (c : ℕ) → is_unescaped c ≡ true → is_textual c ≡ true
   unfolding is_unescaped
@@ -315,19 +310,19 @@ module _ (s : List ℕ) where
   adds_plain at n = go (char_by s at (byte s at)) (plain_char s at (eqb-false (byte s at) 92 n))
     where
       go : (q : Next) → PlainNext s at q → Adds at q
-      go (More e) (c, good, le, is) = (c, unescaped_textual c good, rw (char_bytes, n) is)
-      go (Done r) h = tt
+      go (Continue e) (c, good, le, is) = (c, unescaped_textual c good, rw (char_bytes, n) is)
+      go (Break r) h = tt
 
   adds_unit : (at : ℕ) → eqb (byte s at) 92 ≡ true → eqb (byte s (at + 1)) 117 ≡ true → Adds at (going (escaped_at s (at + 2)).read)
   unfolding going char_bytes
   adds_unit at y u = go (escaped_at s (at + 2)).read (escaped_is (at + 2))
     where
       go : (r : Read) → Read? Textual (escaped_at s (at + 2)).tree r → Adds at (going r)
-      go (End e) h = ((escaped_at s (at + 2)).tree, h, rw (char_bytes, y, u))
-      go (Stop e) h = tt
-      go (Deep e) h = tt
+      go (Ok e) h = ((escaped_at s (at + 2)).tree, h, rw (char_bytes, y, u))
+      go (Err (Stop e)) h = tt
+      go (Err (Deep e)) h = tt
 
-  adds_short : (at e : ℕ) → eqb (byte s at) 92 ≡ true → eqb (byte s (at + 1)) 117 ≡ false → eqb (short_of (byte s (at + 1))) 0 ≡ false → Adds at (More e)
+  adds_short : (at e : ℕ) → eqb (byte s at) 92 ≡ true → eqb (byte s (at + 1)) 117 ≡ false → eqb (short_of (byte s (at + 1))) 0 ≡ false → Adds at (Continue e)
   unfolding char_bytes
   adds_short at e y u n =
       let x : ℕ = short_of (byte s (at + 1)) in
@@ -355,8 +350,8 @@ module _ (s : List ℕ) where
   turn_utf8 at = go (char_by s at (byte s at)) (adds_char at)
     where
       go : (q : Next) → Adds at q → is_utf8 (char_adds s at q) ≡ true
-      go (More e) (c, good, is) = rw is (utf8_code c good)
-      go (Done r) h = utf8_none
+      go (Continue e) (c, good, is) = rw is (utf8_code c good)
+      go (Break r) h = utf8_none
 
   body_utf8 : (at : ℕ) → is_utf8 (body_at s at).tree ≡ true
   body_utf8 at = run_closed (λ (l : List ℕ). is_utf8 l ≡ true) (char_turn s) utf8_none utf8_append turn_utf8 (length s) at
@@ -364,12 +359,11 @@ module _ (s : List ℕ) where
   -- every string that is read is UTF-8 without 00
   pub string_utf8 : (at : ℕ) → is_utf8 (string_at s at).tree ≡ true
   unfolding string_at and_then
-  string_utf8 at = go (within_at s 34 34 (End at))
+  string_utf8 at = go (within_at s 34 34 (Ok at))
     where
       go : (r : Read) → is_utf8 (and_then [] (body_at s) r).tree ≡ true
-      go (End e) = body_utf8 e
-      go (Stop e) = utf8_none
-      go (Deep e) = utf8_none
+      go (Ok e) = body_utf8 e
+      go (Err e) = utf8_none
 
   -- and its elements are bytes
   pub string_octets : (at : ℕ) → all octet (string_at s at).tree ≡ true

@@ -1,8 +1,8 @@
 -- A call on a store whose rows are in good order leaves rows in good order, whatever the request. Assumes nothing.
+use Rattle.std.specs.Prelude.{Option, Some, None}
 use mathlib.Core.Path.{◌≡◌, refl}
 use mathlib.Core.Bool.{Bool, true, false}
 use mathlib.Core.List.{List, [], ◌∷◌, ◌++◌}
-use mathlib.Core.Option.{Option, none, some}
 use Prim.Native.Nat.{ℕ, ◌+◌, ◌≤◌}
 use native.Mathlib.Omega.{arith}
 use borrow.Author.Tests.{leb-true}
@@ -79,7 +79,7 @@ module _ (d : Database) (number : ℕ) (rows : List Row) (b : List ℕ) (room : 
   abbrev After : Reply → Type 0
   After r = InOrder d.tables r.rows
 
-  freshly_keeps : (t : List ℕ) (q : Request) → read_request t ≡ some q → After (freshly d.tables number rows (fresh_ids b) room q)
+  freshly_keeps : (t : List ℕ) (q : Request) → read_request t ≡ Some q → After (freshly d.tables number rows (fresh_ids b) room q)
   freshly_keeps t q e = go (ids_good (fresh_ids b) rows) refl
     where
       kept : ids_good (fresh_ids b) rows ≡ true → After (concluded d.tables number rows room (transact_rows d.tables (fresh_ids b) rows q.operations))
@@ -100,5 +100,5 @@ module _ (d : Database) (number : ℕ) (rows : List Row) (b : List ℕ) (room : 
   reply_keeps t = go (read_request t) refl
     where
       go : (q : Option Request) → read_request t ≡ q → After (reply_to d number rows (fresh_ids b) room q)
-      go none e = o
-      go (some q) e = either After (eq_bytes q.name d.name) (freshly_keeps t q e) o
+      go None e = o
+      go (Some q) e = either After (eq_bytes q.name d.name) (freshly_keeps t q e) o

@@ -1,12 +1,13 @@
 -- Every string and every member's name in a tree that is read is UTF-8 without 00, whatever the text. Assumes nothing.
+use Rattle.std.specs.Prelude.{Ok, Err}
+use Rattle.model.specs.declared.ReadError.TheVariants.{Deep}
+use Rattle.model.specs.Scan.{Read}
 use mathlib.Core.Path.{◌≡◌, refl}
 use mathlib.Core.Bool.{Bool, true, ◌&&◌}
 use mathlib.Core.List.{List, [], ◌∷◌}
 use Prim.Native.Nat.{ℕ, zero, suc, ◌+◌}
 use lib.Dec.{eqb}
 use lib.ListN.{length}
-use Rattle.model.specs.declared.Read.{Read}
-use Rattle.model.specs.declared.Read.TheVariants.{End, Stop, Deep}
 use Rattle.model.specs.declared.Open.{Open}
 use Rattle.model.specs.declared.Open.TheVariants.{Array, Object, Scalar}
 use Rattle.model.specs.Base.{all}
@@ -67,19 +68,17 @@ key_utf8 : (s : List ℕ) (at : ℕ) → is_utf8 (key_at s at).tree ≡ true
 unfolding key_at and_then
 key_utf8 s at = go (string_at s (spaces_at s at)).read
   where
-    go : (r : Read) → is_utf8 (and_then [] (λ (e : ℕ). record { read = within_at s 58 58 (End (spaces_at s e)); tree = (string_at s (spaces_at s at)).tree }) r).tree ≡ true
-    go (End e) = string_utf8 s (spaces_at s at)
-    go (Stop e) = utf8_none
-    go (Deep e) = utf8_none
+    go : (r : Read) → is_utf8 (and_then [] (λ (e : ℕ). record { read = within_at s 58 58 (Ok (spaces_at s e)); tree = (string_at s (spaces_at s at)).tree }) r).tree ≡ true
+    go (Ok e) = string_utf8 s (spaces_at s at)
+    go (Err e) = utf8_none
 
 member_good : (p : ℕ → Parsed Json) (s : List ℕ) (at : ℕ) → ((i : ℕ) → texts_good (p i).tree ≡ true) → named_good (member_at p s at).tree ≡ true
 unfolding member_at and_then
 member_good p s at h = go (key_at s at).read
   where
     go : (r : Read) → named_good (and_then (record { name = []; value = null }) (λ (e : ℕ). record { read = (p e).read; tree = record { name = (key_at s at).tree; value = (p e).tree } }) r).tree ≡ true
-    go (End e) = rw (key_utf8 s at) (h e)
-    go (Stop e) = rw utf8_none
-    go (Deep e) = rw utf8_none
+    go (Ok e) = rw (key_utf8 s at) (h e)
+    go (Err e) = rw utf8_none
 
 scalar_good : (s : List ℕ) (at b : ℕ) → texts_good (scalar_by s at b).tree ≡ true
 unfolding scalar_by
@@ -103,7 +102,7 @@ dispatch_good s array object at f g = go (opens (byte s at)) refl
 -- at every level
 pub value_good : (l : ℕ) (s : List ℕ) (at : ℕ) → texts_good (value_at l s at).tree ≡ true
 unfolding value_at
-value_good zero s at = dispatch_good s (λ i. no_value (Deep i)) (λ i. no_value (Deep i)) (spaces_at s at) (λ i. refl) (λ i. refl)
+value_good zero s at = dispatch_good s (λ i. no_value (Err (Deep i))) (λ i. no_value (Err (Deep i))) (spaces_at s at) (λ i. refl) (λ i. refl)
 value_good (suc l) s at =
     dispatch_good s (λ i. array_at (value_at l s) s (i + 1)) (λ i. object_at (value_at l s) s (i + 1)) (spaces_at s at)
     (λ i. items_good_lem (list_at (value_at l s) s 93 (spaces_at s (i + 1))).tree (list_good texts_good (value_at l s) s 93 (spaces_at s (i + 1)) (value_good l s)))
@@ -116,6 +115,5 @@ unfolding text_at and_then
 text_good s = go (value_at 12 s 0).read
   where
     go : (r : Read) → texts_good (and_then null (λ (e : ℕ). record { read = end_at s (spaces_at s e); tree = (value_at 12 s 0).tree }) r).tree ≡ true
-    go (End e) = value_good 12 s 0
-    go (Stop e) = refl
-    go (Deep e) = refl
+    go (Ok e) = value_good 12 s 0
+    go (Err e) = refl

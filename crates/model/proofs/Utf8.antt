@@ -1,9 +1,9 @@
 -- UTF-8: a character's bytes are those of a form of RFC 3629 §4, and a text is UTF-8 exactly when it is characters one after another. Assumes nothing.
+use Rattle.std.specs.Prelude.{Option, Some, None}
 use mathlib.Core.Path.{◌≡◌, refl, sym, ap, subst, ◌∙◌}
 use mathlib.Core.Bool.{Bool, true, false, not, ◌&&◌}
 use mathlib.Core.List.{List, [], ◌∷◌, ◌++◌, append_assoc, append-nil}
 use mathlib.Core.Logic.{◌⊎◌, inl, inr}
-use mathlib.Core.Option.{Option, none, some}
 use Prim.Native.Nat.{ℕ, ◌+◌, ◌-◌, ◌*◌, ◌/◌, ◌%◌, ◌≤◌, ◌<◌}
 use native.Mathlib.Omega.{arith}
 use borrow.Author.Tests.{lt-ltb, le-ltb, ne_eqb, le-leb, lt-leb, ltb-true, ltb-false, leb-true, eqb-false, not-true}
@@ -96,8 +96,8 @@ pub data Lead (b : ℕ) : List Range → Type 0 where
   four_high : b ≡ 244 → Lead b ((128 to 143) ∷ tail ∷ tail ∷ [])
 
 abbrev LeadOf : ℕ → Option (List Range) → Type 0
-LeadOf b none = Unit
-LeadOf b (some xs) = Lead b xs
+LeadOf b None = Unit
+LeadOf b (Some xs) = Lead b xs
 
 lead_of : (b : ℕ) → LeadOf b (rest_of b forms)
 unfolding rest_of
@@ -113,11 +113,11 @@ lead_of b =
     by_test (LeadOf b) (in_range (241 to 243) b) (λ t. four (in_it (241 to 243) t).0 (in_it (241 to 243) t).1) (λ t.
     by_test (LeadOf b) (in_range (244 to 244) b) (λ t. four_high (omega (arith, in_it (244 to 244) t))) (λ t. tt)))))))))
 
-pub lead : (b : ℕ) {xs : List Range} → rest_of b forms ≡ some xs → Lead b xs
+pub lead : (b : ℕ) {xs : List Range} → rest_of b forms ≡ Some xs → Lead b xs
 lead b h = subst (LeadOf b) h (lead_of b)
 
 module _ (b : ℕ) (x : Range) (xs : List Range) (fs : List (List Range)) where
-  here : x.low ≤ b → b ≤ x.high → rest_of b ((x ∷ xs) ∷ fs) ≡ some xs
+  here : x.low ≤ b → b ≤ x.high → rest_of b ((x ∷ xs) ∷ fs) ≡ Some xs
   unfolding rest_of
   here h g = rw (rest_of, in_range_lem x b h g)
 
@@ -129,7 +129,7 @@ module _ (b : ℕ) (x : Range) (xs : List Range) (fs : List (List Range)) where
   unfolding rest_of
   under h = rw (rest_of, under_range x b h)
 
-pub rest_of_lem : {b : ℕ} {xs : List Range} → Lead b xs → rest_of b forms ≡ some xs
+pub rest_of_lem : {b : ℕ} {xs : List Range} → Lead b xs → rest_of b forms ≡ Some xs
 rest_of_lem {b} (one h) = here b _ _ _ (omega arith) h
 rest_of_lem {b} (two h g) = past b _ _ _ (omega arith) ∙ here b _ _ _ h g
 rest_of_lem {b} (three_low e) = past b _ _ _ (omega arith) ∙ past b _ _ _ (omega arith) ∙ here b _ _ _ (omega arith) (omega arith)
@@ -149,11 +149,11 @@ rest_of_lem {b} (four_high e) =
     ∙ past b _ _ _ (omega arith) ∙ past b _ _ _ (omega arith) ∙ here b _ _ _ (omega arith) (omega arith)
 
 -- a byte that no form begins with
-at_end : (b : ℕ) → rest_of b [] ≡ none
+at_end : (b : ℕ) → rest_of b [] ≡ None
 unfolding rest_of
 at_end b = refl
 
-pub no_lead : (b : ℕ) → ((127 < b) × (b < 194)) ⊎ (244 < b) → rest_of b forms ≡ none
+pub no_lead : (b : ℕ) → ((127 < b) × (b < 194)) ⊎ (244 < b) → rest_of b forms ≡ None
 no_lead b (inl h) =
     past b _ _ _ h.0 ∙ under b _ _ _ h.1 ∙ under b _ _ _ (omega (arith, h.1)) ∙ under b _ _ _ (omega (arith, h.1)) ∙ under b _ _ _ (omega (arith, h.1))
     ∙ under b _ _ _ (omega (arith, h.1)) ∙ under b _ _ _ (omega (arith, h.1)) ∙ under b _ _ _ (omega (arith, h.1)) ∙ under b _ _ _ (omega (arith, h.1)) ∙ at_end b
@@ -335,8 +335,8 @@ parted [] (b ∷ t) h = split (eqb b 0) (λ e. absurd (clash false (rw (utf8_fro
         ([], c ∷ cs, done, all_cons is_textual c cs (is_textual_lem c good (λ z. n ((both_zero (first_byte c is)).1 z))) h, ap (λ l. b ∷ l) e ∙ ap (λ l. l ++ encoded cs) (sym is))
 
     go : (o : Option (List Range)) → rest_of b forms ≡ o → eqb b 0 ≡ false → ((ys : List Range) → utf8_from ys t ≡ true → Parted ys t) → Parted [] (b ∷ t)
-    go none q e ih = absurd (clash false (rw (utf8_from, e, q) at h) refl)
-    go (some ys) q e ih =
+    go None q e ih = absurd (clash false (rw (utf8_from, e, q) at h) refl)
+    go (Some ys) q e ih =
         let r = ih ys (rw (utf8_from, e, q) at h) in
         join r.0 r.1 (eqb-false b 0 e) (char_of (lead b q) r.2) r.3 r.4
 parted (x ∷ xs) (b ∷ t) h =

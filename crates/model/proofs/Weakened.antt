@@ -1,8 +1,8 @@
 -- Weak references to absent rows removed: what that keeps, and that none is left. Assumes nothing.
+use Rattle.std.specs.Prelude.{Some}
 use mathlib.Core.Path.{◌≡◌, refl, sym, ◌∙◌, ap}
 use mathlib.Core.Bool.{Bool, true, not, ◌&&◌}
 use mathlib.Core.List.{List, [], ◌∷◌, map}
-use mathlib.Core.Option.{some}
 use Prim.Native.Nat.{ℕ, suc, ◌≤◌}
 use native.Mathlib.Omega.{arith}
 use borrow.Author.Tests.{le-leb, leb-true}
@@ -43,7 +43,7 @@ keep_all p [] h = refl
 keep_all p (a ∷ l) h = rw (all_head p a l h, keep_all p l (all_tail p a l h))
 
 -- the keys of elements are there as the elements are
-keys_all : (w : List Row) (t : ℕ) (l : List (List ℕ)) → all (λ (k : ℕ). has k w) (keys_of (some t) l) ≡ all (present w t) l
+keys_all : (w : List Row) (t : ℕ) (l : List (List ℕ)) → all (λ (k : ℕ). has k w) (keys_of (Some t) l) ≡ all (present w t) l
 keys_all w t l = all_map (λ (a : List ℕ). key_of t (uuid_of a)) (λ (k : ℕ). has k w) (present w t) (λ a. refl) l
 
 keep_passes : {A : Type 0} (p : A → Bool) (l : List A) → all p (keep p l) ≡ true

@@ -1,4 +1,5 @@
 -- Integers as written, and the limits of a column's type, are those of 64 bits. Assumes nothing.
+use Rattle.std.specs.Prelude.{Option, Some, None}
 use mathlib.Core.Path.{◌≡◌, refl}
 use mathlib.Core.List.{List, [], ◌∷◌}
 use mathlib.Core.Bool.{true}
@@ -7,8 +8,6 @@ use native.Mathlib.Omega.{arith}
 use borrow.Author.Tests.{ltb-true, ltb-false, le-leb}
 use lib.Dec.{eqb, ltb}
 use lib.IntN.{ℤ, pos, neg_ℤ}
-use Rattle.model.specs.declared.Digits.{Digits}
-use Rattle.model.specs.declared.Digits.TheVariants.{Size, Bad}
 use Rattle.model.specs.Base.{ascii}
 use Rattle.model.specs.Scan.{is_digit}
 use Rattle.model.specs.Json.{Json, null, bool, num, str, arr, obj, Named}
@@ -21,9 +20,9 @@ use Rattle.model.proofs.Signed.{fits64}
 
 -- ── integers as written are those of 64 bits ──
 -- digits that stand for at most 2 ^ 63
-Most : Digits → Type 0
-Most (Size m) = m ≤ 9223372036854775808
-Most Bad = Unit {0}
+Most : Option ℕ → Type 0
+Most (Some m) = m ≤ 9223372036854775808
+Most None = Unit {0}
 
 sized_most : (acc : ℕ) (bs : List ℕ) → Most (sized acc bs)
 unfolding sized Most
@@ -31,23 +30,23 @@ sized_most acc [] =
     split (ltb 9223372036854775808 acc) (λ e. rw (sized, e) tt) (λ e. rw (sized, e) (ltb-false 9223372036854775808 acc e))
 sized_most acc (b ∷ bs) = split (is_digit b) (λ e. rw (sized, e) (sized_most (acc * 10 + (b - 48)) bs)) (λ e. rw (sized, e) tt)
 
-plus_fits : (d : Digits) → fits64 (whole_int (plus_of d)) ≡ true
+plus_fits : (d : Option ℕ) → fits64 (whole_int (plus_of d)) ≡ true
 unfolding plus_of whole_int
-plus_fits (Size m) =
+plus_fits (Some m) =
     split
     (ltb m 9223372036854775808)
     (λ e. rw (plus_of, e, le-leb m 9223372036854775807 (omega (arith, ltb-true m 9223372036854775808 e))))
     (λ e. rw (plus_of, e))
-plus_fits Bad = refl
+plus_fits None = refl
 
 below_fits : (m : ℕ) → m ≤ 9223372036854775808 → fits64 (neg_ℤ (pos m)) ≡ true
 below_fits zero h = refl
 below_fits (suc m) h = let l : m ≤ 9223372036854775807 = omega arith in rw (le-leb m 9223372036854775807 l)
 
-minus_fits : (d : Digits) → Most d → fits64 (whole_int (minus_of d)) ≡ true
+minus_fits : (d : Option ℕ) → Most d → fits64 (whole_int (minus_of d)) ≡ true
 unfolding minus_of whole_int Most
-minus_fits (Size m) h = split (eqb m 0) (λ e. rw (minus_of, e)) (λ e. rw (minus_of, e) (below_fits m h))
-minus_fits Bad h = refl
+minus_fits (Some m) h = split (eqb m 0) (λ e. rw (minus_of, e)) (λ e. rw (minus_of, e) (below_fits m h))
+minus_fits None h = refl
 
 text_fits_lem : (t : List ℕ) → fits64 (whole_int (whole_text t)) ≡ true
 unfolding whole_text whole_int

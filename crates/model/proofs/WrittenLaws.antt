@@ -1,8 +1,9 @@
 -- Values as written: what is read from a tree whose strings are UTF-8 is made of well-formed atoms, and a value without a fault meets its type. Assumes nothing.
+use Rattle.std.specs.Prelude.{Option, Some, None}
+use Rattle.std.proofs.lemmas.Option.{none-some}
 use mathlib.Core.Path.{◌≡◌, refl}
 use mathlib.Core.Bool.{Bool, true, false, not, ◌&&◌}
 use mathlib.Core.List.{List, [], ◌∷◌}
-use mathlib.Core.Option.{Option, none, some, none-ne-some}
 use Prim.Native.Nat.{ℕ, ◌≤◌}
 use native.Mathlib.Omega.{arith}
 use borrow.Author.Tests.{leb-true, ltb-false, not-true}
@@ -32,13 +33,13 @@ use Rattle.model.proofs.Utf8.{utf8_octets}
 use Rattle.model.proofs.FaultLaws.{check_fine, check_true}
 
 -- what there is, of an option that another one gives
-pub then_some : {A B : Type 0} (o : Option A) (f : A → Option B) (b : B) → elim o [ none ↦ none | some a ↦ f a ] ≡ some b → (a : A) × (o ≡ some a) × (f a ≡ some b)
-then_some none f b e = absurd (none-ne-some b e)
-then_some (some a) f b e = (a, refl, e)
+pub then_some : {A B : Type 0} (o : Option A) (f : A → Option B) (b : B) → elim o [ None ↦ None | Some a ↦ f a ] ≡ Some b → (a : A) × (o ≡ Some a) × (f a ≡ Some b)
+then_some None f b e = absurd (none-some b e)
+then_some (Some a) f b e = (a, refl, e)
 
-pub when_some : {A : Type 0} (t : Bool) (o : Option A) (a : A) → elim t [ true ↦ o | false ↦ none ] ≡ some a → (t ≡ true) × (o ≡ some a)
+pub when_some : {A : Type 0} (t : Bool) (o : Option A) (a : A) → elim t [ true ↦ o | false ↦ None ] ≡ Some a → (t ≡ true) × (o ≡ Some a)
 when_some true o a e = (refl, e)
-when_some false o a e = absurd (none-ne-some a e)
+when_some false o a e = absurd (none-some a e)
 
 -- what holds of both sides of a choice
 pub either : {A : Type 0} (P : A → Type 0) (b : Bool) {x y : A} → P x → P y → P (elim b [ true ↦ x | false ↦ y ])
@@ -50,7 +51,7 @@ either P false f g = g
 abbrev pub named_good : Named → Bool
 named_good m = texts_good m.value
 
-pub string_good : (j : Json) (t : List ℕ) → texts_good j ≡ true → string_in j ≡ some t → is_utf8 t ≡ true
+pub string_good : (j : Json) (t : List ℕ) → texts_good j ≡ true → string_in j ≡ Some t → is_utf8 t ≡ true
 string_good null t h e = cc
 string_good (bool b) t h e = cc
 string_good (num s) t h e = cc
@@ -63,7 +64,7 @@ unfolding list_of
 items_good_lem nothing h = refl
 items_good_lem (item j xs) h = all_cons texts_good j (list_of xs) (and_l (texts_good j) (items_good xs) h) (items_good_lem xs (and_r (texts_good j) (items_good xs) h))
 
-pub array_good : (j : Json) (l : List Json) → texts_good j ≡ true → array_in j ≡ some l → all texts_good l ≡ true
+pub array_good : (j : Json) (l : List Json) → texts_good j ≡ true → array_in j ≡ Some l → all texts_good l ≡ true
 array_good null l h e = cc
 array_good (bool b) l h e = cc
 array_good (num s) l h e = cc
@@ -78,7 +79,7 @@ members_good_lem (member w j ms) h =
     let g : (texts_good j && members_good ms) ≡ true = and_r (is_utf8 w) (texts_good j && members_good ms) h in
     all_cons named_good (record { name = w; value = j }) (named_of ms) (and_l (texts_good j) (members_good ms) g) (members_good_lem ms (and_r (texts_good j) (members_good ms) g))
 
-pub object_good : (j : Json) (l : List Named) → texts_good j ≡ true → object_in j ≡ some l → all named_good l ≡ true
+pub object_good : (j : Json) (l : List Named) → texts_good j ≡ true → object_in j ≡ Some l → all named_good l ≡ true
 object_good null l h e = cc
 object_good (bool b) l h e = cc
 object_good (num s) l h e = cc
@@ -93,16 +94,16 @@ last_good w d [] g h = g
 last_good w d (m ∷ ms) g h =
     last_good w (named_or w d m) ms (split (eq_bytes m.name w) (λ e. rw (named_or, e) (all_head named_good m ms h)) (λ e. rw (named_or, e) g)) (all_tail named_good m ms h)
 
-pub find_good : (w : List ℕ) (ms : List Named) (j : Json) → all named_good ms ≡ true → member_named w ms ≡ some j → texts_good j ≡ true
+pub find_good : (w : List ℕ) (ms : List Named) (j : Json) → all named_good ms ≡ true → member_named w ms ≡ Some j → texts_good j ≡ true
 unfolding last_of
 find_good w ms j h e =
-    let p = when_some (has_member w ms) (some (last_of w ms)) j e in
+    let p = when_some (has_member w ms) (Some (last_of w ms)) j e in
     let q : last_of w ms ≡ j = cc p.1 in
     rw (← q) (last_good w null ms refl h)
 
 -- a member read as something, from a good tree
-pub member_good : {A : Type 0} (read : Json → Option A) (w : List ℕ) (ms : List Named) (a : A) → all named_good ms ≡ true → member_as read w ms ≡ some a
-    → (j : Json) × (texts_good j ≡ true) × (read j ≡ some a)
+pub member_good : {A : Type 0} (read : Json → Option A) (w : List ℕ) (ms : List Named) (a : A) → all named_good ms ≡ true → member_as read w ms ≡ Some a
+    → (j : Json) × (texts_good j ≡ true) × (read j ≡ Some a)
 member_good read w ms a h e =
     let p = then_some (member_named w ms) read a e in
     (p.0, find_good w ms p.0 h p.1, p.2)
@@ -114,9 +115,9 @@ elements_good j h = go (array_in j) refl
     one : all texts_good (j ∷ []) ≡ true
     one = rw h
 
-    set : (b : Json) → texts_good b ≡ true → (o : Option (List Json)) → array_in b ≡ o → all texts_good (elim o [ none ↦ j ∷ [] | some l ↦ l ]) ≡ true
-    set b g none e = one
-    set b g (some l) e = array_good b l g e
+    set : (b : Json) → texts_good b ≡ true → (o : Option (List Json)) → array_in b ≡ o → all texts_good (elim o [ None ↦ j ∷ [] | Some l ↦ l ]) ≡ true
+    set b g None e = one
+    set b g (Some l) e = array_good b l g e
 
     several : (l : List Json) → all texts_good l ≡ true → all texts_good (elements_of j l) ≡ true
     several [] g = one
@@ -124,39 +125,39 @@ elements_good j h = go (array_in j) refl
     several (a ∷ b ∷ []) g = either (λ (l : List Json). all texts_good l ≡ true) (is_word (ascii "set") a) (set b (all_head texts_good b [] (all_tail texts_good a (b ∷ []) g)) (array_in b) refl) one
     several (a ∷ b ∷ c ∷ l) g = one
 
-    go : (o : Option (List Json)) → array_in j ≡ o → all texts_good (elim o [ none ↦ j ∷ [] | some l ↦ elements_of j l ]) ≡ true
-    go none e = one
-    go (some l) e = several l (array_good j l h e)
+    go : (o : Option (List Json)) → array_in j ≡ o → all texts_good (elim o [ None ↦ j ∷ [] | Some l ↦ elements_of j l ]) ≡ true
+    go None e = one
+    go (Some l) e = several l (array_good j l h e)
 
 -- an atom as written that is not too long is well formed
-pub atom_well : (names : Names) (k : Base) (j : Json) (a : List ℕ) → texts_good j ≡ true → atom_in names k j ≡ some a → long_atom k a ≡ false → (byte_atom a ≡ true) × (well_atom k a ≡ true)
+pub atom_well : (names : Names) (k : Base) (j : Json) (a : List ℕ) → texts_good j ≡ true → atom_in names k j ≡ Some a → long_atom k a ≡ false → (byte_atom a ≡ true) × (well_atom k a ≡ true)
 atom_well names integer j a h e n =
-    let p = when_some (is_whole (whole_of j)) (some (int_atom (whole_int (whole_of j)))) a e in
+    let p = when_some (is_whole (whole_of j)) (Some (int_atom (whole_int (whole_of j)))) a e in
     let q : int_atom (whole_int (whole_of j)) ≡ a = cc p.1 in
     rw (← q) (int_atom_atom (whole_int (whole_of j)), int_atom_well (whole_int (whole_of j)))
 atom_well names boolean j a h e n =
-    let p = then_some (bool_in j) (λ (b : Bool). some (bool_atom b)) a e in
+    let p = then_some (bool_in j) (λ (b : Bool). Some (bool_atom b)) a e in
     let q : bool_atom p.0 ≡ a = cc p.2 in
     rw (← q) (bool_atom_atom p.0, bool_atom_well p.0)
 atom_well names text j a h e n =
-    let p = then_some (string_in j) (λ (t : List ℕ). some (text_atom t)) a e in
+    let p = then_some (string_in j) (λ (t : List ℕ). Some (text_atom t)) a e in
     let q : text_atom p.0 ≡ a = cc p.2 in
     let u : is_utf8 p.0 ≡ true = string_good j p.0 h p.1 in
     let m : long_atom text (text_atom p.0) ≡ false = rw (← q) at n in
     let l : length p.0 ≤ 24 = ltb-false 24 (length p.0) m in
     rw (← q) (text_atom_atom p.0 l (utf8_octets p.0 u), text_atom_well p.0 l u)
 atom_well names uuid j a h e n =
-    let p = then_some (uuid_in names j) (λ (i : ℕ). some (uuid_atom i)) a e in
+    let p = then_some (uuid_in names j) (λ (i : ℕ). Some (uuid_atom i)) a e in
     let q : uuid_atom p.0 ≡ a = cc p.2 in
     rw (← q) (uuid_atom_atom p.0, uuid_atom_well p.0)
 
-pub atoms_well : (names : Names) (k : Base) (js : List Json) (l : List (List ℕ)) → all texts_good js ≡ true → atoms_in names k js ≡ some l → any (long_atom k) l ≡ false → AtomsOf k l
+pub atoms_well : (names : Names) (k : Base) (js : List Json) (l : List (List ℕ)) → all texts_good js ≡ true → atoms_in names k js ≡ Some l → any (long_atom k) l ≡ false → AtomsOf k l
 atoms_well names k [] l h e n =
     let q : ◌≡◌ {A = List (List ℕ)} [] l = cc in
     rw (← q) (atoms_none k)
 atoms_well names k (j ∷ js) l h e n =
-    let p = then_some (atom_in names k j) (λ (a : List ℕ). elim (atoms_in names k js) [ none ↦ none | some r ↦ some (a ∷ r) ]) l e in
-    let r = then_some (atoms_in names k js) (λ (r : List (List ℕ)). some (p.0 ∷ r)) l p.2 in
+    let p = then_some (atom_in names k j) (λ (a : List ℕ). elim (atoms_in names k js) [ None ↦ None | Some r ↦ Some (a ∷ r) ]) l e in
+    let r = then_some (atoms_in names k js) (λ (r : List (List ℕ)). Some (p.0 ∷ r)) l p.2 in
     let q : p.0 ∷ r.0 ≡ l = cc r.2 in
     let m : any (long_atom k) (p.0 ∷ r.0) ≡ false = rw (← q) at n in
     let w = atom_well names k j p.0 (all_head texts_good j js h) p.1 (or_l (long_atom k p.0) (any (long_atom k) r.0) m) in
@@ -171,10 +172,10 @@ pub written_well : (names : Names) (k : Base) (judge : List (List ℕ) → Fault
 written_well names k judge j h = go (atoms_in names k (elements_in j)) refl
   where
     go : (o : Option (List (List ℕ))) → atoms_in names k (elements_in j) ≡ o
-        → let w : Judged (List (List ℕ)) = elim o [ none ↦ record { fault = Syntax; got = [] } | some l ↦ record { fault = judge l; got = l } ] in
+        → let w : Judged (List (List ℕ)) = elim o [ None ↦ record { fault = Syntax; got = [] } | Some l ↦ record { fault = judge l; got = l } ] in
         is_fine w.fault ≡ true → Wrote k judge w.got
-    go none e f = absurd (clash false f refl)
-    go (some l) e f = record { judged = f; atoms = atoms_well names k (elements_in j) l (elements_good j h) e }
+    go None e f = absurd (clash false f refl)
+    go (Some l) e f = record { judged = f; atoms = atoms_well names k (elements_in j) l (elements_good j h) e }
 
 -- what fits is few and not long
 pub fitting_parts : (c : Column) (l : List (List ℕ)) → fitting c l ≡ true → (length l ≤ 4) × (any (long_atom c.base) l ≡ false)

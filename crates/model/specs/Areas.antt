@@ -1,7 +1,6 @@
 -- The bytes of a store's and a mirror's area, and when they are in good order (document 01, "the area keeps the schema"; "Good order, for a store: .."). An area in good order
 -- is exactly the encoding of one state (reading 16). Assumes nothing: these are definitions.
-use Rattle.std.specs.Prelude.{ℕ, zero, suc, ◌+◌, ◌-◌, ◌*◌, ◌^◌, Bool, true, false, not, ◌&&◌, ◌||◌, List, [], ◌∷◌, ◌++◌, map, eqb, ltb, leb, length, get_or, take, drop, replicate}
-use Rattle.std.proofs.Math.Option.{Option, none, some}
+use Rattle.std.specs.Prelude.{ℕ, zero, suc, ◌+◌, ◌-◌, ◌*◌, ◌^◌, Bool, true, false, not, ◌&&◌, ◌||◌, List, [], ◌∷◌, ◌++◌, map, eqb, ltb, leb, length, get_or, take, drop, replicate, Option, Some, None}
 use Rattle.model.specs.Octets.{big, value, part, chunks, eq_bytes}
 use Rattle.model.specs.Limits.{most_columns, most_rows, most_elements, number_bytes, id_bytes, id_offset, counts_offset, row_cell_count, row_bytes, entry_bytes, entry_count, run_offset, number_offset, catalog_offset, count_offset, rows_offset, store_bytes}
 use Rattle.model.specs.Base.{all, every, flat}
@@ -139,7 +138,7 @@ head_tests st = sane st.database ∷ ltb st.run (256 ^ number_bytes) ∷ ltb st.
 -- an area in good order is the encoding of a state that passes a test: that state, or none
 module _ {S : Type 0} (encode : S → List ℕ) (decode : List ℕ → S) (good : S → Bool) where
   abbrev pub state_of : List ℕ → Option S
-  state_of a = elim (eq_bytes (encode (decode a)) a && good (decode a)) [ true ↦ some (decode a) | false ↦ none ]
+  state_of a = elim (eq_bytes (encode (decode a)) a && good (decode a)) [ true ↦ Some (decode a) | false ↦ None ]
 
 -- "Good order, for a store: .. every value is canonical and meets its type, and every commit rule below holds"
 unfoldable pub store_good : Store → Bool

@@ -1,6 +1,5 @@
 -- Small things that every part of the model uses: a choice, and tests over lists. Assumes nothing: these are definitions.
-use Rattle.std.specs.Prelude.{ℕ, zero, suc, Bool, true, false, not, ◌&&◌, ◌||◌, List, [], ◌∷◌, ◌++◌, cond}
-use Rattle.std.proofs.Math.Option.{Option, none, some}
+use Rattle.std.specs.Prelude.{ℕ, zero, suc, Bool, true, false, not, ◌&&◌, ◌||◌, List, [], ◌∷◌, ◌++◌, cond, Option, Some, None}
 use Prim.Native.String as Str
 use Prim.Native.String.{String}
 use Prim.Native.Char.{code}
@@ -45,17 +44,17 @@ distinct (a ∷ l) = not (member a l) && distinct l
 
 -- the place of a byte string among others, from 0
 abbrev pub place_of : List ℕ → List (List ℕ) → Option ℕ
-place_of w [] = none
-place_of w (x ∷ xs) = elim (eq_bytes w x) [ true ↦ some 0 | false ↦ elim (place_of w xs) [ none ↦ none | some k ↦ some (suc k) ] ]
+place_of w [] = None
+place_of w (x ∷ xs) = elim (eq_bytes w x) [ true ↦ Some 0 | false ↦ elim (place_of w xs) [ None ↦ None | Some k ↦ Some (suc k) ] ]
 
 abbrev pub is_some : {A : Type 0} → Option A → Bool
-is_some none = false
-is_some (some a) = true
+is_some None = false
+is_some (Some a) = true
 
 -- the element at a place
 abbrev pub nth : {A : Type 0} → List A → ℕ → Option A
-nth [] k = none
-nth (a ∷ l) zero = some a
+nth [] k = None
+nth (a ∷ l) zero = Some a
 nth (a ∷ l) (suc k) = nth l k
 
 -- byte strings one after another

@@ -1,8 +1,7 @@
 -- The public calls, from all that a call is given to all that it leaves: its status, and every area and buffer. Assumes nothing: these are definitions.
 -- "Refusals are checked in this order": 2, 1, 3, 4, 5, 6, 7, 10, 8, 9. "Each leaves store and mirror areas as they were and zeroes every other buffer written to.
 -- In an accepted call, bytes beyond what was written are zero."
-use Rattle.std.specs.Prelude.{ℕ, ◌+◌, Bool, true, false, List, [], ◌∷◌, map, eqb, leb, length, replicate}
-use Rattle.std.proofs.Math.Option.{Option, none, some}
+use Rattle.std.specs.Prelude.{ℕ, ◌+◌, Bool, true, false, List, [], ◌∷◌, map, eqb, leb, length, replicate, Option, Some, None}
 use Rattle.model.specs.Octets.{value, filled}
 use Rattle.model.specs.Limits.{store_bytes, mirror_bytes, fresh_bytes, least_records, least_answer, least_mark}
 use Rattle.model.specs.Base.{every, flat}
@@ -28,7 +27,7 @@ pub record Started : Type 0 where
 abbrev pub start_as : ℕ → List ℕ → List ℕ → (Database → List ℕ) → Started
 start_as bytes area schema made =
     elim (eqb (length area) bytes) [
-      | true ↦ elim (read_schema schema) [ none ↦ record { status = BadSchema; area = area } | some d ↦ record { status = Accepted; area = made d } ]
+      | true ↦ elim (read_schema schema) [ None ↦ record { status = BadSchema; area = area } | Some d ↦ record { status = Accepted; area = made d } ]
       | false ↦ record { status = WrongLength; area = area }
     ]
 
@@ -85,8 +84,8 @@ abbrev pub reply_of : Store → List ℕ → List ℕ → ℕ → Reply
 reply_of st request fresh room = reply st.database st.number st.rows request fresh room
 
 abbrev pub transact_on : List ℕ → List ℕ → List ℕ → List ℕ → List ℕ → Option Store → Transacted
-transact_on area request fresh records text none = transact_refused Disordered area records text
-transact_on area request fresh records text (some st) = transact_replied area records text st (reply_of st request fresh (length text))
+transact_on area request fresh records text None = transact_refused Disordered area records text
+transact_on area request fresh records text (Some st) = transact_replied area records text st (reply_of st request fresh (length text))
 
 unfoldable pub store_transact : List ℕ → List ℕ → List ℕ → List ℕ → List ℕ → Transacted
 store_transact area request fresh records text =
@@ -101,8 +100,8 @@ pub record Marked : Type 0 where
   pub mark : List ℕ
 
 abbrev pub mark_on : List ℕ → Option Store → Marked
-mark_on out none = record { status = Disordered; mark = zeroed out }
-mark_on out (some st) = record { status = Accepted; mark = filled (length out) (encode (mark st.run st.number)) }
+mark_on out None = record { status = Disordered; mark = zeroed out }
+mark_on out (Some st) = record { status = Accepted; mark = filled (length out) (encode (mark st.run st.number)) }
 
 unfoldable pub store_mark : List ℕ → List ℕ → Marked
 store_mark area out =
@@ -127,8 +126,8 @@ hear_step area m x =
     ]
 
 abbrev pub hear_on : List ℕ → List ℕ → Option MirrorState → Arrived
-hear_on area x none = record { status = Disordered; area = area }
-hear_on area x (some m) = hear_step area m (step m.database.tables m.run m.mirror x)
+hear_on area x None = record { status = Disordered; area = area }
+hear_on area x (Some m) = hear_step area m (step m.database.tables m.run m.mirror x)
 
 unfoldable pub mirror_hear : List ℕ → List ℕ → Arrived
 mirror_hear area x = elim (eqb (length area) mirror_bytes) [ true ↦ hear_on area x (mirror_of area) | false ↦ record { status = WrongLength; area = area } ]
@@ -136,7 +135,7 @@ mirror_hear area x = elim (eqb (length area) mirror_bytes) [ true ↦ hear_on ar
 -- ── questions: "Asked between arrivals, it tells n, whether it is level, by table and id whether the row is there, and by table, id and column the count and atoms" ──
 -- a question is answered by a mirror in good order, and refused else
 abbrev pub asked : {A : Type 0} → List ℕ → (Status → A) → (Mirror → A) → A
-asked area refuse ask = elim (eqb (length area) mirror_bytes) [ true ↦ elim (mirror_of area) [ none ↦ refuse Disordered | some m ↦ ask m.mirror ] | false ↦ refuse WrongLength ]
+asked area refuse ask = elim (eqb (length area) mirror_bytes) [ true ↦ elim (mirror_of area) [ None ↦ refuse Disordered | Some m ↦ ask m.mirror ] | false ↦ refuse WrongLength ]
 
 pub record Progress : Type 0 where
   pub status : Status

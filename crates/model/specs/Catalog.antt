@@ -1,7 +1,6 @@
 -- The catalog: a schema as read, in entries of 48 bytes, as an area keeps it (document 01, "the area keeps the schema"). Entry 0 is the database, entries 1 to 4 its tables, entry
 -- 5 + 6 t + c column c of table t. Assumes nothing: these are definitions.
-use Rattle.std.specs.Prelude.{ℕ, zero, suc, ◌+◌, ◌-◌, ◌*◌, Bool, true, false, List, [], ◌∷◌, ◌++◌, map, eqb, length, get_or, take, drop, replicate}
-use Rattle.std.proofs.Math.Option.{Option, none, some}
+use Rattle.std.specs.Prelude.{ℕ, zero, suc, ◌+◌, ◌-◌, ◌*◌, Bool, true, false, List, [], ◌∷◌, ◌++◌, map, eqb, length, get_or, take, drop, replicate, Option, Some, None}
 use Rattle.model.specs.Octets.{big, value, twos, part}
 use Rattle.model.specs.Limits.{most_tables, most_columns, most_indexes, most_index_columns, most_text_bytes, atom_bytes, entry_bytes}
 use Rattle.model.specs.Base.{is_some, flat}
@@ -102,7 +101,7 @@ abbrev pub indexes_from : List ℕ → List (List ℕ)
 indexes_from entry = take (get_or entry indexes_offset 0) (index_from entry first_index_offset ∷ index_from entry second_index_offset ∷ [])
 
 abbrev pub max_rows_from : List ℕ → Option ℕ
-max_rows_from entry = elim (is_set entry limited_offset) [ true ↦ some (value (part max_rows_offset 8 entry)) | false ↦ none ]
+max_rows_from entry = elim (is_set entry limited_offset) [ true ↦ Some (value (part max_rows_offset 8 entry)) | false ↦ None ]
 
 -- how many columns table t has, and how many tables there are
 abbrev pub column_count : List (List ℕ) → ℕ → ℕ
@@ -161,8 +160,8 @@ abbrev pub index_bytes : List ℕ → List ℕ
 index_bytes l = length l ∷ l ++ replicate (most_index_columns - length l) 0
 
 abbrev pub number_or0 : Option ℕ → ℕ
-number_or0 none = 0
-number_or0 (some k) = k
+number_or0 None = 0
+number_or0 (Some k) = k
 
 abbrev pub table_entry : Table → List ℕ
 table_entry t =

@@ -1,7 +1,7 @@
 -- What RFC 3629 and RFC 4627 say of a character's bytes, as statements of the definitions that read texts. Assumes nothing: these are definitions.
+use Rattle.std.specs.Prelude.{Ok}
+use Rattle.std.specs.declared.ops.ControlFlow.TheVariants.{Continue}
 use Rattle.std.specs.Prelude.{ℕ, ◌+◌, ◌*◌, ◌≤◌, ◌<◌, ◌≡◌, Bool, true, false, not, ◌&&◌, List, [], ◌∷◌, ◌++◌, ◌↔◌, eqb, length}
-use Rattle.model.specs.declared.Read.TheVariants.{End}
-use Rattle.model.specs.declared.Next.TheVariants.{More}
 use Rattle.model.specs.Base.{all}
 use Rattle.model.specs.Scan.{byte, between}
 use Rattle.model.specs.Strings.{is_second_half, is_character, utf8, hex_of, unit_at, second_at, is_unescaped, char_by, char_bytes}
@@ -21,12 +21,12 @@ is_textual c = is_character c && not (eqb c 0)
 abbrev pub CharacterBytes : Type 0
 CharacterBytes =
     (s : List ℕ) (at e : ℕ)
-    → ((char_by s at (byte s at) ≡ More e) × (byte s at ≡ 92 → ⊥)) ↔ ((c : ℕ) × (is_unescaped c ≡ true) × (e ≤ length s) × (between s at e ≡ utf8 c))
+    → ((char_by s at (byte s at) ≡ Continue e) × (byte s at ≡ 92 → ⊥)) ↔ ((c : ℕ) × (is_unescaped c ≡ true) × (e ≤ length s) × (between s at e ≡ utf8 c))
 
 -- and every character of a string, an escape too, stands for the bytes of one character
 abbrev pub CharacterMeant : Type 0
 CharacterMeant =
-    (s : List ℕ) (at e : ℕ) → char_by s at (byte s at) ≡ More e → (c : ℕ) × (is_textual c ≡ true) × (char_bytes s at e (byte s at) ≡ utf8 c)
+    (s : List ℕ) (at e : ℕ) → char_by s at (byte s at) ≡ Continue e → (c : ℕ) × (is_textual c ≡ true) × (char_bytes s at e (byte s at) ≡ utf8 c)
 
 -- four hexadecimal digits, and their number
 abbrev pub Digits : List ℕ → ℕ → Type 0
@@ -39,13 +39,13 @@ digits_number s at = 4096 * hex_of (byte s at) + 256 * hex_of (byte s (at + 1)) 
 abbrev pub UnitDigits : Type 0
 UnitDigits =
     (s : List ℕ) (at e v : ℕ)
-    → (unit_at s at ≡ record { read = End e; tree = v }) ↔ (Digits s at × (e ≡ at + 4) × (v ≡ digits_number s at) × (0 < v) × (is_second_half v ≡ false))
+    → (unit_at s at ≡ record { read = Ok e; tree = v }) ↔ (Digits s at × (e ≡ at + 4) × (v ≡ digits_number s at) × (0 < v) × (is_second_half v ≡ false))
 
 -- and those of a second half exactly where theirs is one
 abbrev pub SecondDigits : Type 0
 SecondDigits =
     (s : List ℕ) (at e w : ℕ)
-    → (second_at s at ≡ record { read = End e; tree = w }) ↔ (Digits s at × (e ≡ at + 4) × (w ≡ digits_number s at) × (is_second_half w ≡ true))
+    → (second_at s at ≡ record { read = Ok e; tree = w }) ↔ (Digits s at × (e ≡ at + 4) × (w ≡ digits_number s at) × (is_second_half w ≡ true))
 
 -- RFC 3629: a text is UTF-8 without 00 exactly when it is the bytes of characters other than U+0000
 abbrev pub Utf8Bytes : Type 0

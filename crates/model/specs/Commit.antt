@@ -1,6 +1,5 @@
 -- What happens at the commit: four steps. Assumes nothing: these are definitions.
-use Rattle.std.specs.Prelude.{ℕ, zero, suc, Bool, true, false, not, ◌&&◌, List, [], ◌∷◌, ◌++◌, map, eqb, leb, length}
-use Rattle.std.proofs.Math.Option.{Option, none, some}
+use Rattle.std.specs.Prelude.{ℕ, zero, suc, Bool, true, false, not, ◌&&◌, List, [], ◌∷◌, ◌++◌, map, eqb, leb, length, Option, Some, None}
 use Rattle.model.specs.Base.{any, all, keep, every}
 use Rattle.model.specs.Schema.{Refers, plain, strong, weak, Column, Table, Schema, columns_of, is_root}
 use Rattle.model.specs.Value.{Value, same_value, elements, value_of, uuid_of}
@@ -10,8 +9,8 @@ use Rattle.model.specs.declared.Fault.TheVariants.{Fine, Constraint, Integrity}
 
 -- the keys of the rows that the elements of a column refer to
 abbrev pub keys_of : Option ℕ → List (List ℕ) → List ℕ
-keys_of none l = []
-keys_of (some t) l = map (λ (a : List ℕ). key_of t (uuid_of a)) l
+keys_of None l = []
+keys_of (Some t) l = map (λ (a : List ℕ). key_of t (uuid_of a)) l
 
 abbrev pub targets : (Refers → Option ℕ) → List Column → List Value → List ℕ
 targets which [] vs = []
@@ -19,14 +18,14 @@ targets which (c ∷ cs) [] = []
 targets which (c ∷ cs) (v ∷ vs) = keys_of (which c.refers) (elements v) ++ targets which cs vs
 
 abbrev pub strongly : Refers → Option ℕ
-strongly plain = none
-strongly (strong t) = some t
-strongly (weak t) = none
+strongly plain = None
+strongly (strong t) = Some t
+strongly (weak t) = None
 
 abbrev pub weakly : Refers → Option ℕ
-weakly plain = none
-weakly (strong t) = none
-weakly (weak t) = some t
+weakly plain = None
+weakly (strong t) = None
+weakly (weak t) = Some t
 
 abbrev pub strong_of : Schema → Row → List ℕ
 strong_of s r = targets strongly (columns_of s r.table) r.columns
@@ -43,13 +42,13 @@ abbrev pub loose : Schema → List Row → Row → Bool
 loose s rows r = not (is_root s r.table) && not (any (λ (q : Row). not (eqb (key q) (key r)) && any (eqb (key r)) (strong_of s q)) rows)
 
 abbrev pub first_loose : Schema → List Row → List Row → Option ℕ
-first_loose s rows [] = none
-first_loose s rows (r ∷ rs) = elim (loose s rows r) [ true ↦ some (key r) | false ↦ first_loose s rows rs ]
+first_loose s rows [] = None
+first_loose s rows (r ∷ rs) = elim (loose s rows r) [ true ↦ Some (key r) | false ↦ first_loose s rows rs ]
 
 -- n bounds how often: each turn takes one row away
 abbrev pub collect : Schema → ℕ → List Row → List Row
 collect s zero rows = rows
-collect s (suc n) rows = elim (first_loose s rows rows) [ none ↦ rows | some k ↦ collect s n (remove k rows) ]
+collect s (suc n) rows = elim (first_loose s rows rows) [ None ↦ rows | Some k ↦ collect s n (remove k rows) ]
 
 -- 3. "Weak references to absent rows are removed"
 abbrev pub present : List Row → ℕ → List ℕ → Bool
@@ -88,8 +87,8 @@ unique index [] = true
 unique index (r ∷ rs) = not (any (same_at index r) rs) && unique index rs
 
 abbrev pub not_over : Option ℕ → ℕ → Bool
-not_over none n = true
-not_over (some m) n = leb n m
+not_over None n = true
+not_over (Some m) n = leb n m
 
 abbrev pub table_good : Table → List Row → Bool
 table_good x rows = not_over x.max_rows (length rows) && all (λ (index : List ℕ). unique index rows) x.indexes

@@ -1,6 +1,5 @@
 -- Conditions: [column, function, value] (RFC 7047, 5.1), and the rows that meet them. Assumes nothing: these are definitions.
-use Rattle.std.specs.Prelude.{ℕ, Bool, true, false, not, ◌&&◌, ◌||◌, List, [], ◌∷◌, eqb, ℤ, pos, get_or, if◌then◌else◌}
-use Rattle.std.proofs.Math.Option.{Option, none, some}
+use Rattle.std.specs.Prelude.{ℕ, Bool, true, false, not, ◌&&◌, ◌||◌, List, [], ◌∷◌, eqb, ℤ, pos, get_or, if◌then◌else◌, Option, Some, None}
 use Rattle.std.specs.Int.Signed.{lt_z, le_z}
 use Rattle.model.specs.Octets.{eq_bytes}
 use Rattle.model.specs.Base.{any, all, member, eq_lists, ascii, nth}
@@ -21,19 +20,19 @@ pub record Triple : Type 0 where
   pub value : Json
 
 abbrev pub triple_of : Option (List ℕ) → Option (List ℕ) → Json → Option Triple
-triple_of none w v = none
-triple_of (some n) none v = none
-triple_of (some n) (some w) v = some (record { name = n; word = w; value = v })
+triple_of None w v = None
+triple_of (Some n) None v = None
+triple_of (Some n) (Some w) v = Some (record { name = n; word = w; value = v })
 
 abbrev pub triple_items : List Json → Option Triple
-triple_items [] = none
-triple_items (a ∷ []) = none
-triple_items (a ∷ b ∷ []) = none
+triple_items [] = None
+triple_items (a ∷ []) = None
+triple_items (a ∷ b ∷ []) = None
 triple_items (a ∷ b ∷ c ∷ []) = triple_of (string_in a) (string_in b) c
-triple_items (a ∷ b ∷ c ∷ d ∷ l) = none
+triple_items (a ∷ b ∷ c ∷ d ∷ l) = None
 
 abbrev pub triple_in : Json → Option Triple
-triple_in j = elim (array_in j) [ none ↦ none | some l ↦ triple_items l ]
+triple_in j = elim (array_in j) [ None ↦ None | Some l ↦ triple_items l ]
 
 -- a column and its place in the table; "_uuid" is a uuid scalar that has none (reading 21)
 pub record Subject : Type 0 where
@@ -54,28 +53,28 @@ id_column =
     }
 
 abbrev pub place_subject : List Column → Option ℕ → Option Subject
-place_subject cs none = none
-place_subject cs (some k) = elim (nth cs k) [ none ↦ none | some c ↦ some (record { place = some k; column = c }) ]
+place_subject cs None = None
+place_subject cs (Some k) = elim (nth cs k) [ None ↦ None | Some c ↦ Some (record { place = Some k; column = c }) ]
 
 abbrev pub subject_named : List Column → List ℕ → Option Subject
-subject_named cs w = elim (eq_bytes w (ascii "_uuid")) [ true ↦ some (record { place = none; column = id_column }) | false ↦ place_subject cs (column_named cs w) ]
+subject_named cs w = elim (eq_bytes w (ascii "_uuid")) [ true ↦ Some (record { place = None; column = id_column }) | false ↦ place_subject cs (column_named cs w) ]
 
 abbrev pub subject_value : Option ℕ → Row → Value
-subject_value none r = value_of (uuid_atom r.id ∷ [])
-subject_value (some k) r = column_value r k
+subject_value None r = value_of (uuid_atom r.id ∷ [])
+subject_value (Some k) r = column_value r k
 
 -- the function of a word
 abbrev pub function_named : List ℕ → Option Function
 function_named w =
-    if eq_bytes w (ascii "<") then some Less
-    else if eq_bytes w (ascii "<=") then some AtMost
-    else if eq_bytes w (ascii "==") then some Equal
-    else if eq_bytes w (ascii "!=") then some Unequal
-    else if eq_bytes w (ascii ">=") then some AtLeast
-    else if eq_bytes w (ascii ">") then some Greater
-    else if eq_bytes w (ascii "includes") then some Includes
-    else if eq_bytes w (ascii "excludes") then some Excludes
-    else none
+    if eq_bytes w (ascii "<") then Some Less
+    else if eq_bytes w (ascii "<=") then Some AtMost
+    else if eq_bytes w (ascii "==") then Some Equal
+    else if eq_bytes w (ascii "!=") then Some Unequal
+    else if eq_bytes w (ascii ">=") then Some AtLeast
+    else if eq_bytes w (ascii ">") then Some Greater
+    else if eq_bytes w (ascii "includes") then Some Includes
+    else if eq_bytes w (ascii "excludes") then Some Excludes
+    else None
 
 -- "integers take all eight functions; other scalars and sets ==, !=, includes, excludes"
 abbrev pub is_integer_base : Base → Bool
@@ -105,7 +104,7 @@ pub record Test : Type 0 where
   pub atoms : List (List ℕ)
 
 abbrev pub no_test : Judged Test
-no_test = record { fault = Syntax; got = record { place = none; base = uuid; function = Equal; atoms = [] } }
+no_test = record { fault = Syntax; got = record { place = None; base = uuid; function = Equal; atoms = [] } }
 
 abbrev pub test_by : Names → Json → Subject → Function → Judged Test
 test_by names j s f =
@@ -114,12 +113,12 @@ test_by names j s f =
     else no_test
 
 abbrev pub test_of : Names → Json → Option Subject → Option Function → Judged Test
-test_of names j none f = no_test
-test_of names j (some s) none = no_test
-test_of names j (some s) (some f) = test_by names j s f
+test_of names j None f = no_test
+test_of names j (Some s) None = no_test
+test_of names j (Some s) (Some f) = test_by names j s f
 
 abbrev pub read_test : Names → List Column → Json → Judged Test
-read_test names cs j = elim (triple_in j) [ none ↦ no_test | some t ↦ test_of names t.value (subject_named cs t.name) (function_named t.word) ]
+read_test names cs j = elim (triple_in j) [ None ↦ no_test | Some t ↦ test_of names t.value (subject_named cs t.name) (function_named t.word) ]
 
 abbrev pub read_tests : Names → List Column → List Json → Judged (List Test)
 read_tests names cs [] = record { fault = Fine; got = [] }

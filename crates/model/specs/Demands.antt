@@ -1,7 +1,6 @@
 -- The three demands, as statements about the calls, from the bytes of a call to the bytes it leaves. Assumes nothing: these are definitions.
-use Rattle.std.specs.Prelude.{ℕ, suc, ◌-◌, ◌^◌, ◌≤◌, ◌<◌, ◌≡◌, ◌↔◌, Bool, true, false, not, ◌&&◌, ◌||◌, eqb, length, get_or, take, replicate}
+use Rattle.std.specs.Prelude.{ℕ, suc, ◌-◌, ◌^◌, ◌≤◌, ◌<◌, ◌≡◌, ◌↔◌, Bool, true, false, not, ◌&&◌, ◌||◌, eqb, length, get_or, take, replicate, Option, Some}
 use mathlib.Core.List.{List, [], ◌∷◌, ◌++◌, map, Memᴰ}
-use Rattle.std.proofs.Math.Option.{Option, some}
 use Rattle.model.specs.Octets.{value}
 use Rattle.model.specs.Base.{all}
 use Rattle.model.specs.Schema.{Schema, Database}
@@ -48,13 +47,13 @@ StoreStartEnds area schema run =
     let c = store_start area schema run in
     Ends (store_start_number area schema) c.status area c.area []
     -- "makes no rows and number 0"
-    × (is_refusal c.status ≡ false → (d : Database) × (read_schema schema ≡ some d) × (c.area ≡ encode_store (new_store run d)))
+    × (is_refusal c.status ≡ false → (d : Database) × (read_schema schema ≡ Some d) × (c.area ≡ encode_store (new_store run d)))
 
 abbrev pub MirrorStartEnds : List ℕ → List ℕ → ℕ → Type 0
 MirrorStartEnds area schema run =
     let c = mirror_start area schema run in
     Ends (mirror_start_number area schema) c.status area c.area []
-    × (is_refusal c.status ≡ false → (d : Database) × (read_schema schema ≡ some d) × (c.area ≡ encode_mirror (new_mirror run d)))
+    × (is_refusal c.status ≡ false → (d : Database) × (read_schema schema ≡ Some d) × (c.area ≡ encode_mirror (new_mirror run d)))
 
 abbrev pub TransactEnds : List ℕ → List ℕ → List ℕ → List ℕ → List ℕ → Type 0
 TransactEnds area request fresh records text =
@@ -148,7 +147,7 @@ module _ (d : Database) (run : ℕ) (area : List ℕ) (calls : List StoreCall) w
     pub within : n ≤ length (records_of area calls)
     -- its bytes are these, in good order: its rows are what records 1 to n make
     pub bytes : shown ≡ area_of (mirror_at n heard)
-    pub state : mirror_of shown ≡ some (record { run = run; database = d; mirror = mirror_at n heard })
+    pub state : mirror_of shown ≡ Some (record { run = run; database = d; mirror = mirror_at n heard })
     -- it names n, and says "level" exactly when it has heard something, n is the highest number heard, and n is 0 or ends a commit
     pub tells : mirror_progress shown ≡ record { status = Accepted; n = n; level = something heard && eqb n (highest heard) && ends_commit (records_of area calls) n }
     -- what it tells of rows and columns is told of those rows
@@ -163,18 +162,18 @@ module _ (d : Database) (run : ℕ) (area : List ℕ) (calls : List StoreCall) w
     -- "the mirror refuses none of them"
     pub refuses_none : (x : List ℕ) → Memᴰ x (sent_of area calls) → is_refusal (mirror_hear shown x).status ≡ false
     -- and where it is level its rows are the store's after that commit: after each call that left the store at number n, and there is one
-    pub store : (mirror_progress shown).level ≡ true → (j : ℕ) (st : Store) → store_of (area_after_all area (take j calls)) ≡ some st → st.number ≡ n → rows_at n ≡ st.rows
-    pub commit : (mirror_progress shown).level ≡ true → (j : ℕ) × (st : Store) × (j ≤ length calls) × (store_of (area_after_all area (take j calls)) ≡ some st) × (st.number ≡ n)
+    pub store : (mirror_progress shown).level ≡ true → (j : ℕ) (st : Store) → store_of (area_after_all area (take j calls)) ≡ Some st → st.number ≡ n → rows_at n ≡ st.rows
+    pub commit : (mirror_progress shown).level ≡ true → (j : ℕ) × (st : Store) × (j ≤ length calls) × (store_of (area_after_all area (take j calls)) ≡ Some st) × (st.number ≡ n)
 
   -- of the history itself: a started store is never out of good order; "Numbers run on from 1": record k carries the number k and the run, and is one laid down
   pub record Keeps : Type 0 where
-    pub in_order : (j : ℕ) → (st : Store) × (store_of (area_after_all area (take j calls)) ≡ some st) × (st.run ≡ run) × (st.database ≡ d) × (st.number ≡ length (records_of area (take j calls)))
+    pub in_order : (j : ℕ) → (st : Store) × (store_of (area_after_all area (take j calls)) ≡ Some st) × (st.run ≡ run) × (st.database ≡ d) × (st.number ≡ length (records_of area (take j calls)))
     pub laid : records_of area calls ≡ map encode (number_from run 0 (map change_in (records_of area calls)))
 
 -- for every run, two texts of a schema that are read as the same database, one given to a store and one to a mirror, and two areas that can be started, whatever they held; every
 -- history; every list of arrivals, at the start and after each
 abbrev pub Demand3 : Type 0
-Demand3 = (schema shown : List ℕ) (d : Database) (run : ℕ) (old oldShown : List ℕ) → run < 256 ^ 4 → read_schema schema ≡ some d → read_schema shown ≡ some d
+Demand3 = (schema shown : List ℕ) (d : Database) (run : ℕ) (old oldShown : List ℕ) → run < 256 ^ 4 → read_schema schema ≡ Some d → read_schema shown ≡ Some d
     → (store_start old schema run).status ≡ Accepted → (mirror_start oldShown shown run).status ≡ Accepted
     → (calls : List StoreCall) → all of_bytes calls ≡ true
     → Keeps d run (store_start old schema run).area calls

@@ -1,6 +1,5 @@
 -- Which refusal a call gets: for each call when each refusal applies, and the first that does, by document 01's numbers. Assumes nothing: these are definitions.
-use Rattle.std.specs.Prelude.{ℕ, suc, ◌+◌, Bool, true, false, not, ◌&&◌, List, [], ◌∷◌, eqb, leb, length, if◌then◌else◌}
-use Rattle.std.proofs.Math.Option.{Option, none, some}
+use Rattle.std.specs.Prelude.{ℕ, suc, ◌+◌, Bool, true, false, not, ◌&&◌, List, [], ◌∷◌, eqb, leb, length, if◌then◌else◌, Option, Some, None}
 use Rattle.model.specs.Octets.{eq_bytes}
 use Rattle.model.specs.Limits.{store_bytes, mirror_bytes, fresh_bytes, least_records, least_answer, least_mark, last_number}
 use Rattle.model.specs.Base.{every, is_some}
@@ -77,14 +76,14 @@ mark_number area out = given (mark_conditions area out) 0
 -- ── an arrival ──
 -- refusal 8, of what a record reads as
 abbrev pub bad_record : Schema → Mirror → Option Record → Bool
-bad_record s m none = true
-bad_record s m (some (numbered u k e)) = bad s m k e
-bad_record s m (some (mark u k)) = false
+bad_record s m None = true
+bad_record s m (Some (numbered u k e)) = bad s m k e
+bad_record s m (Some (mark u k)) = false
 
 abbrev pub run_in : Option Record → ℕ
-run_in none = 0
-run_in (some (numbered u k e)) = u
-run_in (some (mark u k)) = u
+run_in None = 0
+run_in (Some (numbered u k e)) = u
+run_in (Some (mark u k)) = u
 
 -- of a mirror of a run and a schema
 abbrev pub record_conditions : Schema → ℕ → Mirror → Option Record → List Condition
@@ -102,9 +101,9 @@ hear_conditions area x =
 
 -- "It answers repeat to a record numbered n or less, behind to one above n+1, heard to a mark, and applied to record n+1": 100, 101, 102, 103
 abbrev pub heard_as : ℕ → Option Record → ℕ
-heard_as n none = 0
-heard_as n (some (mark u k)) = 102
-heard_as n (some (numbered u k e)) = if leb k n then 100 else if eqb k (suc n) then 103 else 101
+heard_as n None = 0
+heard_as n (Some (mark u k)) = 102
+heard_as n (Some (numbered u k e)) = if leb k n then 100 else if eqb k (suc n) then 103 else 101
 
 unfoldable pub hear_number : List ℕ → List ℕ → ℕ
 hear_number area x = given (hear_conditions area x) (heard_as (mirror_or (mirror_of area)).mirror.n (decode x))

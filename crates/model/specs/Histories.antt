@@ -1,7 +1,6 @@
 -- Histories of calls on a store's area, and of arrivals at a mirror's: from bytes to bytes (document 01, demand 3). Assumes nothing: these are definitions.
-use Rattle.std.specs.Prelude.{ℕ, zero, suc, ◌≡◌, ◌⊎◌, Bool, true, false, ◌&&◌, eqb, ltb, get_or}
+use Rattle.std.specs.Prelude.{ℕ, zero, suc, ◌≡◌, ◌⊎◌, Bool, true, false, ◌&&◌, eqb, ltb, get_or, Option, Some, None}
 use mathlib.Core.List.{List, [], ◌∷◌, ◌++◌, map, Memᴰ}
-use Rattle.std.proofs.Math.Option.{Option, none, some}
 use Rattle.model.specs.Base.{all}
 use Rattle.model.specs.Schema.{Schema}
 use Rattle.model.specs.Rows.{Row}
@@ -52,9 +51,9 @@ sent_of a (c ∷ cs) = sent_in a c ++ sent_of (area_after a c) cs
 
 -- what a record says; "Number n ends a commit where record n is its end"
 abbrev pub change_of : Option Record → Change
-change_of none = end
-change_of (some (numbered u k e)) = e
-change_of (some (mark u k)) = end
+change_of None = end
+change_of (Some (numbered u k e)) = e
+change_of (Some (mark u k)) = end
 
 abbrev pub change_in : List ℕ → Change
 change_in x = change_of (decode x)

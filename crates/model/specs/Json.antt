@@ -1,9 +1,9 @@
 -- JSON values by RFC 4627, as trees. Assumes nothing: these are definitions.
+use Rattle.std.specs.Prelude.{Ok, Err}
+use Rattle.model.specs.declared.ReadError.TheVariants.{Stop, Deep}
+use Rattle.std.specs.declared.ops.ControlFlow.TheVariants.{Continue, Break}
+use Rattle.model.specs.Scan.{Read, Next}
 use Rattle.std.specs.Prelude.{ℕ, zero, suc, ◌+◌, List, [], ◌∷◌, Bool, true, false, length, eqb}
-use Rattle.model.specs.declared.Read.{Read}
-use Rattle.model.specs.declared.Read.TheVariants.{End, Stop, Deep}
-use Rattle.model.specs.declared.Next.{Next}
-use Rattle.model.specs.declared.Next.TheVariants.{More, Done}
 use Rattle.model.specs.declared.Open.{Open}
 use Rattle.model.specs.declared.Open.TheVariants.{Array, Object, Scalar}
 use Rattle.model.specs.Scan.{byte, Parsed, and_then, Turn, run, spaces_at, within_at, word_at, between, end_or}
@@ -51,13 +51,13 @@ scalar_by s at b =
       | true ↦ (let q = string_at s at in record { read = q.read; tree = str q.tree })
       | false ↦
           elim (eqb b 110) [
-            | true ↦ record { read = word_at s (110 ∷ 117 ∷ 108 ∷ 108 ∷ []) (End at); tree = null }
+            | true ↦ record { read = word_at s (110 ∷ 117 ∷ 108 ∷ 108 ∷ []) (Ok at); tree = null }
             | false ↦
                 elim (eqb b 116) [
-                  | true ↦ record { read = word_at s (116 ∷ 114 ∷ 117 ∷ 101 ∷ []) (End at); tree = bool true }
+                  | true ↦ record { read = word_at s (116 ∷ 114 ∷ 117 ∷ 101 ∷ []) (Ok at); tree = bool true }
                   | false ↦
                       elim (eqb b 102) [
-                        | true ↦ record { read = word_at s (102 ∷ 97 ∷ 108 ∷ 115 ∷ 101 ∷ []) (End at); tree = bool false }
+                        | true ↦ record { read = word_at s (102 ∷ 97 ∷ 108 ∷ 115 ∷ 101 ∷ []) (Ok at); tree = bool false }
                         | false ↦
                             (let r = number_at s at in record { read = r; tree = num (between s at (end_or at r)) })
                       ]
@@ -69,17 +69,16 @@ scalar_by s at b =
 unfoldable pub key_at : List ℕ → ℕ → Parsed (List ℕ)
 key_at s at =
     let q = string_at s (spaces_at s at) in
-    and_then [] (λ e. record { read = within_at s 58 58 (End (spaces_at s e)); tree = q.tree }) q.read
+    and_then [] (λ e. record { read = within_at s 58 58 (Ok (spaces_at s e)); tree = q.tree }) q.read
 
 -- a comma and one more item, or the byte `close` and the end
 unfoldable pub comma_or : List ℕ → ℕ → ℕ → Next
-comma_or s close i = elim (eqb (byte s i) 44) [ true ↦ More (i + 1) | false ↦ Done (within_at s close close (End i)) ]
+comma_or s close i = elim (eqb (byte s i) 44) [ true ↦ Continue (i + 1) | false ↦ Break (within_at s close close (Ok i)) ]
 
 -- what follows an item that was read
 unfoldable pub after_item : List ℕ → ℕ → Read → Next
-after_item s close (End e) = comma_or s close (spaces_at s e)
-after_item s close (Stop e) = Done (Stop e)
-after_item s close (Deep e) = Done (Deep e)
+after_item s close (Ok e) = comma_or s close (spaces_at s e)
+after_item s close (Err e) = Break (Err e)
 
 -- items from `at` on, up to the byte that closes them; p reads an item. A text of n bytes has no more than n
 abbrev pub item_turn : {A : Type 0} → (ℕ → Parsed A) → List ℕ → ℕ → ℕ → Turn A
@@ -90,7 +89,7 @@ items_of p s close = run (item_turn p s close)
 
 -- none, or some items
 unfoldable pub list_at : {A : Type 0} → (ℕ → Parsed A) → List ℕ → ℕ → ℕ → Parsed (List A)
-list_at p s close at = elim (eqb (byte s at) close) [ true ↦ record { read = End (at + 1); tree = [] } | false ↦ items_of p s close (length s) at ]
+list_at p s close at = elim (eqb (byte s at) close) [ true ↦ record { read = Ok (at + 1); tree = [] } | false ↦ items_of p s close (length s) at ]
 
 -- the rest of an array, after its bracket; p reads a value
 abbrev pub array_at : (ℕ → Parsed Json) → List ℕ → ℕ → Parsed Json
@@ -115,12 +114,12 @@ dispatch s array object at = elim (opens (byte s at)) [ Array ↦ array at | Obj
 
 -- a value after white space, in which so many more levels of arrays and objects may be opened
 unfoldable pub value_at : ℕ → List ℕ → ℕ → Parsed Json
-value_at zero s at = dispatch s (λ i. no_value (Deep i)) (λ i. no_value (Deep i)) (spaces_at s at)
+value_at zero s at = dispatch s (λ i. no_value (Err (Deep i))) (λ i. no_value (Err (Deep i))) (spaces_at s at)
 value_at (suc l) s at = dispatch s (λ i. array_at (value_at l s) s (i + 1)) (λ i. object_at (value_at l s) s (i + 1)) (spaces_at s at)
 
 -- that nothing follows but white space up to j
 unfoldable pub end_at : List ℕ → ℕ → Read
-end_at s j = elim (eqb j (length s)) [ true ↦ End j | false ↦ Stop j ]
+end_at s j = elim (eqb j (length s)) [ true ↦ Ok j | false ↦ Err (Stop j) ]
 
 -- a whole text: a value of at most 12 levels, and white space
 unfoldable pub text_at : List ℕ → Parsed Json

@@ -1,6 +1,5 @@
 -- What a request on a store's area is to give, whatever the bytes: what its operations make of the rows, whether they may stay, and then records and answer. Assumes nothing: these are definitions.
-use Rattle.std.specs.Prelude.{ℕ, suc, ◌+◌, Bool, true, false, not, ◌&&◌, List, [], ◌∷◌, ◌++◌, map, length}
-use Rattle.std.proofs.Math.Option.{Option, none, some}
+use Rattle.std.specs.Prelude.{ℕ, suc, ◌+◌, Bool, true, false, not, ◌&&◌, List, [], ◌∷◌, ◌++◌, map, length, Option, Some, None}
 use Rattle.model.specs.Base.{all, every, flat}
 use Rattle.model.specs.Schema.{Schema, Database}
 use Rattle.model.specs.Rows.{Row, of_table}
@@ -18,16 +17,16 @@ no_database = record { name = []; tables = [] }
 
 -- what an area holds, and a request asks; nothing where it is not in good order or can't be read, which its refusal says
 abbrev pub store_or : Option Store → Store
-store_or none = record { run = 0; number = 0; database = no_database; rows = [] }
-store_or (some st) = st
+store_or None = record { run = 0; number = 0; database = no_database; rows = [] }
+store_or (Some st) = st
 
 abbrev pub mirror_or : Option MirrorState → MirrorState
-mirror_or none = record { run = 0; database = no_database; mirror = fresh }
-mirror_or (some m) = m
+mirror_or None = record { run = 0; database = no_database; mirror = fresh }
+mirror_or (Some m) = m
 
 abbrev pub request_or : Option Request → Request
-request_or none = record { name = []; operations = [] }
-request_or (some q) = q
+request_or None = record { name = []; operations = [] }
+request_or (Some q) = q
 
 -- "row limits": no table above its maxRows; tables are counted from t
 abbrev pub limits_hold : ℕ → Schema → List Row → Bool

@@ -1,6 +1,5 @@
 -- The mirror: what it answers to an arrival and to a question, and what it is then (document 01, "What a mirror doesn't refuse it has heard .."). Assumes nothing: these are definitions.
-use Rattle.std.specs.Prelude.{ℕ, suc, max, Bool, true, false, not, ◌&&◌, ◌||◌, List, [], ◌∷◌, eqb, leb, replicate, if◌then◌else◌}
-use Rattle.std.proofs.Math.Option.{Option, none, some}
+use Rattle.std.specs.Prelude.{ℕ, suc, max, Bool, true, false, not, ◌&&◌, ◌||◌, List, [], ◌∷◌, eqb, leb, replicate, if◌then◌else◌, Option, Some, None}
 use Rattle.model.specs.Limits.{value_width}
 use Rattle.model.specs.Base.{nth}
 use Rattle.model.specs.Schema.{Schema}
@@ -56,8 +55,8 @@ on_record s run m (numbered u k e) =
     else record { status = Behind; next = hears m k }
 
 abbrev pub on_read : Schema → ℕ → Mirror → Option Record → Step
-on_read s run m none = record { status = BadRecord; next = m }
-on_read s run m (some l) = on_record s run m l
+on_read s run m None = record { status = BadRecord; next = m }
+on_read s run m (Some l) = on_record s run m l
 
 -- one arrival
 abbrev pub step : Schema → ℕ → Mirror → List ℕ → Step
@@ -65,9 +64,9 @@ step s run m x = on_read s run m (decode x)
 
 -- "What a mirror doesn't refuse it has heard": the numbers carried by those
 abbrev pub number_carried : Option Record → ℕ
-number_carried none = 0
-number_carried (some (numbered u k e)) = k
-number_carried (some (mark u k)) = k
+number_carried None = 0
+number_carried (Some (numbered u k e)) = k
+number_carried (Some (mark u k)) = k
 
 -- "the highest heard is the largest number carried by these, 0 if none"
 abbrev pub highest : List ℕ → ℕ
@@ -88,12 +87,12 @@ abbrev pub column_bytes : ℕ
 column_bytes = value_width
 
 abbrev pub value_answer : Option Value → List ℕ
-value_answer none = replicate column_bytes 0
-value_answer (some v) = value_bytes v
+value_answer None = replicate column_bytes 0
+value_answer (Some v) = value_bytes v
 
 abbrev pub row_answer : Option Row → ℕ → List ℕ
-row_answer none c = replicate column_bytes 0
-row_answer (some r) c = value_answer (nth r.columns c)
+row_answer None c = replicate column_bytes 0
+row_answer (Some r) c = value_answer (nth r.columns c)
 
 abbrev pub column_answer : Mirror → ℕ → ℕ → ℕ → List ℕ
 column_answer m t i c = row_answer (find (key_of t i) m.rows) c

@@ -1,6 +1,5 @@
 -- Mutations: [column, mutator, value] (RFC 7047, 5.1), and a step, which is one mutation on one row. Assumes nothing: these are definitions.
-use Rattle.std.specs.Prelude.{ℕ, Bool, true, false, not, ◌&&◌, List, [], ◌∷◌, map, eqb, leb, ℤ, pos, negsuc, ◌+ℤ◌, ◌-ℤ◌, ◌*ℤ◌, length, if◌then◌else◌}
-use Rattle.std.proofs.Math.Option.{Option, none, some}
+use Rattle.std.specs.Prelude.{ℕ, Bool, true, false, not, ◌&&◌, List, [], ◌∷◌, map, eqb, leb, ℤ, pos, negsuc, ◌+ℤ◌, ◌-ℤ◌, ◌*ℤ◌, length, if◌then◌else◌, Option, Some, None}
 use Rattle.std.specs.Int.Signed.{le_z, quot_z, rem_z}
 use Rattle.model.specs.Octets.{eq_bytes}
 use Rattle.model.specs.Base.{all, ascii, nth, distinct}
@@ -20,14 +19,14 @@ use Rattle.model.specs.declared.Mutator.TheVariants.{Add, Subtract, Multiply, Di
 -- the mutator of a word
 abbrev pub mutator_named : List ℕ → Option Mutator
 mutator_named w =
-    if eq_bytes w (ascii "+=") then some Add
-    else if eq_bytes w (ascii "-=") then some Subtract
-    else if eq_bytes w (ascii "*=") then some Multiply
-    else if eq_bytes w (ascii "/=") then some Divide
-    else if eq_bytes w (ascii "%=") then some Remainder
-    else if eq_bytes w (ascii "insert") then some Insert
-    else if eq_bytes w (ascii "delete") then some Delete
-    else none
+    if eq_bytes w (ascii "+=") then Some Add
+    else if eq_bytes w (ascii "-=") then Some Subtract
+    else if eq_bytes w (ascii "*=") then Some Multiply
+    else if eq_bytes w (ascii "/=") then Some Divide
+    else if eq_bytes w (ascii "%=") then Some Remainder
+    else if eq_bytes w (ascii "insert") then Some Insert
+    else if eq_bytes w (ascii "delete") then Some Delete
+    else None
 
 -- "insert and delete on a scalar, and arithmetic on anything but integers, are a syntax error" (reading 32)
 abbrev pub suits : Column → Mutator → Bool
@@ -66,15 +65,15 @@ mutation_by names j k m c =
     else no_mutation
 
 abbrev pub mutation_at : Names → List Column → Json → ℕ → Mutator → Judged Mutation
-mutation_at names cs j k m = elim (nth cs k) [ none ↦ no_mutation | some c ↦ mutation_by names j k m c ]
+mutation_at names cs j k m = elim (nth cs k) [ None ↦ no_mutation | Some c ↦ mutation_by names j k m c ]
 
 abbrev pub mutation_of : Names → List Column → Json → Option ℕ → Option Mutator → Judged Mutation
-mutation_of names cs j none m = no_mutation
-mutation_of names cs j (some k) none = no_mutation
-mutation_of names cs j (some k) (some m) = mutation_at names cs j k m
+mutation_of names cs j None m = no_mutation
+mutation_of names cs j (Some k) None = no_mutation
+mutation_of names cs j (Some k) (Some m) = mutation_at names cs j k m
 
 abbrev pub read_mutation : Names → List Column → Json → Judged Mutation
-read_mutation names cs j = elim (triple_in j) [ none ↦ no_mutation | some t ↦ mutation_of names cs t.value (column_named cs t.name) (mutator_named t.word) ]
+read_mutation names cs j = elim (triple_in j) [ None ↦ no_mutation | Some t ↦ mutation_of names cs t.value (column_named cs t.name) (mutator_named t.word) ]
 
 abbrev pub read_mutations : Names → List Column → List Json → Judged (List Mutation)
 read_mutations names cs [] = record { fault = Fine; got = [] }

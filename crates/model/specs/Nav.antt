@@ -1,16 +1,15 @@
 -- What kind of value a tree is, and its items and text. Assumes nothing: these are definitions.
+use Rattle.std.specs.Prelude.{Ok, Err}
+use Rattle.model.specs.Scan.{Read}
 use Rattle.std.specs.Prelude.{ℕ, List, [], ◌∷◌, Bool, true, false, eqb}
-use Rattle.model.specs.declared.Read.{Read}
-use Rattle.model.specs.declared.Read.TheVariants.{End, Stop, Deep}
 use Rattle.model.specs.Json.{Json, null, bool, num, str, arr, obj, Items, none, item}
 use Rattle.model.specs.declared.Kind.{Kind}
 use Rattle.model.specs.declared.Kind.TheVariants.{Null, Truth, Number, Text, Array, Object}
 
 -- whether reading went to an end
 unfoldable pub is_read : Read → Bool
-is_read (End e) = true
-is_read (Stop e) = false
-is_read (Deep e) = false
+is_read (Ok e) = true
+is_read (Err e) = false
 
 -- what kind of value a tree is
 unfoldable pub kind_of : Json → Kind

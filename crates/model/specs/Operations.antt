@@ -1,6 +1,5 @@
 -- Operations, on working rows. Assumes nothing: these are definitions.
-use Rattle.std.specs.Prelude.{ℕ, Bool, true, false, not, ◌&&◌, ◌||◌, List, [], ◌∷◌, ◌++◌, map, eqb, ltb, length, if◌then◌else◌}
-use Rattle.std.proofs.Math.Option.{Option, none, some}
+use Rattle.std.specs.Prelude.{ℕ, Bool, true, false, not, ◌&&◌, ◌||◌, List, [], ◌∷◌, ◌++◌, map, eqb, ltb, length, if◌then◌else◌, Option, Some, None}
 use Rattle.model.specs.Octets.{eq_bytes}
 use Rattle.model.specs.Base.{any, all, keep, count, member, distinct, is_some, ascii}
 use Rattle.model.specs.Limits.{most_rows}
@@ -20,10 +19,10 @@ use Rattle.model.specs.declared.Fault.TheVariants.{Fine, Syntax, Resources, Dupl
 -- ── members of an operation ──
 -- "missing, extra or mistyped member": a member read as what it must be, none where it is missing or mistyped
 abbrev pub member_as : {A : Type 0} → (Json → Option A) → List ℕ → List Named → Option A
-member_as read w ms = elim (member_named w ms) [ none ↦ none | some j ↦ read j ]
+member_as read w ms = elim (member_named w ms) [ None ↦ None | Some j ↦ read j ]
 
 abbrev pub table_in : Schema → List Named → Option ℕ
-table_in s ms = elim (member_as string_in (ascii "table") ms) [ none ↦ none | some w ↦ table_named s w ]
+table_in s ms = elim (member_as string_in (ascii "table") ms) [ None ↦ None | Some w ↦ table_named s w ]
 
 -- ── a row as written: a value for each column that it names ──
 abbrev pub known_names : List Column → List Named → Bool
@@ -36,10 +35,10 @@ value_written names c j =
 
 -- `absent` judges a column that is not named, `named` one that is, besides its value
 abbrev pub column_written : Names → (Column → Fault) → (Column → Fault) → Column → Option Json → Judged (Option Value)
-column_written names absent named c none = record { fault = absent c; got = none }
-column_written names absent named c (some j) =
+column_written names absent named c None = record { fault = absent c; got = None }
+column_written names absent named c (Some j) =
     let w = value_written names c j in
-    record { fault = earlier w.fault (named c); got = some w.got }
+    record { fault = earlier w.fault (named c); got = Some w.got }
 
 abbrev pub columns_written : Names → (Column → Fault) → (Column → Fault) → List Column → List Named → Judged (List (Option Value))
 columns_written names absent named [] ms = record { fault = Fine; got = [] }
@@ -54,7 +53,7 @@ row_of names absent named cs ms =
     record { fault = earlier (check (known_names cs ms) Syntax Fine) r.fault; got = r.got }
 
 abbrev pub read_row : Names → (Column → Fault) → (Column → Fault) → List Column → List Named → Judged (List (Option Value))
-read_row names absent named cs ms = elim (member_as object_in (ascii "row") ms) [ none ↦ record { fault = Syntax; got = [] } | some r ↦ row_of names absent named cs r ]
+read_row names absent named cs ms = elim (member_as object_in (ascii "row") ms) [ None ↦ record { fault = Syntax; got = [] } | Some r ↦ row_of names absent named cs r ]
 
 -- "a default outside its limits", judged where min is 1 (reading 38)
 abbrev pub default_fault : Column → Fault
@@ -70,12 +69,12 @@ no_fault c = Fine
 abbrev pub assigned : List (Option Value) → List Value → List Value
 assigned [] vs = vs
 assigned (o ∷ os) [] = []
-assigned (none ∷ os) (v ∷ vs) = v ∷ assigned os vs
-assigned (some w ∷ os) (v ∷ vs) = w ∷ assigned os vs
+assigned (None ∷ os) (v ∷ vs) = v ∷ assigned os vs
+assigned (Some w ∷ os) (v ∷ vs) = w ∷ assigned os vs
 
 -- ── "where": conditions ──
 abbrev pub read_where : Names → List Column → List Named → Judged (List Test)
-read_where names cs ms = elim (member_as array_in (ascii "where") ms) [ none ↦ record { fault = Syntax; got = [] } | some l ↦ read_tests names cs l ]
+read_where names cs ms = elim (member_as array_in (ascii "where") ms) [ None ↦ record { fault = Syntax; got = [] } | Some l ↦ read_tests names cs l ]
 
 -- ── what an operation does: its fault, the rows after it, and its result's text ──
 pub record Done : Type 0 where
@@ -88,8 +87,8 @@ failed f rows = record { fault = f; rows = rows; answer = [] }
 
 -- "insert .. Answers {"uuid":["uuid","..."]}"
 abbrev pub name_fault : List (List ℕ) → Option Json → Fault
-name_fault earlierNames none = Fine
-name_fault earlierNames (some j) = elim (string_in j) [ none ↦ Syntax | some w ↦ check (is_id w) Syntax (check (not (member w earlierNames)) Duplicate Fine) ]
+name_fault earlierNames None = Fine
+name_fault earlierNames (Some j) = elim (string_in j) [ None ↦ Syntax | Some w ↦ check (is_id w) Syntax (check (not (member w earlierNames)) Duplicate Fine) ]
 
 abbrev pub run_insert : Names → List (List ℕ) → ℕ → List Row → List Named → ℕ → List Column → Done
 run_insert names earlierNames i rows ms t cs =
@@ -108,24 +107,24 @@ run_insert names earlierNames i rows ms t cs =
 
 -- "columns": each a column of the table or "_uuid", none twice; all where it is not given
 abbrev pub names_in : List Json → Option (List (List ℕ))
-names_in [] = some []
-names_in (j ∷ js) = elim (string_in j) [ none ↦ none | some w ↦ elim (names_in js) [ none ↦ none | some l ↦ some (w ∷ l) ] ]
+names_in [] = Some []
+names_in (j ∷ js) = elim (string_in j) [ None ↦ None | Some w ↦ elim (names_in js) [ None ↦ None | Some l ↦ Some (w ∷ l) ] ]
 
 abbrev pub shown_fault : List Column → Option (List (List ℕ)) → Fault
-shown_fault cs none = Syntax
-shown_fault cs (some l) = check (all (λ (w : List ℕ). eq_bytes w (ascii "_uuid") || is_some (column_named cs w)) l && distinct l) Syntax Fine
+shown_fault cs None = Syntax
+shown_fault cs (Some l) = check (all (λ (w : List ℕ). eq_bytes w (ascii "_uuid") || is_some (column_named cs w)) l && distinct l) Syntax Fine
 
 abbrev pub columns_fault : List Column → Option Json → Fault
-columns_fault cs none = Fine
-columns_fault cs (some j) = elim (array_in j) [ none ↦ Syntax | some l ↦ shown_fault cs (names_in l) ]
+columns_fault cs None = Fine
+columns_fault cs (Some j) = elim (array_in j) [ None ↦ Syntax | Some l ↦ shown_fault cs (names_in l) ]
 
 abbrev pub names_or : Option (List (List ℕ)) → List (List ℕ)
-names_or none = []
-names_or (some l) = l
+names_or None = []
+names_or (Some l) = l
 
 abbrev pub shows : Option Json → List ℕ → Bool
-shows none w = true
-shows (some j) w = elim (array_in j) [ none ↦ false | some l ↦ member w (names_or (names_in l)) ]
+shows None w = true
+shows (Some j) w = elim (array_in j) [ None ↦ false | Some l ↦ member w (names_or (names_in l)) ]
 
 -- a row's object: ""_uuid" first, then schema order"
 abbrev pub shown_columns : (List ℕ → Bool) → List Column → List Value → List (List ℕ)
@@ -200,7 +199,7 @@ mutate_rows fits ms (r ∷ rs) =
     record { fault = elim (is_fine q.fault) [ true ↦ qs.fault | false ↦ q.fault ]; got = q.got ∷ qs.got }
 
 abbrev pub read_mutation_list : Names → List Column → List Named → Judged (List Mutation)
-read_mutation_list names cs ms = elim (member_as array_in (ascii "mutations") ms) [ none ↦ record { fault = Syntax; got = [] } | some l ↦ read_mutations names cs l ]
+read_mutation_list names cs ms = elim (member_as array_in (ascii "mutations") ms) [ None ↦ record { fault = Syntax; got = [] } | Some l ↦ read_mutations names cs l ]
 
 abbrev pub run_mutate : Names → List Row → List Named → ℕ → List Column → Done
 run_mutate names rows ms t cs =
@@ -247,13 +246,13 @@ run_abort rows ms = record { fault = check (only (ascii "op" ∷ []) ms) Syntax 
 
 -- an operation on a table that the schema has
 abbrev pub on_table : Schema → (ℕ → List Column → Done) → List Row → Option ℕ → Done
-on_table s f rows none = failed Syntax rows
-on_table s f rows (some t) = f t (columns_of s t)
+on_table s f rows None = failed Syntax rows
+on_table s f rows (Some t) = f t (columns_of s t)
 
 -- by its "op"; an unknown one is a syntax error
 abbrev pub perform : Schema → Names → List (List ℕ) → ℕ → List Row → List Named → Option (List ℕ) → Done
-perform s names earlierNames i rows ms none = failed Syntax rows
-perform s names earlierNames i rows ms (some w) =
+perform s names earlierNames i rows ms None = failed Syntax rows
+perform s names earlierNames i rows ms (Some w) =
     let t = table_in s ms in
     elim (eq_bytes w (ascii "insert")) [
       | true ↦ on_table s (run_insert names earlierNames i rows ms) rows t

@@ -1,6 +1,5 @@
 -- Change records and marks: what a commit writes, what each does to rows, and their bytes (document 01, "Records on the line"). Assumes nothing: these are definitions.
-use Rattle.std.specs.Prelude.{ℕ, zero, suc, ◌^◌, Bool, true, false, not, ◌&&◌, List, [], ◌∷◌, ◌++◌, eqb, ltb, length, get_or, take, drop, if◌then◌else◌}
-use Rattle.std.proofs.Math.Option.{Option, none, some}
+use Rattle.std.specs.Prelude.{ℕ, zero, suc, ◌^◌, Bool, true, false, not, ◌&&◌, List, [], ◌∷◌, ◌++◌, eqb, ltb, length, get_or, take, drop, if◌then◌else◌, Option, Some, None}
 use Rattle.model.specs.Octets.{big, value, part, chunks}
 use Rattle.model.specs.Limits.{most_rows, most_elements, atom_bytes, row_record_bytes, column_record_bytes, end_bytes}
 use Rattle.model.specs.Base.{flat}
@@ -69,8 +68,8 @@ never v w = false
 
 -- "each new row as born and all its columns, each changed row as its changed columns (.. columns in schema order; changed: unlike before the call)"
 abbrev pub row_writes : Schema → Option Row → Row → List Change
-row_writes s none r = born r.table r.id ∷ writes never r.table r.id 0 (initials s r.table) r.columns
-row_writes s (some p) r = writes same_value r.table r.id 0 p.columns r.columns
+row_writes s None r = born r.table r.id ∷ writes never r.table r.id 0 (initials s r.table) r.columns
+row_writes s (Some p) r = writes same_value r.table r.id 0 p.columns r.columns
 
 -- "then, in that order, .. (one walk ..)"
 abbrev pub walk : Schema → List Row → List Row → List Change
@@ -151,17 +150,17 @@ body_of k b =
     let n = value (part 4 4 b) in
     let t = get_or b 8 0 in
     let i = value (part 9 16 b) in
-    if eqb k born_kind then some (numbered u n (born t i))
-    else if eqb k gone_kind then some (numbered u n (gone t i))
-    else if eqb k column_kind then some (numbered u n (column t i (get_or b 25 0) (value_from (drop 26 b))))
-    else if eqb k end_kind then some (numbered u n end)
-    else if eqb k mark_kind then some (mark u n)
-    else none
+    if eqb k born_kind then Some (numbered u n (born t i))
+    else if eqb k gone_kind then Some (numbered u n (gone t i))
+    else if eqb k column_kind then Some (numbered u n (column t i (get_or b 25 0) (value_from (drop 26 b))))
+    else if eqb k end_kind then Some (numbered u n end)
+    else if eqb k mark_kind then Some (mark u n)
+    else None
 
 -- refusal 8, "an unknown kind, the wrong length": none
 abbrev pub decode : List ℕ → Option Record
-decode [] = none
-decode (k ∷ b) = if eqb (suc (length b)) (record_bytes k) then body_of k b else none
+decode [] = None
+decode (k ∷ b) = if eqb (suc (length b)) (record_bytes k) then body_of k b else None
 
 -- ── a buffer of records, cut into the records it holds: up to the first byte that is no kind ("bytes beyond what was written are zero"), or its end ──
 abbrev pub pieces_from : ℕ → List ℕ → List (List ℕ)

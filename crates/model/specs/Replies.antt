@@ -1,6 +1,5 @@
 -- A transact on a store's state: its refusals in order, and what it gives where it has none. Assumes nothing: these are definitions.
-use Rattle.std.specs.Prelude.{ℕ, ◌+◌, true, false, List, [], leb, length}
-use Rattle.std.proofs.Math.Option.{Option, none, some}
+use Rattle.std.specs.Prelude.{ℕ, ◌+◌, true, false, List, [], leb, length, Option, Some, None}
 use Rattle.model.specs.Octets.{eq_bytes}
 use Rattle.model.specs.Limits.{last_number}
 use Rattle.model.specs.Schema.{Schema, Database}
@@ -47,8 +46,8 @@ named d number rows ids room q = elim (eq_bytes q.name d.name) [ true ↦ freshl
 
 -- refusal 4; a store at `number` with these rows, an answer buffer of `room` bytes
 abbrev pub reply_to : Database → ℕ → List Row → List ℕ → ℕ → Option Request → Reply
-reply_to d number rows ids room none = refused BadRequest rows
-reply_to d number rows ids room (some q) = named d number rows ids room q
+reply_to d number rows ids room None = refused BadRequest rows
+reply_to d number rows ids room (Some q) = named d number rows ids room q
 
 abbrev pub reply : Database → ℕ → List Row → List ℕ → List ℕ → ℕ → Reply
 reply d number rows request fresh room = reply_to d number rows (fresh_ids fresh) room (read_request request)

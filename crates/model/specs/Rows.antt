@@ -1,6 +1,5 @@
 -- Rows, kept in the order of their tables and, in a table, of their ids. Assumes nothing: these are definitions.
-use Rattle.std.specs.Prelude.{ℕ, ◌+◌, ◌*◌, Bool, false, ◌||◌, List, [], ◌∷◌, map, eqb, ltb, get_or, set, if◌then◌else◌}
-use Rattle.std.proofs.Math.Option.{Option, none, some}
+use Rattle.std.specs.Prelude.{ℕ, ◌+◌, ◌*◌, Bool, false, ◌||◌, List, [], ◌∷◌, map, eqb, ltb, get_or, set, if◌then◌else◌, Option, Some, None}
 use Rattle.model.specs.Base.{keep}
 use Rattle.model.specs.Schema.{Schema, columns_of}
 use Rattle.model.specs.Value.{Value, value_of, initial}
@@ -20,8 +19,8 @@ key r = key_of r.table r.id
 
 -- the row under a key, a row put in at its place, taken out, with one column set
 abbrev pub find : ℕ → List Row → Option Row
-find k [] = none
-find k (r ∷ rs) = if eqb k (key r) then some r else find k rs
+find k [] = None
+find k (r ∷ rs) = if eqb k (key r) then Some r else find k rs
 
 abbrev pub has : ℕ → List Row → Bool
 has k [] = false

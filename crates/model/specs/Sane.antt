@@ -1,6 +1,5 @@
 -- The rules of document 01 on schemas, of the database that a text is read as: all but those on what a database does not keep (the text's form and length, version, cksum, ephemeral). What is accepted keeps them (`read_sane`), and an area in good order holds such a database. Assumes nothing: these are definitions.
-use Rattle.std.specs.Prelude.{ℕ, Bool, true, not, ◌&&◌, ◌||◌, List, [], ◌∷◌, map, ltb, leb, ℤ, length}
-use Rattle.std.proofs.Math.Option.{Option, none, some}
+use Rattle.std.specs.Prelude.{ℕ, Bool, true, not, ◌&&◌, ◌||◌, List, [], ◌∷◌, map, ltb, leb, ℤ, length, Option, Some, None}
 use Rattle.std.specs.Int.Signed.{le_z}
 use Rattle.model.specs.Base.{all, every, distinct}
 use Rattle.model.specs.Limits.{most_tables, most_columns, most_elements, most_indexes, most_index_columns}
@@ -57,8 +56,8 @@ sane_index n l = every (index_sane n l)
 
 -- "maxRows (1 or more)", and an integer
 abbrev pub max_rows_sane : Option ℕ → Bool
-max_rows_sane none = true
-max_rows_sane (some k) = leb 1 k && leb k 9223372036854775807
+max_rows_sane None = true
+max_rows_sane (Some k) = leb 1 k && leb k 9223372036854775807
 
 -- a table of a schema of n tables
 abbrev pub table_sane : ℕ → Table → List Bool

@@ -1,9 +1,19 @@
 -- Reading bytes at positions of a text. Assumes nothing: these are definitions.
+use Rattle.std.specs.Prelude.{Result}
+use Rattle.model.specs.declared.ReadError.{ReadError}
+use Rattle.std.specs.declared.ops.ControlFlow.{ControlFlow}
+use Rattle.std.specs.Prelude.{Ok, Err}
+use Rattle.model.specs.declared.ReadError.TheVariants.{Stop}
+use Rattle.std.specs.declared.ops.ControlFlow.TheVariants.{Continue, Break}
 use Rattle.std.specs.Prelude.{ℕ, zero, suc, ◌+◌, ◌-◌, List, [], ◌∷◌, ◌++◌, Bool, true, false, length, get_or, take, drop, eqb, leb, ltb}
-use Rattle.model.specs.declared.Read.{Read}
-use Rattle.model.specs.declared.Read.TheVariants.{End, Stop, Deep}
-use Rattle.model.specs.declared.Next.{Next}
-use Rattle.model.specs.declared.Next.TheVariants.{More, Done}
+
+-- what reading gives: the position past what was read, or why and where it stopped
+abbrev pub Read : Type 0
+Read = Result ℕ ReadError
+
+-- what a loop does next: one more turn from a position on, or the end
+abbrev pub Next : Type 0
+Next = ControlFlow Read ℕ
 
 -- the byte at a position, 256 past the end
 abbrev pub byte : List ℕ → ℕ → ℕ
@@ -16,9 +26,8 @@ pub record Parsed (A : Type 0) : Type 0 where
 
 -- what is read next, where something was read before it; `d` stands for the tree where it was not
 unfoldable pub and_then : {A : Type 0} → A → (ℕ → Parsed A) → Read → Parsed A
-and_then d f (End e) = f e
-and_then d f (Stop e) = record { read = Stop e; tree = d }
-and_then d f (Deep e) = record { read = Deep e; tree = d }
+and_then d f (Ok e) = f e
+and_then d f (Err e) = record { read = Err e; tree = d }
 
 -- one turn of a run: what comes next, and what the turn adds
 pub record Turn (A : Type 0) : Type 0 where
@@ -27,12 +36,12 @@ pub record Turn (A : Type 0) : Type 0 where
 
 -- at most n turns from `at` on
 unfoldable pub run : {A : Type 0} → (ℕ → Turn A) → ℕ → ℕ → Parsed (List A)
-run f zero at = record { read = Stop at; tree = [] }
+run f zero at = record { read = Err (Stop at); tree = [] }
 run f (suc n) at =
     let q = f at in
     elim q.next [
-      | More e ↦ (let rest = run f n e in record { read = rest.read; tree = q.adds ++ rest.tree })
-      | Done r ↦ record { read = r; tree = q.adds }
+      | Continue e ↦ (let rest = run f n e in record { read = rest.read; tree = q.adds ++ rest.tree })
+      | Break r ↦ record { read = r; tree = q.adds }
     ]
 
 -- the first position from `at` on whose byte fails the test; at most n are passed
@@ -54,10 +63,9 @@ digits_at s at = passing is_digit s (length s) at
 
 -- one byte from `low` to `high`, after what was read before it
 unfoldable pub within_at : List ℕ → ℕ → ℕ → Read → Read
-within_at s low high (End e) =
-    elim (ltb (byte s e) low) [ true ↦ Stop e | false ↦ elim (ltb high (byte s e)) [ true ↦ Stop e | false ↦ End (e + 1) ] ]
-within_at s low high (Stop e) = Stop e
-within_at s low high (Deep e) = Deep e
+within_at s low high (Ok e) =
+    elim (ltb (byte s e) low) [ true ↦ Err (Stop e) | false ↦ elim (ltb high (byte s e)) [ true ↦ Err (Stop e) | false ↦ Ok (e + 1) ] ]
+within_at s low high (Err e) = Err e
 
 -- the bytes of a word, one after another
 unfoldable pub word_at : List ℕ → List ℕ → Read → Read
@@ -66,15 +74,13 @@ word_at s (x ∷ w) r = word_at s w (within_at s x x r)
 
 -- what is read next, of positions alone
 unfoldable pub then_read : (ℕ → Read) → Read → Read
-then_read f (End e) = f e
-then_read f (Stop e) = Stop e
-then_read f (Deep e) = Deep e
+then_read f (Ok e) = f e
+then_read f (Err e) = Err e
 
 -- the bytes from one position up to another
 abbrev pub between : List ℕ → ℕ → ℕ → List ℕ
 between s a e = take (e - a) (drop a s)
 
 abbrev pub end_or : ℕ → Read → ℕ
-end_or d (End e) = e
-end_or d (Stop e) = d
-end_or d (Deep e) = d
+end_or d (Ok e) = e
+end_or d (Err e) = d

@@ -1,6 +1,5 @@
 -- What a schema says: tables, columns and their types (document 01, "A schema needs name, version .. and tables"). Assumes nothing: these are definitions.
-use Rattle.std.specs.Prelude.{ℕ, zero, suc, Bool, true, not, ◌&&◌, ◌||◌, List, [], ◌∷◌, map, eqb, ℤ}
-use Rattle.std.proofs.Math.Option.{Option}
+use Rattle.std.specs.Prelude.{ℕ, zero, suc, Bool, true, not, ◌&&◌, ◌||◌, List, [], ◌∷◌, map, eqb, ℤ, Option}
 use Rattle.model.specs.Base.{any, place_of}
 
 -- "Base types are integer, boolean, string and uuid"

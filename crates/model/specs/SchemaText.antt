@@ -1,7 +1,6 @@
 -- Which texts are schemas, and what they say (document 01, "A schema needs name, version .. and tables"). Each level is a list of tests over the members of an
 -- object; what passes them all is read by total functions. A value that is no object has no members, so that a required one is missing. Assumes nothing: these are definitions.
-use Rattle.std.specs.Prelude.{ℕ, suc, ◌-◌, Bool, true, false, not, ◌&&◌, ◌||◌, List, [], ◌∷◌, map, eqb, leb, ℤ, pos, negsuc, length}
-use Rattle.std.proofs.Math.Option.{Option, none, some}
+use Rattle.std.specs.Prelude.{ℕ, suc, ◌-◌, Bool, true, false, not, ◌&&◌, ◌||◌, List, [], ◌∷◌, map, eqb, leb, ℤ, pos, negsuc, length, Option, Some, None}
 use Rattle.std.specs.Int.Signed.{le_z}
 use Rattle.model.specs.declared.Whole.{Whole}
 use Rattle.model.specs.declared.Whole.TheVariants.{Plus, Minus, Other}
@@ -69,7 +68,7 @@ names ms = map (λ (m : Named). m.name) ms
 
 -- the number of a name among others, from 0
 abbrev pub place_or : List ℕ → List (List ℕ) → ℕ
-place_or w ws = elim (place_of w ws) [ none ↦ 0 | some k ↦ k ]
+place_or w ws = elim (place_of w ws) [ None ↦ 0 | Some k ↦ k ]
 
 -- ── ids and versions ──
 unfoldable pub is_letter : ℕ → Bool
@@ -286,7 +285,7 @@ abbrev pub index_of : List (List ℕ) → Json → List ℕ
 index_of columns j = map (λ (x : Json). place_or (text_in x) columns) (items_in j)
 
 abbrev pub max_rows_of : List Named → Option ℕ
-max_rows_of ms = elim (has_member (ascii "maxRows") ms) [ true ↦ some (size_or 0 (whole_of (member_value (ascii "maxRows") ms))) | false ↦ none ]
+max_rows_of ms = elim (has_member (ascii "maxRows") ms) [ true ↦ Some (size_or 0 (whole_of (member_value (ascii "maxRows") ms))) | false ↦ None ]
 
 unfoldable pub table_of : List (List ℕ) → Named → Table
 table_of tables m =
@@ -326,12 +325,12 @@ database_of j =
     }
 
 unfoldable pub schema_of : Json → Option Database
-schema_of j = elim (schema_fits j) [ true ↦ some (database_of j) | false ↦ none ]
+schema_of j = elim (schema_fits j) [ true ↦ Some (database_of j) | false ↦ None ]
 
 -- a schema text: at most 4,096 bytes, a JSON value of at most 12 levels with nothing after it
 unfoldable pub read_schema : List ℕ → Option Database
 read_schema s =
     elim (leb (length s) most_schema_bytes) [
-      | true ↦ elim (is_read (text_at s).read) [ true ↦ schema_of (text_at s).tree | false ↦ none ]
-      | false ↦ none
+      | true ↦ elim (is_read (text_at s).read) [ true ↦ schema_of (text_at s).tree | false ↦ None ]
+      | false ↦ None
     ]

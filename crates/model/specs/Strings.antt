@@ -1,10 +1,9 @@
 -- Strings by RFC 4627 §2.5 in UTF-8 (RFC 3629), \u0000 and lone surrogates refused. Assumes nothing: these are definitions.
-use Rattle.std.specs.Prelude.{ℕ, ◌+◌, ◌-◌, ◌*◌, ◌/◌, ◌%◌, List, [], ◌∷◌, Bool, true, false, not, ◌&&◌, length, eqb, leb, ltb}
-use Rattle.std.proofs.Math.Option.{Option, none, some}
-use Rattle.model.specs.declared.Read.{Read}
-use Rattle.model.specs.declared.Read.TheVariants.{End, Stop, Deep}
-use Rattle.model.specs.declared.Next.{Next}
-use Rattle.model.specs.declared.Next.TheVariants.{More, Done}
+use Rattle.std.specs.Prelude.{Ok, Err}
+use Rattle.model.specs.declared.ReadError.TheVariants.{Stop, Deep}
+use Rattle.std.specs.declared.ops.ControlFlow.TheVariants.{Continue, Break}
+use Rattle.model.specs.Scan.{Read, Next}
+use Rattle.std.specs.Prelude.{ℕ, ◌+◌, ◌-◌, ◌*◌, ◌/◌, ◌%◌, List, [], ◌∷◌, Bool, true, false, not, ◌&&◌, length, eqb, leb, ltb, Option, Some, None}
 use Rattle.model.specs.Scan.{byte, Parsed, and_then, Turn, run, within_at, between}
 
 -- ── characters (RFC 3629 §3) ──
@@ -66,9 +65,9 @@ forms =
 
 -- what a form asks for after the first byte b: no two forms share a first byte
 unfoldable pub rest_of : ℕ → List (List Range) → Option (List Range)
-rest_of b [] = none
+rest_of b [] = None
 rest_of b ([] ∷ fs) = rest_of b fs
-rest_of b ((x ∷ xs) ∷ fs) = elim (in_range x b) [ true ↦ some xs | false ↦ rest_of b fs ]
+rest_of b ((x ∷ xs) ∷ fs) = elim (in_range x b) [ true ↦ Some xs | false ↦ rest_of b fs ]
 
 -- bytes in those ranges, one after another, after what was read before them
 unfoldable pub ranges_at : List ℕ → List Range → Read → Read
@@ -77,8 +76,8 @@ ranges_at s (x ∷ xs) r = ranges_at s xs (within_at s x.low x.high r)
 
 -- the rest of a character whose first byte stands at `at`
 unfoldable pub form_at : List ℕ → ℕ → Option (List Range) → Read
-form_at s at none = Stop at
-form_at s at (some xs) = ranges_at s xs (End (at + 1))
+form_at s at None = Err (Stop at)
+form_at s at (Some xs) = ranges_at s xs (Ok (at + 1))
 
 -- a character as it stands, whose first byte is b
 abbrev pub plain_by : List ℕ → ℕ → ℕ → Read
@@ -132,31 +131,31 @@ hex_of b =
 
 -- no number: the byte that stopped reading
 abbrev pub stopped_at : ℕ → Parsed ℕ
-stopped_at e = record { read = Stop e; tree = 0 }
+stopped_at e = record { read = Err (Stop e); tree = 0 }
 
 -- one digit d more, read at e: the number so far times 16, and the digit
 unfoldable pub digit_by : ℕ → ℕ → ℕ → Parsed ℕ
-digit_by e v d = elim (eqb d 16) [ true ↦ stopped_at e | false ↦ record { read = End (e + 1); tree = v * 16 + d } ]
+digit_by e v d = elim (eqb d 16) [ true ↦ stopped_at e | false ↦ record { read = Ok (e + 1); tree = v * 16 + d } ]
 
 unfoldable pub digit_from : List ℕ → ℕ → Read → Parsed ℕ
-digit_from s v (End e) = digit_by e v (hex_of (byte s e))
-digit_from s v (Stop e) = stopped_at e
-digit_from s v (Deep e) = stopped_at e
+digit_from s v (Ok e) = digit_by e v (hex_of (byte s e))
+digit_from s v (Err (Stop e)) = stopped_at e
+digit_from s v (Err (Deep e)) = stopped_at e
 
 unfoldable pub digit_at : List ℕ → Parsed ℕ → Parsed ℕ
 digit_at s p = digit_from s p.tree p.read
 
 -- the last digit is the byte that stops reading, where the number so far fails a test
 unfoldable pub tested_from : (ℕ → Bool) → ℕ → Read → Parsed ℕ
-tested_from f v (End e) = elim (f v) [ true ↦ record { read = End e; tree = v } | false ↦ stopped_at (e - 1) ]
-tested_from f v (Stop e) = stopped_at e
-tested_from f v (Deep e) = stopped_at e
+tested_from f v (Ok e) = elim (f v) [ true ↦ record { read = Ok e; tree = v } | false ↦ stopped_at (e - 1) ]
+tested_from f v (Err (Stop e)) = stopped_at e
+tested_from f v (Err (Deep e)) = stopped_at e
 
 unfoldable pub tested : (ℕ → Bool) → Parsed ℕ → Parsed ℕ
 tested f p = tested_from f p.tree p.read
 
 abbrev pub no_digits : ℕ → Parsed ℕ
-no_digits at = record { read = End at; tree = 0 }
+no_digits at = record { read = Ok at; tree = 0 }
 
 -- the first two digits of a second half are DC to DF
 abbrev pub begins_second : ℕ → Bool
@@ -173,9 +172,9 @@ second_at s at =
     digit_at s (digit_at s (tested begins_second (digit_at s (tested (λ (v : ℕ). eqb v 13) (digit_at s (no_digits at))))))
 
 unfoldable pub second_from : List ℕ → Read → Parsed ℕ
-second_from s (End e) = second_at s e
-second_from s (Stop e) = stopped_at e
-second_from s (Deep e) = stopped_at e
+second_from s (Ok e) = second_at s e
+second_from s (Err (Stop e)) = stopped_at e
+second_from s (Err (Deep e)) = stopped_at e
 
 -- the character that two halves stand for
 abbrev pub pair_of : ℕ → ℕ → ℕ
@@ -194,16 +193,15 @@ abbrev pub escaped_at : List ℕ → ℕ → Parsed ℕ
 escaped_at s at = escaped_from s (unit_at s at)
 
 unfoldable pub going : Read → Next
-going (End e) = More e
-going (Stop e) = Done (Stop e)
-going (Deep e) = Done (Deep e)
+going (Ok e) = Continue e
+going (Err e) = Break (Err e)
 
 -- the byte after a backslash
 unfoldable pub escape_by : List ℕ → ℕ → ℕ → Next
 escape_by s at c =
     elim (eqb (short_of c) 0) [
-      | true ↦ elim (eqb c 117) [ true ↦ going (escaped_at s (at + 1)).read | false ↦ Done (Stop at) ]
-      | false ↦ More (at + 1)
+      | true ↦ elim (eqb c 117) [ true ↦ going (escaped_at s (at + 1)).read | false ↦ Break (Err (Stop at)) ]
+      | false ↦ Continue (at + 1)
     ]
 
 -- ── strings (RFC 4627 §2.5) ──
@@ -215,10 +213,10 @@ is_unescaped c = leb 32 c && not (eqb c 34) && not (eqb c 92) && is_character c
 unfoldable pub char_by : List ℕ → ℕ → ℕ → Next
 char_by s at b =
     elim (eqb b 34) [
-      | true ↦ Done (End (at + 1))
+      | true ↦ Break (Ok (at + 1))
       | false ↦ elim (eqb b 92) [
         | true ↦ escape_by s (at + 1) (byte s (at + 1))
-        | false ↦ elim (ltb b 32) [ true ↦ Done (Stop at) | false ↦ going (plain_by s at b) ]
+        | false ↦ elim (ltb b 32) [ true ↦ Break (Err (Stop at)) | false ↦ going (plain_by s at b) ]
       ]
     ]
 
@@ -231,8 +229,8 @@ char_bytes s at e b =
     ]
 
 unfoldable pub char_adds : List ℕ → ℕ → Next → List ℕ
-char_adds s at (More e) = char_bytes s at e (byte s at)
-char_adds s at (Done r) = []
+char_adds s at (Continue e) = char_bytes s at e (byte s at)
+char_adds s at (Break r) = []
 
 abbrev pub char_turn : List ℕ → ℕ → Turn ℕ
 char_turn s at = record { next = char_by s at (byte s at); adds = char_adds s at (char_by s at (byte s at)) }
@@ -243,4 +241,4 @@ body_at s at = run (char_turn s) (length s) at
 
 -- a string with its quotes
 unfoldable pub string_at : List ℕ → ℕ → Parsed (List ℕ)
-string_at s at = and_then [] (body_at s) (within_at s 34 34 (End at))
+string_at s at = and_then [] (body_at s) (within_at s 34 34 (Ok at))

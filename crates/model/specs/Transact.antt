@@ -1,6 +1,5 @@
 -- A request run on a store's rows: operations in order, then the commit. Assumes nothing: these are definitions.
-use Rattle.std.specs.Prelude.{ℕ, zero, suc, Bool, true, false, not, ◌&&◌, List, [], ◌∷◌, ◌++◌, map, eqb, leb, length, get_or, take, drop, if◌then◌else◌}
-use Rattle.std.proofs.Math.Option.{Option, none, some}
+use Rattle.std.specs.Prelude.{ℕ, zero, suc, Bool, true, false, not, ◌&&◌, List, [], ◌∷◌, ◌++◌, map, eqb, leb, length, get_or, take, drop, if◌then◌else◌, Option, Some, None}
 use Rattle.model.specs.Octets.{value, eq_bytes}
 use Rattle.model.specs.Base.{any, ascii}
 use Rattle.model.specs.Limits.{most_request_bytes, most_operations}
@@ -23,24 +22,24 @@ pub record Request : Type 0 where
   pub operations : List (List Named)
 
 abbrev pub objects_in : List Json → Option (List (List Named))
-objects_in [] = some []
-objects_in (j ∷ js) = elim (object_in j) [ none ↦ none | some ms ↦ elim (objects_in js) [ none ↦ none | some l ↦ some (ms ∷ l) ] ]
+objects_in [] = Some []
+objects_in (j ∷ js) = elim (object_in j) [ None ↦ None | Some ms ↦ elim (objects_in js) [ None ↦ None | Some l ↦ Some (ms ∷ l) ] ]
 
 abbrev pub request_by : Option (List ℕ) → Option (List (List Named)) → Option Request
-request_by none os = none
-request_by (some w) none = none
-request_by (some w) (some os) = if leb (length os) most_operations then some (record { name = w; operations = os }) else none
+request_by None os = None
+request_by (Some w) None = None
+request_by (Some w) (Some os) = if leb (length os) most_operations then Some (record { name = w; operations = os }) else None
 
 abbrev pub request_items : List Json → Option Request
-request_items [] = none
+request_items [] = None
 request_items (j ∷ js) = request_by (string_in j) (objects_in js)
 
 -- refusal 4: "too long, too deep, not JSON, not an array that starts with a string, has over 16 operations, or one that isn't an object": none
 abbrev pub request_tree : Parsed Json → Option Request
-request_tree q = elim (is_read q.read) [ true ↦ elim (array_in q.tree) [ none ↦ none | some l ↦ request_items l ] | false ↦ none ]
+request_tree q = elim (is_read q.read) [ true ↦ elim (array_in q.tree) [ None ↦ None | Some l ↦ request_items l ] | false ↦ None ]
 
 unfoldable pub read_request : List ℕ → Option Request
-read_request t = elim (leb (length t) most_request_bytes) [ true ↦ request_tree (text_at t) | false ↦ none ]
+read_request t = elim (leb (length t) most_request_bytes) [ true ↦ request_tree (text_at t) | false ↦ None ]
 
 -- ── fresh ids: "Operation i (from 0), if an insert, uses fresh id i" ──
 abbrev pub ids_from : ℕ → List ℕ → List ℕ
@@ -57,19 +56,19 @@ ids_good (i ∷ l) rows = not (eqb i 0) && not (has_id i rows) && not (any (eqb 
 
 -- ── uuid-names: "A named-uuid may name an insert that comes later; the first operation whose op is insert, with that uuid-name, is meant" ──
 abbrev pub insert_name : List Named → Option (List ℕ)
-insert_name ms = elim (member_as string_in (ascii "op") ms) [ none ↦ none | some w ↦ elim (eq_bytes w (ascii "insert")) [ true ↦ member_as string_in (ascii "uuid-name") ms | false ↦ none ] ]
+insert_name ms = elim (member_as string_in (ascii "op") ms) [ None ↦ None | Some w ↦ elim (eq_bytes w (ascii "insert")) [ true ↦ member_as string_in (ascii "uuid-name") ms | false ↦ None ] ]
 
 abbrev pub is_named : Option (List ℕ) → List ℕ → Bool
-is_named none w = false
-is_named (some v) w = eq_bytes v w
+is_named None w = false
+is_named (Some v) w = eq_bytes v w
 
 abbrev pub names_of : List ℕ → List (List Named) → Names
-names_of ids [] w = none
-names_of ids (o ∷ os) w = elim (is_named (insert_name o) w) [ true ↦ some (get_or ids 0 0) | false ↦ names_of (drop 1 ids) os w ]
+names_of ids [] w = None
+names_of ids (o ∷ os) w = elim (is_named (insert_name o) w) [ true ↦ Some (get_or ids 0 0) | false ↦ names_of (drop 1 ids) os w ]
 
 abbrev pub with_name : Option (List ℕ) → List (List ℕ) → List (List ℕ)
-with_name none l = l
-with_name (some w) l = w ∷ l
+with_name None l = l
+with_name (Some w) l = w ∷ l
 
 -- ── "They run in order on working rows. The first failure gives {"error":"..."} and stops the rest, which give null" ──
 pub record Ran : Type 0 where

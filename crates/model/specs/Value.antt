@@ -1,6 +1,5 @@
 -- Values: atoms, their order, the canonical form, and what meets a type. Assumes nothing: these are definitions.
-use Rattle.std.specs.Prelude.{ℕ, suc, ◌-◌, Bool, true, false, not, ◌&&◌, List, [], ◌∷◌, ◌++◌, eqb, ltb, leb, ℤ, pos, negsuc, length, get_or, take, drop, replicate, if◌then◌else◌}
-use Rattle.std.proofs.Math.Option.{none, some}
+use Rattle.std.specs.Prelude.{ℕ, suc, ◌-◌, Bool, true, false, not, ◌&&◌, List, [], ◌∷◌, ◌++◌, eqb, ltb, leb, ℤ, pos, negsuc, length, get_or, take, drop, replicate, if◌then◌else◌, Some, None}
 use Rattle.std.specs.Int.Signed.{lt_z, le_z}
 use Rattle.model.specs.Octets.{big, value, twos, lt_bytes}
 use Rattle.model.specs.Base.{eq_lists, all, keep, member, every}
@@ -62,7 +61,7 @@ text_atom t = pad (length t ∷ t)
 abbrev pub utf8_from : List Range → List ℕ → Bool
 utf8_from [] [] = true
 utf8_from (x ∷ xs) [] = false
-utf8_from [] (b ∷ bs) = elim (eqb b 0) [ true ↦ false | false ↦ elim (rest_of b forms) [ none ↦ false | some xs ↦ utf8_from xs bs ] ]
+utf8_from [] (b ∷ bs) = elim (eqb b 0) [ true ↦ false | false ↦ elim (rest_of b forms) [ None ↦ false | Some xs ↦ utf8_from xs bs ] ]
 utf8_from (x ∷ xs) (b ∷ bs) = in_range x b && utf8_from xs bs
 
 unfoldable pub is_utf8 : List ℕ → Bool

@@ -1,6 +1,5 @@
 -- Values as written in a request: elements, atoms by type, and what is judged of them as they stand. Assumes nothing: these are definitions.
-use Rattle.std.specs.Prelude.{ℕ, suc, ◌+◌, ◌*◌, Bool, true, false, not, ◌&&◌, ◌||◌, List, [], ◌∷◌, eqb, ltb, leb, length, get_or, if◌then◌else◌}
-use Rattle.std.proofs.Math.Option.{Option, none, some}
+use Rattle.std.specs.Prelude.{ℕ, suc, ◌+◌, ◌*◌, Bool, true, false, not, ◌&&◌, ◌||◌, List, [], ◌∷◌, eqb, ltb, leb, length, get_or, if◌then◌else◌, Option, Some, None}
 use Rattle.model.specs.Base.{any, distinct, ascii}
 use Rattle.model.specs.Limits.{most_elements, most_text_bytes}
 use Rattle.model.specs.Strings.{hex_of}
@@ -19,53 +18,53 @@ use Rattle.model.specs.declared.Function.TheVariants.{Less, AtMost, Equal, Unequ
 
 -- ── what kind of value a tree is ──
 abbrev pub string_in : Json → Option (List ℕ)
-string_in null = none
-string_in (bool b) = none
-string_in (num t) = none
-string_in (str t) = some t
-string_in (arr xs) = none
-string_in (obj ms) = none
+string_in null = None
+string_in (bool b) = None
+string_in (num t) = None
+string_in (str t) = Some t
+string_in (arr xs) = None
+string_in (obj ms) = None
 
 abbrev pub array_in : Json → Option (List Json)
-array_in null = none
-array_in (bool b) = none
-array_in (num t) = none
-array_in (str t) = none
-array_in (arr xs) = some (list_of xs)
-array_in (obj ms) = none
+array_in null = None
+array_in (bool b) = None
+array_in (num t) = None
+array_in (str t) = None
+array_in (arr xs) = Some (list_of xs)
+array_in (obj ms) = None
 
 abbrev pub object_in : Json → Option (List Named)
-object_in null = none
-object_in (bool b) = none
-object_in (num t) = none
-object_in (str t) = none
-object_in (arr xs) = none
-object_in (obj ms) = some (named_of ms)
+object_in null = None
+object_in (bool b) = None
+object_in (num t) = None
+object_in (str t) = None
+object_in (arr xs) = None
+object_in (obj ms) = Some (named_of ms)
 
 -- the member of a name, the last one where it is given twice
 abbrev pub member_named : List ℕ → List Named → Option Json
-member_named w ms = elim (has_member w ms) [ true ↦ some (member_value w ms) | false ↦ none ]
+member_named w ms = elim (has_member w ms) [ true ↦ Some (member_value w ms) | false ↦ None ]
 
 -- ── elements: "one element is written bare (read either way, scalars too), others as ["set",[..]]" ──
 abbrev pub elements_of : Json → List Json → List Json
 elements_of j [] = j ∷ []
 elements_of j (a ∷ []) = j ∷ []
-elements_of j (a ∷ b ∷ []) = elim (is_word (ascii "set") a) [ true ↦ elim (array_in b) [ none ↦ j ∷ [] | some l ↦ l ] | false ↦ j ∷ [] ]
+elements_of j (a ∷ b ∷ []) = elim (is_word (ascii "set") a) [ true ↦ elim (array_in b) [ None ↦ j ∷ [] | Some l ↦ l ] | false ↦ j ∷ [] ]
 elements_of j (a ∷ b ∷ c ∷ l) = j ∷ []
 
 abbrev pub elements_in : Json → List Json
-elements_in j = elim (array_in j) [ none ↦ j ∷ [] | some l ↦ elements_of j l ]
+elements_in j = elim (array_in j) [ None ↦ j ∷ [] | Some l ↦ elements_of j l ]
 
 -- ── uuids: "36 characters of RFC 4122 form, either case" ──
 abbrev pub is_dash : ℕ → Bool
 is_dash at = eqb at 8 || eqb at 13 || eqb at 18 || eqb at 23
 
 abbrev pub uuid_from : ℕ → ℕ → List ℕ → Option ℕ
-uuid_from at acc [] = elim (eqb at 36) [ true ↦ some acc | false ↦ none ]
+uuid_from at acc [] = elim (eqb at 36) [ true ↦ Some acc | false ↦ None ]
 uuid_from at acc (b ∷ bs) =
     elim (is_dash at) [
-      | true ↦ elim (eqb b 45) [ true ↦ uuid_from (suc at) acc bs | false ↦ none ]
-      | false ↦ elim (ltb (hex_of b) 16) [ true ↦ uuid_from (suc at) (acc * 16 + hex_of b) bs | false ↦ none ]
+      | true ↦ elim (eqb b 45) [ true ↦ uuid_from (suc at) acc bs | false ↦ None ]
+      | false ↦ elim (ltb (hex_of b) 16) [ true ↦ uuid_from (suc at) (acc * 16 + hex_of b) bs | false ↦ None ]
     ]
 
 -- what a uuid-name stands for in this request: the fresh id of an insert
@@ -74,38 +73,38 @@ Names = List ℕ → Option ℕ
 
 -- ["uuid", ..] or ["named-uuid", ..]
 abbrev pub uuid_by : Names → Json → Option (List ℕ) → Option ℕ
-uuid_by names a none = none
-uuid_by names a (some t) =
-    elim (is_word (ascii "uuid") a) [ true ↦ uuid_from 0 0 t | false ↦ elim (is_word (ascii "named-uuid") a) [ true ↦ names t | false ↦ none ] ]
+uuid_by names a None = None
+uuid_by names a (Some t) =
+    elim (is_word (ascii "uuid") a) [ true ↦ uuid_from 0 0 t | false ↦ elim (is_word (ascii "named-uuid") a) [ true ↦ names t | false ↦ None ] ]
 
 abbrev pub uuid_items : Names → List Json → Option ℕ
-uuid_items names [] = none
-uuid_items names (a ∷ []) = none
+uuid_items names [] = None
+uuid_items names (a ∷ []) = None
 uuid_items names (a ∷ b ∷ []) = uuid_by names a (string_in b)
-uuid_items names (a ∷ b ∷ c ∷ l) = none
+uuid_items names (a ∷ b ∷ c ∷ l) = None
 
 abbrev pub uuid_in : Names → Json → Option ℕ
-uuid_in names j = elim (array_in j) [ none ↦ none | some l ↦ uuid_items names l ]
+uuid_in names j = elim (array_in j) [ None ↦ None | Some l ↦ uuid_items names l ]
 
 -- ── the atom that an element stands for, of a base type; none where it is mistyped ("a value of the wrong kind or shape", reading 23) ──
 abbrev pub bool_in : Json → Option Bool
-bool_in null = none
-bool_in (bool b) = some b
-bool_in (num t) = none
-bool_in (str t) = none
-bool_in (arr xs) = none
-bool_in (obj ms) = none
+bool_in null = None
+bool_in (bool b) = Some b
+bool_in (num t) = None
+bool_in (str t) = None
+bool_in (arr xs) = None
+bool_in (obj ms) = None
 
 abbrev pub atom_in : Names → Base → Json → Option (List ℕ)
-atom_in names integer j = elim (is_whole (whole_of j)) [ true ↦ some (int_atom (whole_int (whole_of j))) | false ↦ none ]
-atom_in names boolean j = elim (bool_in j) [ none ↦ none | some b ↦ some (bool_atom b) ]
-atom_in names text j = elim (string_in j) [ none ↦ none | some t ↦ some (text_atom t) ]
-atom_in names uuid j = elim (uuid_in names j) [ none ↦ none | some i ↦ some (uuid_atom i) ]
+atom_in names integer j = elim (is_whole (whole_of j)) [ true ↦ Some (int_atom (whole_int (whole_of j))) | false ↦ None ]
+atom_in names boolean j = elim (bool_in j) [ None ↦ None | Some b ↦ Some (bool_atom b) ]
+atom_in names text j = elim (string_in j) [ None ↦ None | Some t ↦ Some (text_atom t) ]
+atom_in names uuid j = elim (uuid_in names j) [ None ↦ None | Some i ↦ Some (uuid_atom i) ]
 
 -- the atoms of all elements, in the text's order
 abbrev pub atoms_in : Names → Base → List Json → Option (List (List ℕ))
-atoms_in names k [] = some []
-atoms_in names k (j ∷ js) = elim (atom_in names k j) [ none ↦ none | some a ↦ elim (atoms_in names k js) [ none ↦ none | some l ↦ some (a ∷ l) ] ]
+atoms_in names k [] = Some []
+atoms_in names k (j ∷ js) = elim (atom_in names k j) [ None ↦ None | Some a ↦ elim (atoms_in names k js) [ None ↦ None | Some l ↦ Some (a ∷ l) ] ]
 
 -- ── what is judged of a value as written, each rule by the atoms ──
 -- "a string or set above our limits"
@@ -153,4 +152,4 @@ test_fault c f l = check (distinct l && (if scalar c then eqb (length l) 1 else 
 
 -- a value as written and judged: its atoms in the text's order
 abbrev pub written : Names → Base → (List (List ℕ) → Fault) → Json → Judged (List (List ℕ))
-written names k judge j = elim (atoms_in names k (elements_in j)) [ none ↦ record { fault = Syntax; got = [] } | some l ↦ record { fault = judge l; got = l } ]
+written names k judge j = elim (atoms_in names k (elements_in j)) [ None ↦ record { fault = Syntax; got = [] } | Some l ↦ record { fault = judge l; got = l } ]

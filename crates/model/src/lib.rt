@@ -1,20 +1,20 @@
 // The types that the definitions and the code share.
 #![tactic(auto)]
 
-// Where reading ended: past what was read, at the byte that stopped it, or at the bracket that opened one level too many.
+use std::ops::ControlFlow;
+
+// Why and where reading stopped: at a byte that does not fit, or at the bracket that opened one level too many.
 #[derive(Clone, Copy)]
-pub enum Read {
-    End(usize),
+pub enum ReadError {
     Stop(usize),
     Deep(usize),
 }
 
+// What reading gives: the position past what was read.
+pub type Read = Result<usize, ReadError>;
+
 // What a loop does next: one more turn from a position on, or the end.
-#[derive(Clone, Copy)]
-pub enum Next {
-    More(usize),
-    Done(Read),
-}
+pub type Next = ControlFlow<Read, usize>;
 
 // Whether a value's first byte opens a level.
 #[derive(Clone, Copy)]
@@ -24,15 +24,8 @@ pub enum Open {
     Scalar,
 }
 
-// A position, or none.
-#[derive(Clone, Copy)]
-pub enum Found {
-    At(usize),
-    Nothing,
-}
-
 // The kinds of JSON values.
-#[derive(Clone, Copy)]
+#[derive(Clone, Copy, PartialEq, Eq)]
 pub enum Kind {
     Null,
     Truth,
@@ -40,13 +33,6 @@ pub enum Kind {
     Text,
     Array,
     Object,
-}
-
-// What digits stand for, or that they are none or too large.
-#[derive(Clone, Copy)]
-pub enum Digits {
-    Size(u64),
-    Bad,
 }
 
 // An integer's sign and magnitude, or that a value is none.
@@ -57,10 +43,9 @@ pub enum Whole {
     Other,
 }
 
-// How an operation or a commit fails, in the order of document 01's error checks; Fine where it does not.
-#[derive(Clone, Copy)]
+// How an operation or a commit fails, in the order of document 01's error checks; Fine, the last, where it does not.
+#[derive(Clone, Copy, PartialEq, Eq, PartialOrd, Ord)]
 pub enum Fault {
-    Fine,
     Syntax,
     Resources,
     Duplicate,
@@ -69,6 +54,7 @@ pub enum Fault {
     Range,
     Aborted,
     Integrity,
+    Fine,
 }
 
 // The functions of conditions (RFC 7047, 5.1).

@@ -1,15 +1,13 @@
 -- How mutations are read and judged, one after another. Assumes nothing.
+use Rattle.std.specs.Prelude.{Option, Some, None}
 use mathlib.Core.Path.{◌≡◌, refl, sym, ap, subst, ◌∙◌}
 use mathlib.Core.Bool.{Bool, true, false}
 use mathlib.Core.List.{List, [], ◌∷◌, map}
-use mathlib.Core.Option.{Option, none, some}
 use Prim.Native.Nat.{ℕ, ◌-◌}
 use native.Mathlib.Omega.{arith}
 use lib.Dec.{eqb}
 use lib.ListN.{length, get_or, take, replicate}
 use lib.Seq.{take-append_seam}
-use Rattle.model.specs.declared.Found.{Found}
-use Rattle.model.specs.declared.Found.TheVariants.{At, Nothing}
 use Rattle.model.specs.declared.Fault.{Fault}
 use Rattle.model.specs.declared.Fault.TheVariants.{Fine, Syntax, Constraint}
 use Rattle.model.specs.declared.Mutator.{Mutator}
@@ -33,14 +31,9 @@ use Rattle.request_values.proofs.Fits.{fine_got, beyond_deletes}
 use Rattle.nav.proofs.Walk.{walk_rest, walk_end}
 use Rattle.uuids.specs.Named.{names_at}
 use Rattle.model.proofs.FaultLaws.{earlier_last, earlier_assoc}
-use Rattle.conditions.specs.declared.lookup.Triple.{Triple}
-use Rattle.conditions.specs.declared.lookup.Triple.TheVariants as triple
-use Rattle.catalog.specs.Entries.{found_at}
 use Rattle.conditions.specs.Lookup.{column_in, Thrice, Triples}
 use Rattle.mutations.specs.Mutating.{mutator_in, column_fault, Parted, PartsOf, mutation_at, mutations_at, elements_read, mutation_from, Ready, MutationRead}
 use Rattle.mutations.specs.declared.read.Mutation.{Mutation as Read}
-use Rattle.mutations.specs.declared.read.Parts.{Parts}
-use Rattle.mutations.specs.declared.read.Parts.TheVariants as parts
 use Rattle.mutations.proofs.Naming.{nth_cells, column_some, column_none, column_place_lem}
 
 -- ── what a column takes ──
@@ -78,16 +71,16 @@ module _ (names : Names) (c : Column) (m : Mutator) (j : Json) where
   by_got k h = rw h
 
 -- ── by its three items ──
-no_mutator : (names : Names) (cs : List Column) (j : Json) (o : Option ℕ) → mutation_of names cs j o none ≡ no_mutation
-no_mutator names cs j none = refl
-no_mutator names cs j (some k) = refl
+no_mutator : (names : Names) (cs : List Column) (j : Json) (o : Option ℕ) → mutation_of names cs j o None ≡ no_mutation
+no_mutator names cs j None = refl
+no_mutator names cs j (Some k) = refl
 
-module _ (s : List ℕ) (cells : List (List ℕ)) (at : ℕ) {t : Triple} (p : Triples s t (tree_at s at)) where
-  pub parts_other : t ≡ triple.Other → PartsOf s cells at parts.Nothing
+module _ (s : List ℕ) (cells : List (List ℕ)) (at : ℕ) {t : Option (ℕ × ℕ × ℕ)} (p : Triples s t (tree_at s at)) where
+  pub parts_other : t ≡ None → PartsOf s cells at None
   unfolding Triples PartsOf
-  parts_other e names = ap (λ o. elim o [ none ↦ no_mutation | some t ↦ mutation_of names (map column_from cells) t.value (column_named (map column_from cells) t.name) (mutator_named t.word) ]) (subst (λ t. Triples s t (tree_at s at)) e p)
+  parts_other e names = ap (λ o. elim o [ None ↦ no_mutation | Some t ↦ mutation_of names (map column_from cells) t.value (column_named (map column_from cells) t.name) (mutator_named t.word) ]) (subst (λ t. Triples s t (tree_at s at)) e p)
 
-  module _ {a b v : ℕ} (e : t ≡ triple.Of a b v) where
+  module _ {a b v : ℕ} (e : t ≡ Some (a, b, v)) where
     thrice : Thrice s a b v (tree_at s at)
     unfolding Triples
     thrice = subst (λ t. Triples s t (tree_at s at)) e p
@@ -95,20 +88,20 @@ module _ (s : List ℕ) (cells : List (List ℕ)) (at : ℕ) {t : Triple} (p : T
     by_items : (names : Names) → read_mutation names (map column_from cells) (tree_at s at) ≡ mutation_of names (map column_from cells) (tree_at s v) (column_in (map column_from cells) (tree_at s a)) (mutator_in (tree_at s b))
     unfolding mutator_in
     by_items names =
-        ap (λ o. elim o [ none ↦ no_mutation | some t ↦ mutation_of names (map column_from cells) t.value (column_named (map column_from cells) t.name) (mutator_named t.word) ]) thrice.all
-        ∙ ap (λ o. mutation_of names (map column_from cells) (tree_at s v) o (mutator_named (Text.word_in (tree_at s b)))) (sym (ap (λ o. elim o [ none ↦ none | some w ↦ column_named (map column_from cells) w ]) thrice.name))
-        ∙ ap (mutation_of names (map column_from cells) (tree_at s v) (column_in (map column_from cells) (tree_at s a))) (sym (ap (λ o. elim o [ none ↦ none | some w ↦ mutator_named w ]) thrice.word))
+        ap (λ o. elim o [ None ↦ no_mutation | Some t ↦ mutation_of names (map column_from cells) t.value (column_named (map column_from cells) t.name) (mutator_named t.word) ]) thrice.all
+        ∙ ap (λ o. mutation_of names (map column_from cells) (tree_at s v) o (mutator_named (Text.word_in (tree_at s b)))) (sym (ap (λ o. elim o [ None ↦ None | Some w ↦ column_named (map column_from cells) w ]) thrice.name))
+        ∙ ap (mutation_of names (map column_from cells) (tree_at s v) (column_in (map column_from cells) (tree_at s a))) (sym (ap (λ o. elim o [ None ↦ None | Some w ↦ mutator_named w ]) thrice.word))
 
-    pub parts_mutator : mutator_in (tree_at s b) ≡ none → PartsOf s cells at parts.Nothing
+    pub parts_mutator : mutator_in (tree_at s b) ≡ None → PartsOf s cells at None
     unfolding PartsOf
     parts_mutator h names = by_items names ∙ ap (mutation_of names (map column_from cells) (tree_at s v) (column_in (map column_from cells) (tree_at s a))) h ∙ no_mutator names (map column_from cells) (tree_at s v) (column_in (map column_from cells) (tree_at s a))
 
-    module _ {f : Found} (ef : f ≡ found_at (column_in (map column_from cells) (tree_at s a))) where
-      pub parts_column : f ≡ Nothing → PartsOf s cells at parts.Nothing
+    module _ {f : Option ℕ} (ef : f ≡ (column_in (map column_from cells) (tree_at s a))) where
+      pub parts_column : f ≡ None → PartsOf s cells at None
       unfolding PartsOf
       parts_column h names = by_items names ∙ ap (λ k. mutation_of names (map column_from cells) (tree_at s v) k (mutator_in (tree_at s b))) (column_none cells (tree_at s a) ef h)
 
-      pub parts_all : {i : ℕ} {m : Mutator} → f ≡ At i → mutator_in (tree_at s b) ≡ some m → PartsOf s cells at (parts.Of i m v)
+      pub parts_all : {i : ℕ} {m : Mutator} → f ≡ Some i → mutator_in (tree_at s b) ≡ Some m → PartsOf s cells at (Some (i, m, v))
       unfolding PartsOf
       parts_all {i} {m} h q = record {
         place = column_place_lem cells (tree_at s a) ef h;
@@ -116,7 +109,7 @@ module _ (s : List ℕ) (cells : List (List ℕ)) (at : ℕ) {t : Triple} (p : T
         all = λ names.
             by_items names
             ∙ (λ j. mutation_of names (map column_from cells) (tree_at s v) (column_some cells (tree_at s a) ef h j) (q j))
-            ∙ ap (λ o. elim o [ none ↦ no_mutation | some c ↦ mutation_by names (tree_at s v) i m c ]) (nth_cells cells i (column_place_lem cells (tree_at s a) ef h));
+            ∙ ap (λ o. elim o [ None ↦ no_mutation | Some c ↦ mutation_by names (tree_at s v) i m c ]) (nth_cells cells i (column_place_lem cells (tree_at s a) ef h));
       }
 
 -- ── by its parts ──
@@ -124,20 +117,20 @@ first_padded : (l : List (List ℕ)) → first_int l ≡ int_of (get_or (padded 
 first_padded [] = refl
 first_padded (a ∷ l) = refl
 
-module _ (s : List ℕ) (names : List ℕ) (cells : List (List ℕ)) (at : ℕ) {t : Parts} (p : PartsOf s cells at t) where
-  parts_none : t ≡ parts.Nothing → mutation_at s names cells at ≡ no_mutation
+module _ (s : List ℕ) (names : List ℕ) (cells : List (List ℕ)) (at : ℕ) {t : Option (ℕ × Mutator × ℕ)} (p : PartsOf s cells at t) where
+  parts_none : t ≡ None → mutation_at s names cells at ≡ no_mutation
   unfolding PartsOf mutation_at
   parts_none e =
-      let q : PartsOf s cells at parts.Nothing = subst (PartsOf s cells at) e p in
+      let q : PartsOf s cells at None = subst (PartsOf s cells at) e p in
       q (names_at s names)
 
-  pub none_is : (m : Read) (held : List (List ℕ)) → t ≡ parts.Nothing → m.fault ≡ Syntax → MutationRead s names cells (mutation_at s names cells at) m held
+  pub none_is : (m : Read) (held : List (List ℕ)) → t ≡ None → m.fault ≡ Syntax → MutationRead s names cells (mutation_at s names cells at) m held
   none_is m held e f =
       let q : (mutation_at s names cells at).fault ≡ Syntax = ap (λ (j : Judged Mutation). j.fault) (parts_none e) in
       let never : is_fine (mutation_at s names cells at).fault ≡ true → ⊥ = λ h. clash false (ap is_fine (sym q) ∙ h) refl in
       record { fault = f ∙ sym q; got = λ h. absurd (never h); place = λ h. absurd (never h); ready = λ h. absurd (never h) }
 
-  module _ {i : ℕ} {m : Mutator} {v : ℕ} (e : t ≡ parts.Of i m v) where
+  module _ {i : ℕ} {m : Mutator} {v : ℕ} (e : t ≡ Some (i, m, v)) where
     pub parted : Parted s cells at i m v
     unfolding PartsOf
     parted = subst (PartsOf s cells at) e p
@@ -191,28 +184,28 @@ module _ (s : List ℕ) (names : List ℕ) (cells : List (List ℕ)) (at : ℕ) 
     }
 
 -- ── those from a place on ──
-module _ (s : List ℕ) (names : List ℕ) (cells : List (List ℕ)) {g : Found} where
-  mutations_on : {p : ℕ} → g ≡ At p
+module _ (s : List ℕ) (names : List ℕ) (cells : List (List ℕ)) {g : Option ℕ} where
+  mutations_on : {p : ℕ} → g ≡ Some p
       → mutations_at s names cells g ≡ record { fault = earlier (mutation_at s names cells p).fault (mutations_at s names cells (next_item s p)).fault; got = (mutation_at s names cells p).got ∷ (mutations_at s names cells (next_item s p)).got }
   unfolding mutations_at mutation_at
   mutations_on h = ap (read_mutations (names_at s names) (map column_from cells)) (walk_rest s h)
 
-  pub fault_on : {p : ℕ} → g ≡ At p → (mutations_at s names cells g).fault ≡ earlier (mutation_at s names cells p).fault (mutations_at s names cells (next_item s p)).fault
+  pub fault_on : {p : ℕ} → g ≡ Some p → (mutations_at s names cells g).fault ≡ earlier (mutation_at s names cells p).fault (mutations_at s names cells (next_item s p)).fault
   fault_on h = ap (λ t. t.fault) (mutations_on h)
 
-  pub got_on : {p : ℕ} → g ≡ At p → (mutations_at s names cells g).got ≡ (mutation_at s names cells p).got ∷ (mutations_at s names cells (next_item s p)).got
+  pub got_on : {p : ℕ} → g ≡ Some p → (mutations_at s names cells g).got ≡ (mutation_at s names cells p).got ∷ (mutations_at s names cells (next_item s p)).got
   got_on h = ap (λ t. t.got) (mutations_on h)
 
-  pub mutations_end : g ≡ Nothing → mutations_at s names cells g ≡ record { fault = Fine; got = [] }
+  pub mutations_end : g ≡ None → mutations_at s names cells g ≡ record { fault = Fine; got = [] }
   unfolding mutations_at
   mutations_end h = ap (read_mutations (names_at s names) (map column_from cells)) (walk_end s h)
 
   -- a turn that keeps the earliest fault so far
-  pub worst_on : (all w t : Fault) {p : ℕ} → all ≡ earlier w (mutations_at s names cells g).fault → g ≡ At p → t ≡ (mutation_at s names cells p).fault → {v : Fault} → v ≡ earlier w t
+  pub worst_on : (all w t : Fault) {p : ℕ} → all ≡ earlier w (mutations_at s names cells g).fault → g ≡ Some p → t ≡ (mutation_at s names cells p).fault → {v : Fault} → v ≡ earlier w t
       → all ≡ earlier v (mutations_at s names cells (next_item s p)).fault
   worst_on all w t {p} e h q {v} r =
       let rest = (mutations_at s names cells (next_item s p)).fault in
       e ∙ ap (earlier w) (fault_on h) ∙ ap (λ x. earlier w (earlier x rest)) (sym q) ∙ earlier_assoc w t rest ∙ ap (λ x. earlier x rest) (sym r)
 
-  pub worst_end : (all w : Fault) → all ≡ earlier w (mutations_at s names cells g).fault → g ≡ Nothing → all ≡ w
+  pub worst_end : (all w : Fault) → all ≡ earlier w (mutations_at s names cells g).fault → g ≡ None → all ≡ w
   worst_end all w e h = e ∙ ap (λ t. earlier w t.fault) (mutations_end h) ∙ earlier_last w

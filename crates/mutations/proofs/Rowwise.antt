@@ -67,8 +67,8 @@ module _ (cs : List Column) (m : Mutation) (marks : List Bool) (entry : List (Li
             stops = inr (record { bad = f; before = l; mark = t; step = subst (λ (x : List (List ℕ)). RowStepped cs m r x x) here (subst (RowStepped cs m r (get_or now i [])) e p) });
           }
 
-    pub marked_end : length marks ≡ i → MarkedStepped cs m marks (record { fault = Fine; end = i }) entry now
-    marked_end e = record { rows = g; stops = inl (ap (λ (j : ℕ). record { fault = Fine; end = j }) (sym e)) }
+    pub marked_end : i ≡ length marks → MarkedStepped cs m marks (record { fault = Fine; end = length marks }) entry now
+    marked_end e = record { rows = subst (λ (j : ℕ). SteppedTo cs m marks j entry now) e g; stops = inl refl }
 
 -- ── mutations on the marked rows of the first n, one after another ──
 module _ (cs : List Column) (marks : List Bool) (n : ℕ) (entry : List (List (List ℕ))) where

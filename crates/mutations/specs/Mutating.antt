@@ -1,6 +1,5 @@
 -- Mutations by places of the text. Assumes nothing: these are definitions.
-use Rattle.std.specs.Prelude.{ℕ, ◌≤◌, ◌<◌, ◌≡◌, true, false, List, [], map, eqb, length, get_or, take, if◌then◌else◌}
-use Rattle.std.proofs.Math.Option.{Option, none, some}
+use Rattle.std.specs.Prelude.{ℕ, ◌≤◌, ◌<◌, ◌≡◌, true, false, List, [], map, eqb, length, get_or, take, if◌then◌else◌, Option, Some, None}
 use Rattle.model.specs.Limits.{most_elements}
 use Rattle.model.specs.Json.{Json}
 use Rattle.inner.specs.Positions.{well_at, tree_at, items_from}
@@ -11,39 +10,30 @@ use Rattle.model.specs.Faults.{is_fine, earlier, check, Judged}
 use Rattle.model.specs.Written.{Names, string_in}
 use Rattle.model.specs.Mutations.{Mutation, mutator_named, suits, no_mutation, mutation_by, read_mutation, read_mutations}
 use Rattle.model.specs.Catalog.{column_from}
-use Rattle.model.specs.declared.Found.{Found}
 use Rattle.model.specs.declared.Fault.{Fault}
 use Rattle.model.specs.declared.Fault.TheVariants.{Fine, Syntax, Constraint}
 use Rattle.model.specs.declared.Mutator.{Mutator}
 use Rattle.model.specs.declared.Mutator.TheVariants.{Add, Subtract, Multiply, Divide, Remainder, Insert, Delete}
 use Rattle.uuids.specs.Named.{names_at}
 use Rattle.request_values.specs.Values.{atoms_as}
-use Rattle.mutations.specs.declared.read.Choice.{Choice}
-use Rattle.mutations.specs.declared.read.Choice.TheVariants.{Of, Nothing}
 use Rattle.mutations.specs.declared.read.Mutation.{Mutation as Read}
-use Rattle.mutations.specs.declared.read.Parts.{Parts}
-use Rattle.mutations.specs.declared.read.Parts.TheVariants as parts
 
 -- ── mutators ──
-unfoldable pub chosen : Choice → Option Mutator
-chosen (Of m) = some m
-chosen Nothing = none
-
 -- by their numbers, in the order of RFC 7047
-unfoldable pub mutator_by : ℕ → Choice
+unfoldable pub mutator_by : ℕ → Option Mutator
 mutator_by k =
-    if eqb k 0 then Of Add
-    else if eqb k 1 then Of Subtract
-    else if eqb k 2 then Of Multiply
-    else if eqb k 3 then Of Divide
-    else if eqb k 4 then Of Remainder
-    else if eqb k 5 then Of Insert
-    else if eqb k 6 then Of Delete
-    else Nothing
+    if eqb k 0 then Some Add
+    else if eqb k 1 then Some Subtract
+    else if eqb k 2 then Some Multiply
+    else if eqb k 3 then Some Divide
+    else if eqb k 4 then Some Remainder
+    else if eqb k 5 then Some Insert
+    else if eqb k 6 then Some Delete
+    else None
 
 -- the mutator that a value names
 unfoldable pub mutator_in : Json → Option Mutator
-mutator_in j = elim (string_in j) [ none ↦ none | some w ↦ mutator_named w ]
+mutator_in j = elim (string_in j) [ None ↦ None | Some w ↦ mutator_named w ]
 
 -- ── mutations ──
 -- how one on a column is judged, where its value is judged as v
@@ -60,16 +50,16 @@ pub record Parted (text : List ℕ) (cells : List (List ℕ)) (at i : ℕ) (m : 
   pub well : well_at text v ≡ true
   pub all : (names : Names) → read_mutation names (map column_from cells) (tree_at text at) ≡ mutation_by names (tree_at text v) i m (column_from (get_or cells i []))
 
-unfoldable pub PartsOf : List ℕ → List (List ℕ) → ℕ → Parts → Type 0
-PartsOf text cells at (parts.Of i m v) = Parted text cells at i m v
-PartsOf text cells at parts.Nothing = (names : Names) → read_mutation names (map column_from cells) (tree_at text at) ≡ no_mutation
+unfoldable pub PartsOf : List ℕ → List (List ℕ) → ℕ → Option (ℕ × Mutator × ℕ) → Type 0
+PartsOf text cells at (Some (i, m, v)) = Parted text cells at i m v
+PartsOf text cells at None = (names : Names) → read_mutation names (map column_from cells) (tree_at text at) ≡ no_mutation
 
 -- the one at a position
 unfoldable pub mutation_at : List ℕ → List ℕ → List (List ℕ) → ℕ → Judged Mutation
 mutation_at text names columns at = read_mutation (names_at text names) (map column_from columns) (tree_at text at)
 
 -- those from a place on
-unfoldable pub mutations_at : List ℕ → List ℕ → List (List ℕ) → Found → Judged (List Mutation)
+unfoldable pub mutations_at : List ℕ → List ℕ → List (List ℕ) → Option ℕ → Judged (List Mutation)
 mutations_at text names columns f = read_mutations (names_at text names) (map column_from columns) (items_from text f)
 
 -- ── mutations as read ──

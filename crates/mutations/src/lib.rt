@@ -12,7 +12,7 @@ ghost use Rattle.uuids.specs.Named.{Running};
 ghost use Rattle.mutations.specs.Mutating.{fault_or, mutation_from, Ready, mutations_at};
 ghost use Rattle.mutations.specs.Rows.{MarkedStepped, MarkedMutated};
 
-use model::{ATOM, Atoms, ELEMENTS, Entry, Fault, Found, ROWS, Row};
+use model::{ATOM, Atoms, ELEMENTS, Entry, Fault, ROWS, Row};
 use read::Mutation;
 
 // How far rows are mutated: up to the first on which a step fails, and the fault of that; or all of them, and no fault.
@@ -39,8 +39,7 @@ fn mutate_marked(
     requires marks_len_bound { (length marks.now ≤ most_rows) × (length marks.now ≤ length rows.old) }
     ensures { MarkedStepped (map column_from columns.now) (mutation_from text.now names.now columns.now m atoms.now) marks.now result rows.old rows.new }
 {
-    let mut i = 0;
-    while i < marks.len() {
+    for i in 0..marks.len() {
         if marks[i] {
             let f = step::mutate_row(text, ends, names, columns, m, atoms, &mut rows[i]);
             let ok = leaf::is_fine(f);
@@ -48,11 +47,10 @@ fn mutate_marked(
                 return Stop { fault: f, end: i };
             }
         }
-        i += 1;
     }
     Stop {
         fault: Fault::Fine,
-        end: i,
+        end: marks.len(),
     }
 }
 
@@ -72,7 +70,7 @@ pub fn mutate_rows(
     ends: &[u16],
     names: &[u8],
     columns: &[Entry],
-    f: Found,
+    f: Option<usize>,
     rows: &mut [Row],
     n: usize,
     marks: &[bool; ROWS],
@@ -89,24 +87,18 @@ pub fn mutate_rows(
     let mut e = n;
     let mut stop = Fault::Fine;
     let mut g = f;
-    loop {
-        match g {
-            Found::At(p) => {
-                let m = read::read_mutation(text, ends, names, columns, p, &mut atoms);
-                let t = m.fault;
-                w = leaf::earlier(w, t);
-                let ok = leaf::is_fine(w);
-                if ok {
-                    let s = mutate_marked(text, ends, names, columns, m, &atoms, rows, &all[..e]);
-                    e = s.end;
-                    let v = s.fault;
-                    stop = fault_or(v, stop);
-                }
-                g = nav::next_item(text, ends, p);
-            }
-            Found::Nothing => {
-                return fault_or(w, stop);
-            }
+    while let Some(p) = g {
+        let m = read::read_mutation(text, ends, names, columns, p, &mut atoms);
+        let t = m.fault;
+        w = leaf::earlier(w, t);
+        let ok = leaf::is_fine(w);
+        if ok {
+            let s = mutate_marked(text, ends, names, columns, m, &atoms, rows, &all[..e]);
+            e = s.end;
+            let v = s.fault;
+            stop = fault_or(v, stop);
         }
+        g = nav::next_item(text, ends, p);
     }
+    fault_or(w, stop)
 }

@@ -6,24 +6,9 @@ ghost use Rattle.model.specs.Mutations.{suits};
 ghost use Rattle.model.specs.declared.Fault.TheVariants.{Fine, Constraint};
 ghost use Rattle.model.specs.Catalog.{column_from};
 ghost use Rattle.uuids.specs.Named.{Running};
-ghost use Rattle.mutations.specs.Mutating.{chosen, mutator_by, mutator_in, column_fault, PartsOf, mutation_at, MutationRead};
+ghost use Rattle.mutations.specs.Mutating.{mutator_by, mutator_in, column_fault, PartsOf, mutation_at, MutationRead};
 
-use conditions::lookup::Triple;
-use model::{Atoms, Entry, Fault, Found, Mutator};
-
-// The mutator that a word is, or that it is none.
-#[derive(Clone, Copy)]
-enum Choice {
-    Of(Mutator),
-    Nothing,
-}
-
-// The parts of a mutation: the place of its column, its mutator, and where its value stands; or that it is none.
-#[derive(Clone, Copy)]
-enum Parts {
-    Of(usize, Mutator, usize),
-    Nothing,
-}
+use model::{Atoms, Entry, Fault, Mutator};
 
 // A mutation as read: its fault, the place of its column, its mutator, where its value stands, how many elements that has, and whether their atoms fit four places.
 #[derive(Clone, Copy)]
@@ -37,36 +22,25 @@ pub struct Mutation {
 }
 
 // The mutator of a number.
-fn mutator_of(k: usize) -> Choice
+#[tactic(auto, unfolding(crate::specs::Mutating::mutator_by))]
+fn mutator_of(k: usize) -> Option<Mutator>
     ensures { result ≡ mutator_by k }
 {
-    if k == 0 {
-        return Choice::Of(Mutator::Add);
+    match k {
+        0 => Some(Mutator::Add),
+        1 => Some(Mutator::Subtract),
+        2 => Some(Mutator::Multiply),
+        3 => Some(Mutator::Divide),
+        4 => Some(Mutator::Remainder),
+        5 => Some(Mutator::Insert),
+        6 => Some(Mutator::Delete),
+        _ => None,
     }
-    if k == 1 {
-        return Choice::Of(Mutator::Subtract);
-    }
-    if k == 2 {
-        return Choice::Of(Mutator::Multiply);
-    }
-    if k == 3 {
-        return Choice::Of(Mutator::Divide);
-    }
-    if k == 4 {
-        return Choice::Of(Mutator::Remainder);
-    }
-    if k == 5 {
-        return Choice::Of(Mutator::Insert);
-    }
-    if k == 6 {
-        return Choice::Of(Mutator::Delete);
-    }
-    Choice::Nothing
 }
 
 // The mutator that the value at `at` names.
-fn mutator_at(text: &[u8], at: usize) -> Choice
-    ensures { mutator_in (tree_at text.now at) ≡ chosen result }
+fn mutator_at(text: &[u8], at: usize) -> Option<Mutator>
+    ensures { mutator_in (tree_at text.now at) ≡ result }
 {
     let k = members::choose(
         text,
@@ -77,23 +51,28 @@ fn mutator_at(text: &[u8], at: usize) -> Choice
 }
 
 // The parts of the mutation at `at`.
-fn parts_at(text: &[u8], ends: &[u16], columns: &[Entry], at: usize) -> Parts
+fn parts_at(
+    text: &[u8],
+    ends: &[u16],
+    columns: &[Entry],
+    at: usize,
+) -> Option<(usize, Mutator, usize)>
     requires says { Says text.now ends.now }
     requires at_value { well_at text.now at ≡ true }
     ensures { PartsOf text.now columns.now at result }
 {
     let t = conditions::lookup::triple_at(text, ends, at);
-    let Triple::Of(a, b, v) = t else {
-        return Parts::Nothing;
+    let Some((a, b, v)) = t else {
+        return None;
     };
     let f = conditions::lookup::column_at(text, a, columns);
-    let Found::At(i) = f else {
-        return Parts::Nothing;
+    let Some(i) = f else {
+        return None;
     };
     let c = mutator_at(text, b);
     match c {
-        Choice::Of(m) => Parts::Of(i, m, v),
-        Choice::Nothing => Parts::Nothing,
+        Some(m) => Some((i, m, v)),
+        None => None,
     }
 }
 
@@ -101,12 +80,9 @@ fn parts_at(text: &[u8], ends: &[u16], columns: &[Entry], at: usize) -> Parts
 fn suits(column: &Entry, m: Mutator) -> bool
     ensures { result ≡ suits (column_from column.now) m }
 {
-    let integer = catalog::kind(column) == 0;
-    let one = catalog::is_scalar(column);
     match m {
-        Mutator::Insert => !one,
-        Mutator::Delete => !one,
-        _ => integer,
+        Mutator::Insert | Mutator::Delete => !catalog::is_scalar(column),
+        _ => catalog::kind(column) == 0,
     }
 }
 
@@ -146,12 +122,12 @@ pub fn read_mutation(
     ensures { MutationRead text.now names.now columns.now (mutation_at text.now names.now columns.now at) result atoms.new }
 {
     let t = parts_at(text, ends, columns, at);
-    let Parts::Of(i, m, v) = t else {
+    let Some((i, m, v)) = t else {
         return Mutation {
             fault: Fault::Syntax,
             place: 0,
             mutator: Mutator::Delete,
-            at: at,
+            at,
             count: 0,
             fits: true,
         };

@@ -21,15 +21,9 @@ fn calculate_each(m: Mutator, b: Int, xs: &[model::Atom], out: &mut [model::Atom
     requires { length xs.now ≤ length out.old }
     ensures { Calculated m (int_in b) xs.now result out.old out.new }
 {
-    let mut i = 0;
-    while i < xs.len() {
-        let e = integers::calculate(m, integers::of_atom(&xs[i]), b);
-        match e {
-            Exact::Number(z) => {
-                let a = integers::to_atom(z);
-                out[i] = a;
-                i += 1;
-            }
+    for (i, x) in xs.iter().enumerate() {
+        match integers::calculate(m, integers::of_atom(x), b) {
+            Exact::Number(z) => out[i] = integers::to_atom(z),
             Exact::ByZero => return Fault::Domain,
             Exact::Outside => return Fault::Range,
         }
@@ -41,14 +35,7 @@ fn calculate_each(m: Mutator, b: Int, xs: &[model::Atom], out: &mut [model::Atom
 fn all_within(column: &Entry, l: &[model::Atom]) -> bool
     ensures { result ≡ all_in_limits (column_from column.now) l.now }
 {
-    let mut ok = true;
-    let mut i = 0;
-    while i < l.len() {
-        let w = element_sets::within(column, &l[i]);
-        ok = ok & w;
-        i += 1;
-    }
-    ok
+    l.iter().all(|x| element_sets::within(column, x))
 }
 
 // The results of arithmetic, in front of `out`, and how they are judged; `out` is free behind them, and after a fault.
@@ -62,9 +49,7 @@ fn results(column: &Entry, m: Mutator, b: Int, xs: &[model::Atom], out: &mut [mo
     if !ok {
         return f;
     }
-    let d = value::distinct(&out[..n]);
-    let w = all_within(column, &out[..n]);
-    if d & w {
+    if value::distinct(&out[..n]) && all_within(column, &out[..n]) {
         return Fault::Fine;
     }
     Fault::Constraint
@@ -95,14 +80,10 @@ fn unite(kind: u8, atoms: Atoms, n: usize, more: &[model::Atom]) -> Atoms
 {
     let mut s = value::first(atoms, n);
     let mut m = n;
-    let mut i = 0;
-    while i < more.len() {
-        let x = more[i];
-        let k = value::insert_count(&s[..m], &x);
-        let t = value::insert(kind, s, m, x);
-        s = t;
+    for x in more {
+        let k = value::insert_count(&s[..m], x);
+        s = value::insert(kind, s, m, *x);
         m = k;
-        i += 1;
     }
     s
 }
@@ -144,14 +125,10 @@ fn is_deleted(
     ensures { result ≡ member x.now (elements_read text.now names.now (base_numbered kind) m atoms.now) }
 {
     if m.fits {
-        let n = m.count;
-        let all = &atoms[..];
-        return value::member(x, &all[..n]);
+        return value::member(x, &atoms[..m.count]);
     }
     let e = elements::elements_at(text, ends, m.at);
-    let set = e.set;
-    let f = e.first;
-    element_atoms::cell_among(text, ends, names, kind, set, f, x)
+    element_atoms::cell_among(text, ends, names, kind, e.set, e.first, x)
 }
 
 // The elements that a delete leaves, and zeros; and how many they are.
@@ -172,15 +149,11 @@ fn keep_others(
 {
     *out = [[0u8; ATOM]; ELEMENTS];
     let mut n = 0;
-    let mut i = 0;
-    while i < xs.len() {
-        let gone = is_deleted(text, ends, names, kind, m, atoms, &xs[i]);
-        if !gone {
-            let x = xs[i];
-            out[n] = x;
+    for x in xs {
+        if !is_deleted(text, ends, names, kind, m, atoms, x) {
+            out[n] = *x;
             n += 1;
         }
-        i += 1;
     }
     n
 }
@@ -207,8 +180,7 @@ fn delete(
     let xs = rows::atoms_of(row, c);
     let mut left = [[0u8; ATOM]; ELEMENTS];
     let k = keep_others(text, ends, names, kind, m, atoms, &xs[..n], &mut left);
-    let few = k < min;
-    if few {
+    if k < min {
         return Fault::Constraint;
     }
     rows::set_column(row, c, k as u8, &left);
@@ -232,14 +204,9 @@ pub fn mutate_row(
 {
     let c = m.place;
     let column = &columns[c];
-    let k = m.mutator;
-    match k {
-        Mutator::Insert => {
-            let n = m.count;
-            let all = &atoms[..];
-            insert(column, &all[..n], row, c)
-        }
+    match m.mutator {
+        Mutator::Insert => insert(column, &atoms[..m.count], row, c),
         Mutator::Delete => delete(text, ends, names, column, m, atoms, row),
-        _ => arithmetic(column, k, &atoms[0], row, c),
+        _ => arithmetic(column, m.mutator, &atoms[0], row, c),
     }
 }

@@ -9,16 +9,15 @@ use borrow.Author.Tests.{le-leb, eq-eqb, ne_eqb}
 use lib.Dec.{eqb, leb}
 use lib.ListN.{length, get_or, drop, drop_of_length-le}
 use lib.Seq.{drop-cons}
+use Rattle.std.specs.Char.{is_ascii_digit}
+use Rattle.std.proofs.lemmas.Bool.Decides.{nat_tests}
 use Rattle.model.specs.Scan.{is_digit}
 use Rattle.model.specs.SchemaText.{version_from}
 
-pub and_none : (b : Bool) → (b && false) ≡ false
-and_none true = refl
-and_none false = refl
-
-pub and_all : (b : Bool) → (b && true) ≡ b
-and_all true = refl
-and_all false = refl
+-- std's word for the same test of a byte
+pub digit_is : (b : ℕ) → is_ascii_digit b ≡ is_digit b
+unfolding is_digit
+digit_is b = grind (arith, nat_tests)
 
 module _ (t : List ℕ) (i : ℕ) where
   -- one more element, at the code's next index

@@ -6,8 +6,7 @@ ghost use Rattle.inner.specs.Positions.{tree_at};
 ghost use Rattle.model.specs.SchemaText.{is_version};
 ghost use Rattle.names.specs.Names.{name_cell};
 
-use model::{ATOM, Atom, Found};
-use text::Written;
+use model::{ATOM, Atom};
 
 // The string at `at` as an atom, where it fits in one; else, and of any other value, the empty one.
 pub fn name_at(text: &[u8], at: usize) -> Atom
@@ -15,16 +14,16 @@ pub fn name_at(text: &[u8], at: usize) -> Atom
 {
     let mut cell = [0u8; ATOM];
     let f = text::body_at(text, at);
-    let Found::At(i) = f else {
+    let Some(i) = f else {
         return cell;
     };
     let w = text::decode(text, i, &mut cell[1..]);
     match w {
-        Written::To(n) => {
+        Some(n) => {
             cell[0] = n as u8;
             cell
         }
-        Written::Full => [0u8; ATOM],
+        None => [0u8; ATOM],
     }
 }
 
@@ -34,30 +33,15 @@ pub fn is_version(t: &[u8]) -> bool
 {
     let mut dots: usize = 2;
     let mut seen = false;
-    let mut i = 0;
-    while i < t.len() {
-        let b = t[i];
-        let d = scan::is_digit(b as u16);
-        if d {
+    for b in t {
+        if b.is_ascii_digit() {
             seen = true;
+        } else if *b == b'.' && 0 < dots && seen {
+            dots -= 1;
+            seen = false;
         } else {
-            if b != b'.' {
-                return false;
-            }
-            if dots == 0 {
-                return false;
-            }
-            if seen {
-                dots -= 1;
-                seen = false;
-            } else {
-                return false;
-            }
+            return false;
         }
-        i += 1;
     }
-    if dots == 0 {
-        return seen;
-    }
-    false
+    dots == 0 && seen
 }

@@ -1,4 +1,6 @@
 -- What a value is, by its first byte. Assumes nothing.
+use Rattle.std.specs.Prelude.{Ok, Err}
+use Rattle.model.specs.Scan.{Read}
 use mathlib.Core.Path.{◌≡◌, refl, sym, ap, subst, ◌∙◌}
 use mathlib.Core.List.{List, [], ◌∷◌}
 use mathlib.Core.Bool.{Bool, true, false}
@@ -8,8 +10,6 @@ use native.Mathlib.Nat.{sub_self}
 use lib.ListN.{length}
 use lib.Dec.{eqb}
 use borrow.Author.Tests.{eqb-true, eqb-false}
-use Rattle.model.specs.declared.Read.{Read}
-use Rattle.model.specs.declared.Read.TheVariants.{End, Stop, Deep}
 use Rattle.model.specs.declared.Open.TheVariants.{Scalar}
 use Rattle.model.specs.Scan.{byte, spaces_at, between, end_or}
 use Rattle.model.specs.Strings.{string_at}
@@ -95,7 +95,7 @@ module _ (s : List ℕ) where
       go (no h) q = absurd (let m : Truth ≡ Text = rw h at q in let z : ◌≡◌ {A = ℕ} 0 1 = cc in omega arith)
       go (number a o t n y f) q = absurd (let m : Number ≡ Text = rw (kind_by, a, o, t, n, y, f) at q in let z : ◌≡◌ {A = ℕ} 0 1 = cc in omega arith)
 
-  pub number_is : (at : ℕ) → kind_of (tree_at s at) ≡ Number → (e : ℕ) → (value_at 12 s at).read ≡ End e → tree_at s at ≡ num (between s (spaces_at s at) e)
+  pub number_is : (at : ℕ) → kind_of (tree_at s at) ≡ Number → (e : ℕ) → (value_at 12 s at).read ≡ Ok e → tree_at s at ≡ num (between s (spaces_at s at) e)
   unfolding kind_by tree_at scalar_by
   number_is at k e r = go (first_of_lem (byte s (spaces_at s at))) (sym (kind_is at) ∙ k)
     where
@@ -103,7 +103,7 @@ module _ (s : List ℕ) where
       go (number a o t n y f) q =
           let w = scalar_step 11 at (not_opens (byte s (spaces_at s at)) a o) in
           let v : scalar_by s (spaces_at s at) (byte s (spaces_at s at)) ≡ record { read = number_at s (spaces_at s at); tree = num (between s (spaces_at s at) (end_or (spaces_at s at) (number_at s (spaces_at s at)))) } = rw (scalar_by, t, n, y, f) in
-          let u : number_at s (spaces_at s at) ≡ End e = sym (ap (λ x. x.read) (w ∙ v)) ∙ r in
+          let u : number_at s (spaces_at s at) ≡ Ok e = sym (ap (λ x. x.read) (w ∙ v)) ∙ r in
           ap (λ x. x.tree) (w ∙ v) ∙ rw u
       go (object h) q = absurd (let m : Object ≡ Number = rw h at q in let z : ◌≡◌ {A = ℕ} 0 1 = cc in omega arith)
       go (array h) q = absurd (let m : Array ≡ Number = rw h at q in let z : ◌≡◌ {A = ℕ} 0 1 = cc in omega arith)
@@ -135,7 +135,7 @@ module _ (s : List ℕ) where
       (λ h. let n = no_items (tree_at s at) (λ k. eqb-false (byte s (spaces_at s at)) 91 h (array_first at k)) in (n ∙ rw (first_of, h), rw (first_of, h)))
 
   -- where a value ends
-  pub end_le : (at e : ℕ) → (value_at 12 s at).read ≡ End e → e ≤ length s
+  pub end_le : (at e : ℕ) → (value_at 12 s at).read ≡ Ok e → e ≤ length s
   end_le at e h = (subst (Past s (suc at)) h (value_past s 12 at)).1
 
   -- a number that is none has no text
@@ -144,9 +144,8 @@ module _ (s : List ℕ) where
   number_not at k r = go (first_of_lem (byte s (spaces_at s at))) (sym (kind_is at) ∙ k)
     where
       none : (q : Read) → is_read q ≡ false → num (between s (spaces_at s at) (end_or (spaces_at s at) q)) ≡ num []
-      none (End e) z = absurd (let y : ◌≡◌ {A = ℕ} 0 1 = cc in omega arith)
-      none (Stop e) z = rw sub_self
-      none (Deep e) z = rw sub_self
+      none (Ok e) z = absurd (let y : ◌≡◌ {A = ℕ} 0 1 = cc in omega arith)
+      none (Err e) z = rw sub_self
 
       go : First (byte s (spaces_at s at)) → kind_by (byte s (spaces_at s at)) ≡ Number → (value_at 12 s at).tree ≡ num []
       go (number a o t n y f) q =

@@ -1,4 +1,5 @@
 -- Laws of integers as written. Assumes nothing.
+use Rattle.std.specs.Prelude.{None}
 use mathlib.Core.Path.{◌≡◌, refl}
 use mathlib.Core.List.{List, [], ◌∷◌}
 use mathlib.Core.Bool.{Bool, true, false}
@@ -8,7 +9,6 @@ use lib.ListN.{length}
 use lib.Seq.{drop-cons}
 use borrow.Author.Tests.{lt-ltb, ne_eqb}
 use Rattle.model.specs.Scan.{byte, between, is_digit}
-use Rattle.model.specs.declared.Digits.TheVariants.{Bad}
 use Rattle.model.specs.Json.{Json, null, bool, num, str, arr, obj}
 use Rattle.model.specs.declared.Kind.{Kind}
 use Rattle.model.specs.declared.Kind.TheVariants.{Null, Truth, Number, Text, Array, Object}
@@ -29,12 +29,12 @@ module _ (s : List ℕ) (i end : ℕ) where
   between_none h = let z : end - i ≡ 0 = omega arith in rw z
 
 -- a number that is too large stays so
-pub sized_large : (acc : ℕ) (bs : List ℕ) → 9223372036854775808 < acc → sized acc bs ≡ Bad
+pub sized_large : (acc : ℕ) (bs : List ℕ) → 9223372036854775808 < acc → sized acc bs ≡ None
 unfolding sized
 sized_large acc [] h = rw (sized, lt-ltb _ _ h)
 sized_large acc (b ∷ bs) h = go (is_digit b) refl (sized_large (acc * 10 + (b - 48)) bs (omega arith))
   where
-    go : (d : Bool) → is_digit b ≡ d → sized (acc * 10 + (b - 48)) bs ≡ Bad → sized acc (b ∷ bs) ≡ Bad
+    go : (d : Bool) → is_digit b ≡ d → sized (acc * 10 + (b - 48)) bs ≡ None → sized acc (b ∷ bs) ≡ None
     go true t ih = rw (sized, t) ih
     go false t ih = rw (sized, t)
 
@@ -43,7 +43,7 @@ module _ (acc b : ℕ) (bs : List ℕ) where
   unfolding sized
   sized_digit h = rw (sized, h)
 
-  pub sized_other : is_digit b ≡ false → sized acc (b ∷ bs) ≡ Bad
+  pub sized_other : is_digit b ≡ false → sized acc (b ∷ bs) ≡ None
   unfolding sized
   sized_other h = rw (sized, h)
 

@@ -1,4 +1,8 @@
 -- The items of an array or object from a position on, and that they are the tree's. Assumes nothing.
+use Rattle.std.specs.Prelude.{Ok, Err}
+use Rattle.std.specs.declared.ops.ControlFlow.TheVariants.{Continue, Break}
+use Rattle.model.specs.Scan.{Read, Next}
+use Rattle.std.specs.Prelude.{Option, Some, None}
 use mathlib.Core.Path.{◌≡◌, refl, sym, ap, subst, ◌∙◌}
 use mathlib.Core.List.{List, [], ◌∷◌}
 use mathlib.Core.Bool.{Bool, true, false}
@@ -7,13 +11,7 @@ use native.Mathlib.Omega.{arith}
 use lib.ListN.{length}
 use lib.Dec.{eqb, lit<}
 use borrow.Author.Tests.{eq-eqb}
-use Rattle.model.specs.declared.Read.{Read}
-use Rattle.model.specs.declared.Read.TheVariants.{End, Stop, Deep}
-use Rattle.model.specs.declared.Next.{Next}
-use Rattle.model.specs.declared.Next.TheVariants.{More, Done}
 use Rattle.model.specs.declared.Open.TheVariants.{Object}
-use Rattle.model.specs.declared.Found.{Found}
-use Rattle.model.specs.declared.Found.TheVariants.{At, Nothing}
 use Rattle.model.specs.Scan.{byte, Parsed, and_then, run, spaces_at}
 use Rattle.model.specs.Json.{Json, arr, obj, items, members, key_at, after_item, item_turn, list_at, array_at, member_at, object_at, opens, dispatch, value_at}
 use Rattle.scan.proofs.Past.{Past, PastNext}
@@ -26,55 +24,53 @@ pub not_both : {b : Bool} → b ≡ true → b ≡ false → ⊥
 not_both t f = let z : ◌≡◌ {A = ℕ} 0 1 = cc in omega arith
 
 -- a reading that ended
-pub end_of : (r : Read) → is_read r ≡ true → (e : ℕ) × (r ≡ End e)
+pub end_of : (r : Read) → is_read r ≡ true → (e : ℕ) × (r ≡ Ok e)
 unfolding is_read
-end_of (End e) h = (e, refl)
-end_of (Stop e) h = absurd (let z : ◌≡◌ {A = ℕ} 0 1 = cc in omega arith)
-end_of (Deep e) h = absurd (let z : ◌≡◌ {A = ℕ} 0 1 = cc in omega arith)
+end_of (Ok e) h = (e, refl)
+end_of (Err e) h = absurd (let z : ◌≡◌ {A = ℕ} 0 1 = cc in omega arith)
 
 module _ {A : Type 0} (p : ℕ → Parsed A) (s : List ℕ) (close : ℕ) (small : close < 256) (past : (i : ℕ) → Past s (suc i) (p i).read) where
   abbrev from : ℕ → Parsed (List A)
   from i = run (item_turn p s close) (suc (length s)) i
 
-  abbrev rest : Found → List A
+  abbrev rest : Option ℕ → List A
   rest = rest_of p s close
 
-  abbrev fine : Found → Bool
+  abbrev fine : Option ℕ → Bool
   fine = fine_of p s close
 
-  abbrev next : ℕ → Found
+  abbrev next : ℕ → Option ℕ
   next i = next_of p s close i
 
-  on : (i e : ℕ) → after_item s close (p i).read ≡ More e → (suc i ≤ e) × (e ≤ length s)
+  on : (i e : ℕ) → after_item s close (p i).read ≡ Continue e → (suc i ≤ e) × (e ≤ length s)
   on = run_on s (item_turn p s close) (λ i. after_past s close (suc i) small (p i).read (past i))
 
   same : (e m : ℕ) → 0 < e → 0 < length s → length s ≤ m → run (item_turn p s close) m e ≡ from e
   same e m h k g = enough (item_turn p s close) (length s) on m (suc (length s)) e (omega arith) (omega arith)
 
   -- the laws: an item and the rest
-  pub rest_at : (i : ℕ) → rest (At i) ≡ (p i).tree ∷ rest (next i)
+  pub rest_at : (i : ℕ) → rest (Some i) ≡ (p i).tree ∷ rest (next i)
   unfolding run found_of
   rest_at i = go (after_item s close (p i).read) refl
     where
       go : (t : Next) → after_item s close (p i).read ≡ t → (from i).tree ≡ (p i).tree ∷ rest (next i)
-      go (More e) t = let o = on i e t in let z = same e (length s) (omega arith) (omega arith) (omega arith) in rw (run, found_of, t, z)
-      go (Done r) t = rw (run, found_of, t)
+      go (Continue e) t = let o = on i e t in let z = same e (length s) (omega arith) (omega arith) (omega arith) in rw (run, found_of, t, z)
+      go (Break r) t = rw (run, found_of, t)
 
-  pub rest_none : rest Nothing ≡ []
+  pub rest_none : rest None ≡ []
   rest_none = refl
 
-  pub fine_at : (i : ℕ) → fine (At i) ≡ true → (is_read (p i).read ≡ true) × (fine (next i) ≡ true)
+  pub fine_at : (i : ℕ) → fine (Some i) ≡ true → (is_read (p i).read ≡ true) × (fine (next i) ≡ true)
   unfolding run found_of is_read after_item
   fine_at i h = go (p i).read refl
     where
       turn : (t : Next) → after_item s close (p i).read ≡ t → fine (next i) ≡ true
-      turn (More e) t = let o = on i e t in let z = same e (length s) (omega arith) (omega arith) (omega arith) in rw (found_of, t) (rw (run, t, z) at h)
-      turn (Done r) t = rw (found_of, t)
+      turn (Continue e) t = let o = on i e t in let z = same e (length s) (omega arith) (omega arith) (omega arith) in rw (found_of, t) (rw (run, t, z) at h)
+      turn (Break r) t = rw (found_of, t)
 
       go : (r : Read) → (p i).read ≡ r → (is_read (p i).read ≡ true) × (fine (next i) ≡ true)
-      go (End e) r = (rw r, turn (after_item s close (p i).read) refl)
-      go (Stop e) r = absurd (let k : false ≡ true = rw (run, r) at h in let z : ◌≡◌ {A = ℕ} 0 1 = cc in omega arith)
-      go (Deep e) r = absurd (let k : false ≡ true = rw (run, r) at h in let z : ◌≡◌ {A = ℕ} 0 1 = cc in omega arith)
+      go (Ok e) r = (rw r, turn (after_item s close (p i).read) refl)
+      go (Err e) r = absurd (let k : false ≡ true = rw (run, r) at h in let z : ◌≡◌ {A = ℕ} 0 1 = cc in omega arith)
 
   some : (n j : ℕ) → is_read (run (item_turn p s close) n j).read ≡ true → 0 < n
   unfolding run is_read
@@ -95,15 +91,15 @@ module _ {A : Type 0} (p : ℕ → Parsed A) (s : List ℕ) (close : ℕ) (small
 
 -- an array's items and an object's members, where 12 levels may be opened
 module _ (s : List ℕ) where
-  pub items_at : (i : ℕ) → items_from s (At i) ≡ tree_at s i ∷ items_from s (next_item s i)
+  pub items_at : (i : ℕ) → items_from s (Some i) ≡ tree_at s i ∷ items_from s (next_item s i)
   unfolding tree_at next_item items_from
   items_at = rest_at (value_at 12 s) s 93 (lit< tt) (value_past s 12)
 
-  pub items_none : items_from s Nothing ≡ []
+  pub items_none : items_from s None ≡ []
   unfolding items_from
   items_none = rest_none (value_at 12 s) s 93 (lit< tt) (value_past s 12)
 
-  pub items_fine_lem : (i : ℕ) → items_fine s (At i) ≡ true → (well_at s i ≡ true) × (items_fine s (next_item s i) ≡ true)
+  pub items_fine_lem : (i : ℕ) → items_fine s (Some i) ≡ true → (well_at s i ≡ true) × (items_fine s (next_item s i) ≡ true)
   unfolding well_at next_item items_fine
   items_fine_lem = fine_at (value_at 12 s) s 93 (lit< tt) (value_past s 12)
 
@@ -163,44 +159,43 @@ module _ (s : List ℕ) where
       rw (first_is 123 125 at h) (ap (λ x. x.tree) z ∙ q.0, q.1)
 
   -- a member: its name, and its value where that begins
-  pub members_at : (i : ℕ) → members_from s (At i) ≡ (member_at (value_at 12 s) s i).tree ∷ members_from s (next_member s i)
+  pub members_at : (i : ℕ) → members_from s (Some i) ≡ (member_at (value_at 12 s) s i).tree ∷ members_from s (next_member s i)
   unfolding next_member members_from
   members_at = rest_at (member_at (value_at 12 s) s) s 125 (lit< tt) (member_past s (value_at 12 s) (value_past s 12))
 
-  pub members_none : members_from s Nothing ≡ []
+  pub members_none : members_from s None ≡ []
   unfolding members_from
   members_none = rest_none (member_at (value_at 12 s) s) s 125 (lit< tt) (member_past s (value_at 12 s) (value_past s 12))
 
-  pub members_fine_lem : (i : ℕ) → members_fine s (At i) ≡ true → (is_read (member_at (value_at 12 s) s i).read ≡ true) × (members_fine s (next_member s i) ≡ true)
+  pub members_fine_lem : (i : ℕ) → members_fine s (Some i) ≡ true → (is_read (member_at (value_at 12 s) s i).read ≡ true) × (members_fine s (next_member s i) ≡ true)
   unfolding next_member members_fine
   members_fine_lem = fine_at (member_at (value_at 12 s) s) s 125 (lit< tt) (member_past s (value_at 12 s) (value_past s 12))
 
-  pub member_is : (i e : ℕ) → (key_at s i).read ≡ End e → (member_at (value_at 12 s) s i).tree ≡ record { name = (key_at s i).tree; value = tree_at s e }
+  pub member_is : (i e : ℕ) → (key_at s i).read ≡ Ok e → (member_at (value_at 12 s) s i).tree ≡ record { name = (key_at s i).tree; value = tree_at s e }
   unfolding member_at and_then tree_at
   member_is i e h = rw (member_at, h)
 
-  pub member_well : (i : ℕ) → is_read (member_at (value_at 12 s) s i).read ≡ true → (e : ℕ) × ((key_at s i).read ≡ End e) × (well_at s e ≡ true)
+  pub member_well : (i : ℕ) → is_read (member_at (value_at 12 s) s i).read ≡ true → (e : ℕ) × ((key_at s i).read ≡ Ok e) × (well_at s e ≡ true)
   unfolding member_at and_then well_at is_read
   member_well i w = go (key_at s i).read refl
     where
-      go : (r : Read) → (key_at s i).read ≡ r → (e : ℕ) × ((key_at s i).read ≡ End e) × (well_at s e ≡ true)
-      go (End e) r = (e, r, rw (member_at, r) at w)
-      go (Stop e) r = absurd (let k : false ≡ true = rw (member_at, r) at w in let z : ◌≡◌ {A = ℕ} 0 1 = cc in omega arith)
-      go (Deep e) r = absurd (let k : false ≡ true = rw (member_at, r) at w in let z : ◌≡◌ {A = ℕ} 0 1 = cc in omega arith)
+      go : (r : Read) → (key_at s i).read ≡ r → (e : ℕ) × ((key_at s i).read ≡ Ok e) × (well_at s e ≡ true)
+      go (Ok e) r = (e, r, rw (member_at, r) at w)
+      go (Err e) r = absurd (let k : false ≡ true = rw (member_at, r) at w in let z : ◌≡◌ {A = ℕ} 0 1 = cc in omega arith)
 
   -- a place after another is further on
-  next_past : {A : Type 0} (p : ℕ → Parsed A) (close : ℕ) → close < 256 → ((i : ℕ) → Past s (suc i) (p i).read) → (i : ℕ) → left s (next_of p s close i) < left s (At i)
+  next_past : {A : Type 0} (p : ℕ → Parsed A) (close : ℕ) → close < 256 → ((i : ℕ) → Past s (suc i) (p i).read) → (i : ℕ) → left s (next_of p s close i) < left s (Some i)
   unfolding left found_of
   next_past p close h past i = go (after_item s close (p i).read) (after_past s close (suc i) h (p i).read (past i))
     where
-      go : (n : Next) → PastNext s (suc i) n → left s (found_of n) < left s (At i)
-      go (More e) g = omega arith
-      go (Done r) g = omega arith
+      go : (n : Next) → PastNext s (suc i) n → left s (found_of n) < left s (Some i)
+      go (Continue e) g = omega arith
+      go (Break r) g = omega arith
 
-  pub item_past : (i : ℕ) → left s (next_item s i) < left s (At i)
+  pub item_past : (i : ℕ) → left s (next_item s i) < left s (Some i)
   unfolding next_item
   item_past = next_past (value_at 12 s) 93 (lit< tt) (value_past s 12)
 
-  pub member_on : (i : ℕ) → left s (next_member s i) < left s (At i)
+  pub member_on : (i : ℕ) → left s (next_member s i) < left s (Some i)
   unfolding next_member
   member_on = next_past (member_at (value_at 12 s) s) 125 (lit< tt) (member_past s (value_at 12 s) (value_past s 12))

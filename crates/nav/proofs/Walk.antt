@@ -1,4 +1,8 @@
 -- Members by places. Assumes nothing.
+use Rattle.std.specs.Prelude.{Ok, Err}
+use Rattle.model.specs.declared.ReadError.TheVariants.{Stop}
+use Rattle.model.specs.Scan.{Read}
+use Rattle.std.specs.Prelude.{Option, Some, None}
 use mathlib.Core.Path.{◌≡◌, refl, sym, ap, subst, ◌∙◌}
 use mathlib.Core.List.{List, [], ◌∷◌}
 use mathlib.Core.Bool.{true}
@@ -6,10 +10,6 @@ use Prim.Native.Nat.{ℕ, ◌<◌}
 use native.Mathlib.Omega.{arith}
 use lib.Dec.{eqb, ltb}
 use borrow.Author.Tests.{eqb-true, eqb-false, ltb-false, lt-ltb}
-use Rattle.model.specs.declared.Read.{Read}
-use Rattle.model.specs.declared.Read.TheVariants.{End, Stop, Deep}
-use Rattle.model.specs.declared.Found.{Found}
-use Rattle.model.specs.declared.Found.TheVariants.{At, Nothing}
 use Rattle.model.specs.Scan.{byte, and_then, within_at, spaces_at, end_or}
 use Rattle.model.specs.Strings.{string_at}
 use Rattle.model.specs.Json.{Json, null, bool, num, str, arr, obj, members, Named, key_at, member_at, value_at}
@@ -56,27 +56,26 @@ module _ (s : List ℕ) where
       (λ h. let n = no_members (tree_at s at) (λ k. eqb-false (byte s (spaces_at s at)) 123 h (object_first at k)) in (n ∙ rw (first_of, h), rw (first_of, h)))
 
   -- the name of a member is the string that stands at its place
-  other_byte : (x i : ℕ) → (byte s i ≡ x → ⊥) → within_at s x x (End i) ≡ Stop i
+  other_byte : (x i : ℕ) → (byte s i ≡ x → ⊥) → within_at s x x (Ok i) ≡ Err (Stop i)
   unfolding within_at
   other_byte x i h =
       split (ltb (byte s i) x) (λ a. rw (within_at, a))
       (λ a. let l : x < byte s i = omega (arith, ltb-false (byte s i) x a, h) in rw (within_at, a, lt-ltb x (byte s i) l))
 
-  key_quote : (p e : ℕ) → (key_at s p).read ≡ End e → byte s (spaces_at s p) ≡ 34
+  key_quote : (p e : ℕ) → (key_at s p).read ≡ Ok e → byte s (spaces_at s p) ≡ 34
   unfolding key_at string_at and_then
   key_quote p e h =
       split (eqb (byte s (spaces_at s p)) 34) (λ a. eqb-true _ 34 a)
       (λ a. let w = other_byte 34 (spaces_at s p) (eqb-false _ 34 a) in
-      absurd (let k : Stop (spaces_at s p) ≡ End e = sym (rw (key_at, string_at, w)) ∙ h in let z : ◌≡◌ {A = ℕ} 0 1 = cc in omega arith))
+      absurd (let k : Err (Stop (spaces_at s p)) ≡ Ok e = sym (rw (key_at, string_at, w)) ∙ h in let z : ◌≡◌ {A = ℕ} 0 1 = cc in omega arith))
 
-  key_tree : (p e : ℕ) → (key_at s p).read ≡ End e → (key_at s p).tree ≡ (string_at s (spaces_at s p)).tree
+  key_tree : (p e : ℕ) → (key_at s p).read ≡ Ok e → (key_at s p).tree ≡ (string_at s (spaces_at s p)).tree
   unfolding key_at and_then
   key_tree p e h = go (string_at s (spaces_at s p)).read refl
     where
       go : (r : Read) → (string_at s (spaces_at s p)).read ≡ r → (key_at s p).tree ≡ (string_at s (spaces_at s p)).tree
-      go (End x) r = rw (key_at, r)
-      go (Stop x) r = absurd (let k : Stop x ≡ End e = sym (rw (key_at, r)) ∙ h in let z : ◌≡◌ {A = ℕ} 0 1 = cc in omega arith)
-      go (Deep x) r = absurd (let k : Deep x ≡ End e = sym (rw (key_at, r)) ∙ h in let z : ◌≡◌ {A = ℕ} 0 1 = cc in omega arith)
+      go (Ok x) r = rw (key_at, r)
+      go (Err x) r = absurd (let k : Err x ≡ Ok e = sym (rw (key_at, r)) ∙ h in let z : ◌≡◌ {A = ℕ} 0 1 = cc in omega arith)
 
   pub name_at : (p : ℕ) → is_read (member_at (value_at 12 s) s p).read ≡ true → tree_at s p ≡ str (member_at (value_at 12 s) s p).tree.name
   unfolding kind_by
@@ -87,11 +86,11 @@ module _ (s : List ℕ) where
       (text_is_lem s p k).1 ∙ ap str (sym (key_tree p m.0 m.1) ∙ sym (ap (λ x. x.name) (member_is s p m.0 m.1)))
 
   -- a loop over items that stands at the place g: the item there, the rest, and that it gets on
-  module _ {g : Found} where
-    pub walk_end : g ≡ Nothing → items_from s g ≡ []
+  module _ {g : Option ℕ} where
+    pub walk_end : g ≡ None → items_from s g ≡ []
     walk_end h = ap (items_from s) h ∙ items_none s
 
-    module _ {p : ℕ} (h : g ≡ At p) where
+    module _ {p : ℕ} (h : g ≡ Some p) where
       pub walk_rest : items_from s g ≡ tree_at s p ∷ items_from s (next_item s p)
       walk_rest = ap (items_from s) h ∙ items_at s p
 
@@ -102,11 +101,11 @@ module _ (s : List ℕ) where
       walk_less = subst (λ x. left s (next_item s p) < left s x) (sym h) (item_past s p)
 
   -- and over members: the name is the string at the place, the value begins where the key ends
-  module _ {g : Found} where
-    pub pass_end : g ≡ Nothing → members_from s g ≡ []
+  module _ {g : Option ℕ} where
+    pub pass_end : g ≡ None → members_from s g ≡ []
     pass_end h = ap (members_from s) h ∙ members_none s
 
-    module _ {p : ℕ} (h : g ≡ At p) where
+    module _ {p : ℕ} (h : g ≡ Some p) where
       pub pass_less : left s (next_member s p) < left s g
       pass_less = subst (λ x. left s (next_member s p) < left s x) (sym h) (member_on s p)
 
@@ -121,7 +120,7 @@ module _ (s : List ℕ) where
         pass_fine = here.1
 
         -- the key ends
-        pub pass_key : (key_at s p).read ≡ End (end_or p (key_at s p).read)
+        pub pass_key : (key_at s p).read ≡ Ok (end_or p (key_at s p).read)
         pass_key = let m = member_well s p here.0 in rw m.1
 
         pub pass_name : tree_at s p ≡ str (member_at (value_at 12 s) s p).tree.name

@@ -1,8 +1,8 @@
 // Values of a well-formed text, by position: kinds, items, members, integers.
 #![tactic(auto)]
 
+ghost use Rattle.std.specs.Prelude.{Ok};
 ghost use Rattle.std.specs.Prelude.{◌≡◌, ◌≤◌, ◌-◌, length, get_or};
-ghost use Rattle.model.specs.declared.Read.TheVariants.{End};
 ghost use Rattle.model.specs.Scan.{between, end_or};
 ghost use Rattle.model.specs.Json.{key_at, value_at, member_at};
 ghost use Rattle.inner.specs.Positions.{Says, found_of, first_of, next_item, next_member, tree_at, kind_by, is_true};
@@ -10,8 +10,9 @@ ghost use Rattle.model.specs.Nav.{kind_of};
 ghost use Rattle.nav.specs.Known.{next_after, KeyKnown};
 ghost use Rattle.model.specs.Whole.{sized, plus_of, minus_of, whole_text, whole_of};
 
-use model::{Digits, Found, Kind, Next, Read, Whole};
+use model::{Kind, Next, Read, Whole};
 use scan::{BRACE, BRACKET, DASH, DIGIT_0, LETTER_F, LETTER_N, LETTER_T, QUOTE};
+use std::ops::ControlFlow;
 
 // Characters as `peek` gives them.
 const COMMA: u16 = b',' as u16;
@@ -38,20 +39,20 @@ pub fn end_of(text: &[u8], ends: &[u16], at: usize) -> Read
     if e == 0 {
         return json_reader::end_at(text, at);
     }
-    Read::End(e)
+    Ok(e)
 }
 
-fn found(n: Next) -> Found
+fn found(n: Next) -> Option<usize>
     ensures { result ≡ found_of n }
 {
     match n {
-        Next::More(e) => Found::At(e),
-        Next::Done(_) => Found::Nothing,
+        ControlFlow::Continue(e) => Some(e),
+        ControlFlow::Break(_) => None,
     }
 }
 
 // The first item of the array or object at `at`.
-pub fn first(text: &[u8], at: usize, opener: u8, close: u8) -> Found
+pub fn first(text: &[u8], at: usize, opener: u8, close: u8) -> Option<usize>
     ensures { result ≡ first_of text.now opener close at }
 {
     let i = scan::spaces(text, at);
@@ -62,27 +63,27 @@ pub fn first(text: &[u8], at: usize, opener: u8, close: u8) -> Found
         let j = scan::spaces(text, i + 1);
         let d = scan::peek(text, j);
         if d == c {
-            return Found::Nothing;
+            return None;
         }
-        return Found::At(j);
+        return Some(j);
     }
-    Found::Nothing
+    None
 }
 
 // The place after the comma that follows what ends at e, if there is one.
-fn next_after(text: &[u8], e: usize) -> Found
+fn next_after(text: &[u8], e: usize) -> Option<usize>
     ensures { result ≡ next_after text.now e }
 {
     let i = scan::spaces(text, e);
     let b = scan::peek(text, i);
     if b == COMMA {
-        return Found::At(i + 1);
+        return Some(i + 1);
     }
-    Found::Nothing
+    None
 }
 
 // The item of an array after the one at `at`.
-pub fn next_item(text: &[u8], ends: &[u16], at: usize) -> Found
+pub fn next_item(text: &[u8], ends: &[u16], at: usize) -> Option<usize>
     requires { Says text.now ends.now }
     ensures { result ≡ next_item text.now at }
 {
@@ -119,14 +120,12 @@ fn member_end(text: &[u8], ends: &[u16], at: usize) -> Read
     ensures { result ≡ (member_at (value_at 12 text.now) text.now at).read }
 {
     let k = scan::key(text, at);
-    let Read::End(e) = k else {
-        return k;
-    };
+    let e = k?;
     end_of(text, ends, e)
 }
 
 // The member of an object after the one at `at`.
-pub fn next_member(text: &[u8], ends: &[u16], at: usize) -> Found
+pub fn next_member(text: &[u8], ends: &[u16], at: usize) -> Option<usize>
     requires { Says text.now ends.now }
     ensures { result ≡ next_member text.now at }
 {
@@ -140,9 +139,9 @@ pub fn next_member(text: &[u8], ends: &[u16], at: usize) -> Found
 }
 
 // The same of a member whose value begins at v.
-pub fn next_past(text: &[u8], ends: &[u16], at: usize, v: usize) -> Found
+pub fn next_past(text: &[u8], ends: &[u16], at: usize, v: usize) -> Option<usize>
     requires says { Says text.now ends.now }
-    requires at_value { (key_at text.now at).read ≡ End v }
+    requires at_value { (key_at text.now at).read ≡ Ok v }
     ensures { result ≡ next_member text.now at }
 {
     let e = entry(ends, v);
@@ -205,9 +204,8 @@ pub fn member_value(text: &[u8], ends: &[u16], at: usize) -> usize
     }
     let r = scan::key(text, at);
     match r {
-        Read::End(e) => e,
-        Read::Stop(_) => at,
-        Read::Deep(_) => at,
+        Ok(e) => e,
+        Err(_) => at,
     }
 }
 
@@ -222,7 +220,7 @@ fn digit_value(b: u16) -> u64
 }
 
 // What the digits from `at` to `end` stand for.
-fn digits_of(text: &[u8], at: usize, end: usize) -> Digits
+fn digits_of(text: &[u8], at: usize, end: usize) -> Option<u64>
     requires { end ≤ length text.now }
     ensures { result ≡ sized 0 (between text.now at end) }
 {
@@ -232,44 +230,44 @@ fn digits_of(text: &[u8], at: usize, end: usize) -> Digits
         let d = scan::is_digit(b);
         if d {
             if 922337203685477580 < acc {
-                return Digits::Bad;
+                return None;
             }
             acc = acc * 10 + digit_value(b);
         } else {
-            return Digits::Bad;
+            return None;
         }
     }
     if 9223372036854775808 < acc {
-        return Digits::Bad;
+        return None;
     }
-    Digits::Size(acc)
+    Some(acc)
 }
 
-fn plus(d: Digits) -> Whole
+fn plus(d: Option<u64>) -> Whole
     ensures { result ≡ plus_of d }
 {
     match d {
-        Digits::Size(m) => {
+        Some(m) => {
             if m < 9223372036854775808 {
                 return Whole::Plus(m);
             }
             Whole::Other
         }
-        Digits::Bad => Whole::Other,
+        None => Whole::Other,
     }
 }
 
-fn minus(d: Digits) -> Whole
+fn minus(d: Option<u64>) -> Whole
     ensures { result ≡ minus_of d }
 {
     match d {
-        Digits::Size(m) => {
+        Some(m) => {
             if m == 0 {
                 return Whole::Plus(0);
             }
             Whole::Minus(m)
         }
-        Digits::Bad => Whole::Other,
+        None => Whole::Other,
     }
 }
 
@@ -298,7 +296,7 @@ pub fn integer_at(text: &[u8], ends: &[u16], at: usize) -> Whole
     if n {
         let i = scan::spaces(text, at);
         let r = end_of(text, ends, at);
-        let Read::End(e) = r else {
+        let Ok(e) = r else {
             return Whole::Other;
         };
         return whole_text(text, i, e);

@@ -1,13 +1,16 @@
 -- The laws of loops that write and read numbers most significant byte first, and of those that write the first bytes of a list. Assumes nothing.
 use mathlib.Core.Path.{◌≡◌, sym, ap, ◌∙◌}
 use mathlib.Core.List.{List, [], ◌∷◌, ◌++◌, append_assoc}
-use Prim.Native.Nat.{ℕ, suc, ◌+◌, ◌-◌, ◌*◌, ◌/◌, ◌%◌, ◌^◌, ◌<◌}
+use Prim.Native.Nat.{ℕ, suc, ◌+◌, ◌-◌, ◌*◌, ◌/◌, ◌%◌, ◌^◌, ◌≤◌, ◌<◌}
 use native.Mathlib.Nat.{pow-suc, div-div-eq-div-mul, add_assoc, mul_assoc, add-mul, lt_of_lt_of_le, pow-le-pow_right}
 use native.Mathlib.Numerals.{add-one}
 use native.Mathlib.Omega.{arith}
 use lib.Dec.{lit<}
-use lib.ListN.{length, take, drop, set, get_or, length-append}
-use lib.Seq.{take-suc, drop-cons, set_at, append_snoc, length-take-le}
+use lib.ListN.{length, take, drop, set, get_or, length-append, length-take}
+use lib.Seq.{take-suc, set_at, length-take-le}
+use mir.Val.{Fits}
+use mir.Syntax.{w8}
+use Rattle.std.proofs.lemmas.List.{get_or-take}
 use Rattle.model.specs.Octets.{big, value}
 
 -- one byte more at the front: a turn of the loop that writes a number from its end
@@ -22,15 +25,6 @@ turn xs x w i j k v ys ei ek l ev ey =
           ∙ set_at (take j xs) (get_or xs j 0) (big k x ++ drop w xs) (v % 256) j (length-take-le j xs (omega arith))
           ∙ ap (λ (b : ℕ). take j xs ++ (b % 256 ∷ (big k x ++ drop w xs))) ev),
     )
-
--- one byte more copied from the front
-pub copied : (s d : List ℕ) (i : ℕ) → i < length s → i < length d → set (take i s ++ drop i d) i (get_or s i 0) ≡ take (i + 1) s ++ drop (i + 1) d
-copied s d i h l =
-    ap (λ (r : List ℕ). set (take i s ++ r) i (get_or s i 0)) (drop-cons d i 0 l)
-    ∙ set_at (take i s) (get_or d i 0) (drop (suc i) d) (get_or s i 0) i (length-take-le i s (omega arith))
-    ∙ sym (append_snoc (take i s) (get_or s i 0) (drop (suc i) d))
-    ∙ ap (λ (r : List ℕ). r ++ drop (suc i) d) (sym (take-suc s i 0 h))
-    ∙ ap (λ (n : ℕ). take n s ++ drop n d) (sym (add-one i))
 
 -- one byte more read
 pub value_snoc : (l : List ℕ) (b : ℕ) → value (l ++ (b ∷ [])) ≡ value l * 256 + b
@@ -52,3 +46,12 @@ next_lt i v b h l = rw (add-one i, pow-suc 256 i) (omega arith)
 
 pub next_fits : (i v b : ℕ) → i < 8 → v < 256 ^ i → b < 256 → v * 256 + b < 2 ^ 64
 next_fits i v b h l m = lt_of_lt_of_le (next_lt i v b l m) (pow-le-pow_right {n = 256} (lit< tt) {i = i + 1} {j = 8} (omega arith))
+
+-- a turn of the loop that reads the first w bytes
+pub read_turn : (s : List ℕ) (w i v b : ℕ) → w ≤ 8 → i < length (take w s) → ((k : ℕ) → Fits w8 (get_or s k 0)) → v < 256 ^ i → v ≡ value (take i s) → b ≡ get_or (take w s) i 0
+    → (v * 256 + b < 2 ^ 64) × (v * 256 + b < 256 ^ (i + 1)) × (v * 256 + b ≡ value (take (i + 1) s))
+read_turn s w i v b m h f l e q =
+    let t = length-take w s in
+    let g : b ≡ get_or s i 0 = q ∙ get_or-take w s i 0 (omega arith) in
+    let k : b < 256 = omega (arith, (f i).fits) in
+    (next_fits i v b (omega arith) l k, next_lt i v b l k, ap (λ (n : ℕ). n * 256 + b) e ∙ ap (λ (n : ℕ). value (take i s) * 256 + n) g ∙ sym (value_take_suc s i (omega arith)))

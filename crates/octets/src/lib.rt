@@ -11,11 +11,7 @@ use model::Whole;
 pub fn clear(b: &mut [u8])
     ensures { b.new ≡ replicate (length b.old) 0 }
 {
-    let mut i = 0;
-    while i < b.len() {
-        b[i] = 0;
-        i += 1;
-    }
+    b.fill(0);
 }
 
 // The first bytes are those of `src`.
@@ -23,11 +19,7 @@ pub fn put_bytes(out: &mut [u8], src: &[u8])
     requires { length src.now ≤ length out.old }
     ensures { out.new ≡ src.now ++ drop (length src.now) out.old }
 {
-    let mut i = 0;
-    while i < src.len() {
-        out[i] = src[i];
-        i += 1;
-    }
+    out[..src.len()].copy_from_slice(src);
 }
 
 // The first `width` bytes are x, most significant byte first.
@@ -35,12 +27,10 @@ pub fn put_number(out: &mut [u8], x: u64, width: usize)
     requires { width ≤ length out.old }
     ensures { out.new ≡ big width x ++ drop width out.old }
 {
-    let mut i = width;
-    let mut v = x;
-    while 0 < i {
-        i -= 1;
-        out[i] = (v % 256) as u8;
-        v = v / 256;
+    let mut rest = x;
+    for i in (0..width).rev() {
+        out[i] = (rest % 256) as u8;
+        rest /= 256;
     }
 }
 
@@ -49,56 +39,26 @@ pub fn number(s: &[u8], width: usize) -> u64
     requires { (width ≤ 8) × (width ≤ length s.now) }
     ensures { result ≡ value (take width s.now) }
 {
-    let mut i = 0;
-    let mut v = 0u64;
-    while i < width {
-        v = v * 256 + wide(s[i]);
-        i += 1;
+    let mut v = 0;
+    for b in &s[..width] {
+        v = v * 256 + u64::from(*b);
     }
     v
-}
-
-fn wide(b: u8) -> u64
-    ensures { result ≡ b }
-{
-    b as u64
 }
 
 // Whether a and b are the same bytes.
 pub fn equal(a: &[u8], b: &[u8]) -> bool
     ensures { result ≡ eq_bytes a.now b.now }
 {
-    if a.len() != b.len() {
-        return false;
-    }
-    let mut i = 0;
-    while i < a.len() {
-        if a[i] != b[i] {
-            return false;
-        }
-        i += 1;
-    }
-    true
+    a == b
 }
 
 // Whether a is before b, by the first byte that differs, a prefix first.
+#[tactic(auto, using(crate::proofs::Orders::lt_bytes_is))]
 pub fn less(a: &[u8], b: &[u8]) -> bool
     ensures { result ≡ lt_bytes a.now b.now }
 {
-    let mut i = 0;
-    while i < a.len() {
-        if b.len() <= i {
-            return false;
-        }
-        if a[i] < b[i] {
-            return true;
-        }
-        if b[i] < a[i] {
-            return false;
-        }
-        i += 1;
-    }
-    i < b.len()
+    a.cmp(b).is_lt()
 }
 
 // The two's complement of an integer in 64 bits, 0 where there is none.
@@ -107,12 +67,7 @@ pub fn bits(w: Whole) -> u64
 {
     match w {
         Whole::Plus(m) => m,
-        Whole::Minus(m) => {
-            if m == 0 {
-                return 0;
-            }
-            18446744073709551615 - m + 1
-        }
+        Whole::Minus(m) => m.wrapping_neg(),
         Whole::Other => 0,
     }
 }

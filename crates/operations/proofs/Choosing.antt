@@ -1,16 +1,14 @@
 -- An operation by its word and its table. Assumes nothing.
+use Rattle.std.specs.Prelude.{Option, Some, None}
 use mathlib.Core.Path.{◌≡◌, refl, sym, ap, subst, ◌∙◌}
 use mathlib.Core.Bool.{Bool, true, false, ◌&&◌}
 use mathlib.Core.List.{List, [], ◌∷◌, map}
-use mathlib.Core.Option.{Option, none, some}
 use Prim.Native.Nat.{ℕ, suc, ◌≤◌, ◌<◌}
 use native.Mathlib.Omega.{arith}
 use borrow.Author.Tests.{eq-eqb, ne_eqb}
 use lib.Dec.{eqb}
 use lib.ListN.{length, get_or, length-map}
 use Rattle.model.specs.declared.Fault.TheVariants.{Fine, Syntax, Aborted}
-use Rattle.model.specs.declared.Found.{Found}
-use Rattle.model.specs.declared.Found.TheVariants.{At, Nothing}
 use Rattle.model.specs.Octets.{eq_bytes}
 use Rattle.model.specs.Base.{ascii, is_some, place_of}
 use Rattle.model.specs.Json.{Json, null, bool, num, str, arr, obj, Named}
@@ -27,7 +25,6 @@ use Rattle.model.specs.Written.{Names, string_in}
 use Rattle.model.specs.Operations as Model
 use Rattle.model.specs.Catalog.{packed_tables}
 use Rattle.model.proofs.Tests.{split, clash}
-use Rattle.catalog.specs.Entries.{found_at}
 use Rattle.members.specs.Fields.{choice_from, choice, slot_tree, Slots}
 use Rattle.area.proofs.Schemas.{tables_count}
 use Rattle.request_rows.specs.Assigned.{slotted}
@@ -59,7 +56,7 @@ string_is (arr xs) = refl
 string_is (obj ms) = refl
 
 abbrev string_or : Option Json → Option (List ℕ)
-string_or o = elim o [ none ↦ none | some j ↦ string_in j ]
+string_or o = elim o [ None ↦ None | Some j ↦ string_in j ]
 
 string_slot : (s : List ℕ) (p : ℕ) → is_some (string_or (slotted s p)) ≡ is_text (kind_of (slot_tree s p))
 unfolding slotted slot_tree kind_of
@@ -99,52 +96,49 @@ module _ (text : List ℕ) (call : Call) {slots : List ℕ} (k : Slots text (asc
 
 -- ── the table ──
 abbrev table_or : Schema → Option Json → Option ℕ
-table_or s o = elim (string_or o) [ none ↦ none | some w ↦ table_named s w ]
+table_or s o = elim (string_or o) [ None ↦ None | Some w ↦ table_named s w ]
 
 module _ (s : Schema) (text : List ℕ) (ms : List Named) where
-  pub table_there : {f : Found} {p : ℕ} → Means text f (has_member (ascii "table") ms) (member_value (ascii "table") ms) → f ≡ At p → {r : Found} → r ≡ found_at (lookup.table_in s (tree_at text p)) → r ≡ found_at (Model.table_in s ms)
-  table_there m e h = h ∙ sym (ap (λ (o : Option Json). found_at (table_or s o)) (find_there text ms m refl e).0)
+  pub table_there : {f : Option ℕ} {p : ℕ} → Means text f (has_member (ascii "table") ms) (member_value (ascii "table") ms) → f ≡ Some p → {r : Option ℕ} → r ≡ (lookup.table_in s (tree_at text p)) → r ≡ (Model.table_in s ms)
+  table_there m e h = h ∙ sym (ap (λ (o : Option Json). (table_or s o)) (find_there text ms m refl e).0)
 
-  pub table_missing : {f : Found} → Means text f (has_member (ascii "table") ms) (member_value (ascii "table") ms) → f ≡ Nothing → Nothing ≡ found_at (Model.table_in s ms)
-  unfolding found_at
-  table_missing m e = sym (ap (λ (o : Option Json). found_at (table_or s o)) (find_missing text ms m refl e))
+  pub table_missing : {f : Option ℕ} → Means text f (has_member (ascii "table") ms) (member_value (ascii "table") ms) → f ≡ None → None ≡ (Model.table_in s ms)
+  table_missing m e = sym (ap (λ (o : Option Json). (table_or s o)) (find_missing text ms m refl e))
 
-place_small : (w : List ℕ) (ws : List (List ℕ)) (k : ℕ) → place_of w ws ≡ some k → k < length ws
+place_small : (w : List ℕ) (ws : List (List ℕ)) (k : ℕ) → place_of w ws ≡ Some k → k < length ws
 place_small w [] k e = absurd (let z : ◌≡◌ {A = ℕ} 0 1 = cc in omega arith)
 place_small w (x ∷ ws) k e =
     split
     (eq_bytes w x)
-    (λ h. let q : some 0 ≡ some k = rw (place_of, h) at e in let z : ◌≡◌ {A = ℕ} 0 k = cc in omega arith)
+    (λ h. let q : Some 0 ≡ Some k = rw (place_of, h) at e in let z : ◌≡◌ {A = ℕ} 0 k = cc in omega arith)
     (λ h. go (λ i q. place_small w ws i q) (place_of w ws) refl (rw (place_of, h) at e))
   where
-    go : ((i : ℕ) → place_of w ws ≡ some i → i < length ws) → (o : Option ℕ) → place_of w ws ≡ o → elim o [ none ↦ none | some i ↦ some (suc i) ] ≡ some k → k < suc (length ws)
-    go ih none q r = absurd (let z : ◌≡◌ {A = ℕ} 0 1 = cc in omega arith)
-    go ih (some i) q r = let z : suc i ≡ k = cc in let l = ih i q in omega arith
+    go : ((i : ℕ) → place_of w ws ≡ Some i → i < length ws) → (o : Option ℕ) → place_of w ws ≡ o → elim o [ None ↦ None | Some i ↦ Some (suc i) ] ≡ Some k → k < suc (length ws)
+    go ih None q r = absurd (let z : ◌≡◌ {A = ℕ} 0 1 = cc in omega arith)
+    go ih (Some i) q r = let z : suc i ≡ k = cc in let l = ih i q in omega arith
 
-found_some : (o : Option ℕ) (k : ℕ) → found_at o ≡ At k → o ≡ some k
-unfolding found_at
-found_some none k e = cc
-found_some (some i) k e = cc
+found_some : (o : Option ℕ) (k : ℕ) → o ≡ Some k → o ≡ Some k
+found_some None k e = cc
+found_some (Some i) k e = cc
 
-found_none : (o : Option ℕ) → found_at o ≡ Nothing → o ≡ none
-unfolding found_at
-found_none none e = refl
-found_none (some i) e = cc
+found_none : (o : Option ℕ) → o ≡ None → o ≡ None
+found_none None e = refl
+found_none (Some i) e = cc
 
-module _ (cells : List (List ℕ)) (ms : List Named) {r : Found} (e : r ≡ found_at (Model.table_in (packed_tables cells) ms)) where
-  pub table_is : {t : ℕ} → r ≡ At t → Model.table_in (packed_tables cells) ms ≡ some t
+module _ (cells : List (List ℕ)) (ms : List Named) {r : Option ℕ} (e : r ≡ (Model.table_in (packed_tables cells) ms)) where
+  pub table_is : {t : ℕ} → r ≡ Some t → Model.table_in (packed_tables cells) ms ≡ Some t
   table_is {t} h = found_some (Model.table_in (packed_tables cells) ms) t (sym e ∙ h)
 
-  pub table_none : r ≡ Nothing → Model.table_in (packed_tables cells) ms ≡ none
+  pub table_none : r ≡ None → Model.table_in (packed_tables cells) ms ≡ None
   table_none h = found_none (Model.table_in (packed_tables cells) ms) (sym e ∙ h)
 
   -- a table that is found is one of the schema's
-  pub table_small : {t : ℕ} → r ≡ At t → t < get_or (get_or cells 0 []) 25 0
+  pub table_small : {t : ℕ} → r ≡ Some t → t < get_or (get_or cells 0 []) 25 0
   table_small {t} h = go (Model.member_as string_in (ascii "table") ms) (table_is h)
     where
-      go : (o : Option (List ℕ)) → elim o [ none ↦ none | some w ↦ table_named (packed_tables cells) w ] ≡ some t → t < get_or (get_or cells 0 []) 25 0
-      go none q = absurd (let z : ◌≡◌ {A = ℕ} 0 1 = cc in omega arith)
-      go (some w) q =
+      go : (o : Option (List ℕ)) → elim o [ None ↦ None | Some w ↦ table_named (packed_tables cells) w ] ≡ Some t → t < get_or (get_or cells 0 []) 25 0
+      go None q = absurd (let z : ◌≡◌ {A = ℕ} 0 1 = cc in omega arith)
+      go (Some w) q =
           let l = place_small w (map (λ (x : Table). x.name) (packed_tables cells)) t q in
           omega (arith, l, length-map (packed_tables cells) (λ (x : Table). x.name), tables_count cells 0 (get_or (get_or cells 0 []) 25 0))
 
@@ -166,7 +160,7 @@ numbered false false false false false false true = refl
 numbered false false false false false false false = refl
 
 abbrev named_or : Option (List ℕ) → Operation
-named_or o = elim o [ none ↦ Unknown | some w ↦ operation_named w ]
+named_or o = elim o [ None ↦ Unknown | Some w ↦ operation_named w ]
 
 -- by its number or by its word, an operation is the same
 by_word : (j : Json) → operation_by (choice operations j) ≡ named_or (string_in j)
@@ -186,12 +180,12 @@ by_word (str w) =
 by_word (arr xs) = refl
 by_word (obj m) = refl
 
-module _ (text : List ℕ) (ms : List Named) {f : Found} (m : Means text f (has_member (ascii "op") ms) (member_value (ascii "op") ms)) where
-  pub operation_there : {p k : ℕ} {r : Operation} → f ≡ At p → k ≡ choice operations (tree_at text p) → r ≡ operation_by k → r ≡ operation_in ms
+module _ (text : List ℕ) (ms : List Named) {f : Option ℕ} (m : Means text f (has_member (ascii "op") ms) (member_value (ascii "op") ms)) where
+  pub operation_there : {p k : ℕ} {r : Operation} → f ≡ Some p → k ≡ choice operations (tree_at text p) → r ≡ operation_by k → r ≡ operation_in ms
   unfolding operation_in
   operation_there {p} e h q = q ∙ ap operation_by h ∙ by_word (tree_at text p) ∙ sym (ap (λ (o : Option Json). named_or (string_or o)) (find_there text ms m refl e).0)
 
-  pub operation_missing : f ≡ Nothing → Unknown ≡ operation_in ms
+  pub operation_missing : f ≡ None → Unknown ≡ operation_in ms
   unfolding operation_in
   operation_missing e = sym (ap (λ (o : Option Json). named_or (string_or o)) (find_missing text ms m refl e))
 
@@ -202,7 +196,7 @@ module _ (s : Schema) (names : Names) (given : List (List ℕ)) (id : ℕ) (rows
 
   -- an operation by its table
   abbrev does_on : Operation → Option ℕ → Model.Done
-  does_on k o = elim (is_on_table k) [ true ↦ elim o [ none ↦ Model.failed Syntax rows | some t ↦ does k t ] | false ↦ does k 0 ]
+  does_on k o = elim (is_on_table k) [ true ↦ elim o [ None ↦ Model.failed Syntax rows | Some t ↦ does k t ] | false ↦ does k 0 ]
 
   one_of : (o : Option ℕ) (a b c d e f g : Bool)
       → elim a [
@@ -223,24 +217,24 @@ module _ (s : Schema) (names : Names) (given : List (List ℕ)) (id : ℕ) (rows
       ]
       ≡ does_on (elim a [ true ↦ Insert | false ↦ elim b [ true ↦ Select | false ↦ elim c [ true ↦ Update | false ↦ elim d [ true ↦ Mutate | false ↦ elim e [ true ↦ Delete | false ↦ elim f [ true ↦ Comment | false ↦ elim g [ true ↦ Abort | false ↦ Unknown ] ] ] ] ] ] ]) o
   unfolding performed
-  one_of none true b c d e f g = refl
-  one_of (some t) true b c d e f g = refl
-  one_of none false true c d e f g = refl
-  one_of (some t) false true c d e f g = refl
-  one_of none false false true d e f g = refl
-  one_of (some t) false false true d e f g = refl
-  one_of none false false false true e f g = refl
-  one_of (some t) false false false true e f g = refl
-  one_of none false false false false true f g = refl
-  one_of (some t) false false false false true f g = refl
+  one_of None true b c d e f g = refl
+  one_of (Some t) true b c d e f g = refl
+  one_of None false true c d e f g = refl
+  one_of (Some t) false true c d e f g = refl
+  one_of None false false true d e f g = refl
+  one_of (Some t) false false true d e f g = refl
+  one_of None false false false true e f g = refl
+  one_of (Some t) false false false true e f g = refl
+  one_of None false false false false true f g = refl
+  one_of (Some t) false false false false true f g = refl
   one_of o false false false false false true g = refl
   one_of o false false false false false false true = refl
   one_of o false false false false false false false = refl
 
   by_name : (w : Option (List ℕ)) → Model.perform s names given id rows ms w ≡ does_on (named_or w) (Model.table_in s ms)
   unfolding performed operation_named
-  by_name none = refl
-  by_name (some w) =
+  by_name None = refl
+  by_name (Some w) =
       one_of
       (Model.table_in s ms)
       (eq_bytes w (ascii "insert"))
@@ -257,22 +251,22 @@ module _ (s : Schema) (names : Names) (given : List (List ℕ)) (id : ℕ) (rows
     operates = by_name (Model.member_as string_in (ascii "op") ms) ∙ ap (λ (j : Operation). does_on j (Model.table_in s ms)) (sym ek)
 
     module _ (on : is_on_table k ≡ true) where
-      on_table_lem : Model.operate s names given id rows ms ≡ elim (Model.table_in s ms) [ none ↦ Model.failed Syntax rows | some t ↦ does k t ]
+      on_table_lem : Model.operate s names given id rows ms ≡ elim (Model.table_in s ms) [ None ↦ Model.failed Syntax rows | Some t ↦ does k t ]
       on_table_lem =
           operates
-          ∙ ap (λ (b : Bool). elim b [ true ↦ elim (Model.table_in s ms) [ none ↦ Model.failed Syntax rows | some t ↦ does k t ] | false ↦ does k 0 ]) on
+          ∙ ap (λ (b : Bool). elim b [ true ↦ elim (Model.table_in s ms) [ None ↦ Model.failed Syntax rows | Some t ↦ does k t ] | false ↦ does k 0 ]) on
 
-      pub operates_on : {t : ℕ} → Model.table_in s ms ≡ some t → Model.operate s names given id rows ms ≡ does k t
-      operates_on e = on_table_lem ∙ ap (λ (o : Option ℕ). elim o [ none ↦ Model.failed Syntax rows | some t ↦ does k t ]) e
+      pub operates_on : {t : ℕ} → Model.table_in s ms ≡ Some t → Model.operate s names given id rows ms ≡ does k t
+      operates_on e = on_table_lem ∙ ap (λ (o : Option ℕ). elim o [ None ↦ Model.failed Syntax rows | Some t ↦ does k t ]) e
 
-      pub operates_nowhere : Model.table_in s ms ≡ none → Model.operate s names given id rows ms ≡ does Unknown 0
+      pub operates_nowhere : Model.table_in s ms ≡ None → Model.operate s names given id rows ms ≡ does Unknown 0
       unfolding performed
-      operates_nowhere e = on_table_lem ∙ ap (λ (o : Option ℕ). elim o [ none ↦ Model.failed Syntax rows | some t ↦ does k t ]) e
+      operates_nowhere e = on_table_lem ∙ ap (λ (o : Option ℕ). elim o [ None ↦ Model.failed Syntax rows | Some t ↦ does k t ]) e
 
     pub operates_off : is_on_table k ≡ false → Model.operate s names given id rows ms ≡ does k 0
     operates_off off =
         operates
-        ∙ ap (λ (b : Bool). elim b [ true ↦ elim (Model.table_in s ms) [ none ↦ Model.failed Syntax rows | some t ↦ does k t ] | false ↦ does k 0 ]) off
+        ∙ ap (λ (b : Bool). elim b [ true ↦ elim (Model.table_in s ms) [ None ↦ Model.failed Syntax rows | Some t ↦ does k t ] | false ↦ does k 0 ]) off
 
 -- ── a call ──
 module _ (text : List ℕ) (cells : List (List ℕ)) {i op n : ℕ} {k : Operation} (ek : k ≡ operation_in (members_in (tree_at text op))) where
@@ -286,8 +280,8 @@ module _ (text : List ℕ) (cells : List (List ℕ)) {i op n : ℕ} {k : Operati
         here = λ on. absurd (clash (is_on_table k) on off);
       }
 
-  module _ (on : is_on_table k ≡ true) {f : Found} (ef : f ≡ found_at (Model.table_in (packed_tables cells) (members_in (tree_at text op)))) where
-    pub called_on : {t : ℕ} → f ≡ At t → Called text cells i op n (record { operation = k; number = i; at = op; table = t; count = n })
+  module _ (on : is_on_table k ≡ true) {f : Option ℕ} (ef : f ≡ (Model.table_in (packed_tables cells) (members_in (tree_at text op)))) where
+    pub called_on : {t : ℕ} → f ≡ Some t → Called text cells i op n (record { operation = k; number = i; at = op; table = t; count = n })
     called_on h =
         record {
           number = refl;
@@ -297,7 +291,7 @@ module _ (text : List ℕ) (cells : List (List ℕ)) {i op n : ℕ} {k : Operati
           here = λ _. table_small cells (members_in (tree_at text op)) ef h;
         }
 
-    pub called_nowhere : f ≡ Nothing → Called text cells i op n (record { operation = Unknown; number = i; at = op; table = 0; count = n })
+    pub called_nowhere : f ≡ None → Called text cells i op n (record { operation = Unknown; number = i; at = op; table = 0; count = n })
     called_nowhere h =
         record {
           number = refl;

@@ -1,8 +1,8 @@
 -- How an operation's fault comes of its members, and what it does where there is none. Assumes nothing.
+use Rattle.std.specs.Prelude.{Option}
 use mathlib.Core.Path.{◌≡◌, refl, sym, ap, subst, ◌∙◌}
 use mathlib.Core.Bool.{Bool, true, false}
 use mathlib.Core.List.{List, [], ◌∷◌, ◌++◌, map, append-nil}
-use mathlib.Core.Option.{Option}
 use Prim.Native.Nat.{ℕ, ◌+◌, ◌≤◌, ◌<◌}
 use native.Mathlib.Omega.{arith}
 use borrow.Author.Tests.{ltb-true}
@@ -335,12 +335,12 @@ module _ {text names : List ℕ} {schema columns : List (List ℕ)} {call : Call
     unfolding performed tests_of is_mutate count_unless MarkedRows working
     mutate_not y at out =
         let size : e ≡ 0 = ee ∙ ap (λ (b : Bool). elim b [ true ↦ call.count | false ↦ 0 ]) y in
-        let none = subst (λ (i : ℕ). MarkedMutated (map column_from columns) mutations_read i m.marks v rows exit) size done in
-        let d = (none.each [] call.table (λ t h i q. absurd (omega (arith, q)))).fault (packed_tables schema) here.same in
+        let None = subst (λ (i : ℕ). MarkedMutated (map column_from columns) mutations_read i m.marks v rows exit) size done in
+        let d = (None.each [] call.table (λ t h i q. absurd (omega (arith, q)))).fault (packed_tables schema) here.same in
         let is : v ≡ mutations_read.fault = d ∙ split (is_fine mutations_read.fault) (λ t. rw t (sym (fine_is mutations_read.fault t))) (λ t. rw t) in
         let bad : is_fine f ≡ false = split (is_fine f) (λ t. absurd (clash (is_fine m.fault) (earlier_fine m.fault v (ap is_fine (sym ef) ∙ t)).0 y)) (λ t. t) in
         let fault : (given : List (List ℕ)) → f ≡ (outcome Mutate given text names schema call rows).fault = λ given. sym (by_members (ap (earlier m.fault) (sym is) ∙ sym ef) given ∙ ap (λ (b : Bool). elim b [ true ↦ mutated.fault | false ↦ f ]) bad) in
-        subst (λ (x : List (List (List ℕ))). Effect Mutate text names schema call rows x at out out (record { fault = f; count = call.count; reply = Count c })) (sym none.behind)
+        subst (λ (x : List (List (List ℕ))). Effect Mutate text names schema call rows x at out out (record { fault = f; count = call.count; reply = Count c })) (sym None.behind)
         (record { does = λ given _. ran_failed few (fault given) bad; rows = λ x. absurd (clash true refl x); answer = λ _. refl })
 
     pub mutate_ran : Silent Mutate text names schema call rows exit (record { fault = f; count = call.count; reply = Count c })

@@ -1,4 +1,5 @@
 -- Where a run stands between two operations. Assumes nothing.
+use Rattle.std.specs.Prelude.{Option, Some, None}
 use mathlib.Core.Path.{◌≡◌, refl, sym, ap, subst, subst₃, ◌∙◌}
 use mathlib.Core.List.{List, [], ◌∷◌, ◌++◌, append-nil}
 use mathlib.Core.Bool.{Bool, true, false, ◌||◌}
@@ -7,8 +8,6 @@ use native.Mathlib.Omega.{arith}
 use lib.Dec.{eqb}
 use borrow.Author.Tests.{eqb-true}
 use lib.ListN.{length, take}
-use Rattle.model.specs.declared.Found.{Found}
-use Rattle.model.specs.declared.Found.TheVariants.{At, Nothing}
 use Rattle.model.specs.declared.Fault.TheVariants.{Fine}
 use Rattle.inner.specs.Positions.{tree_at, next_item, items_from, items_fine}
 use Rattle.model.specs.Members.{members_in}
@@ -38,12 +37,12 @@ use Rattle.operations.proofs.Next.{Naming, naming_first, naming_earlier, naming_
 not_first : (i : ℕ) → eqb (i + 1) 0 ≡ false
 not_first i = split (eqb (i + 1) 0) (λ t. absurd (omega (arith, eqb-true (i + 1) 0 t))) (λ t. t)
 
-module _ (schema : List (List ℕ)) (text : List ℕ) (ops : Found) (names : List ℕ) (rows₀ : List (List (List ℕ))) (n : ℕ) (answer₀ : List ℕ) (at₀ : ℕ) where
+module _ (schema : List (List ℕ)) (text : List ℕ) (ops : Option ℕ) (names : List ℕ) (rows₀ : List (List (List ℕ))) (n : ℕ) (answer₀ : List ℕ) (at₀ : ℕ) where
   abbrev whole : model.Ran
   whole = run_whole (packed_tables schema) text ops names (working (packed_tables schema) n rows₀)
 
   -- after i operations, with m rows left: what the operations from g on do is what is still due
-  pub record Going (rows : List (List (List ℕ))) (answer : List ℕ) (at : ℕ) (g : Found) (i m : ℕ) (pending : Bool) : Type 0 where
+  pub record Going (rows : List (List (List ℕ))) (answer : List ℕ) (at : ℕ) (g : Option ℕ) (i m : ℕ) (pending : Bool) : Type 0 where
     pub given : List (List ℕ)
     pub naming : (w : List ℕ) → Naming text ops given i g w
     pub fault : whole.fault ≡ (run_from (packed_tables schema) text names given i (working (packed_tables schema) m rows) g).fault
@@ -75,7 +74,7 @@ module _ (schema : List (List ℕ)) (text : List ℕ) (ops : Found) (names : Lis
         tidy = λ t. t;
       }
 
-module _ {schema : List (List ℕ)} {text : List ℕ} {ops : Found} {names : List ℕ} {rows₀ : List (List (List ℕ))} {n : ℕ} {answer₀ : List ℕ} {at₀ : ℕ} {rows : List (List (List ℕ))} {answer : List ℕ} {at : ℕ} {g : Found} {i m : ℕ} {pending : Bool}
+module _ {schema : List (List ℕ)} {text : List ℕ} {ops : Option ℕ} {names : List ℕ} {rows₀ : List (List (List ℕ))} {n : ℕ} {answer₀ : List ℕ} {at₀ : ℕ} {rows : List (List (List ℕ))} {answer : List ℕ} {at : ℕ} {g : Option ℕ} {i m : ℕ} {pending : Bool}
     (c : Going schema text ops names rows₀ n answer₀ at₀ rows answer at g i m pending) where
   abbrev s : Schema
   s = packed_tables schema
@@ -83,7 +82,7 @@ module _ {schema : List (List ℕ)} {text : List ℕ} {ops : Found} {names : Lis
   going_earlier : ((w : List ℕ) → place_in text names w ≡ place_named 0 w (operations_at text ops)) → Earlier text names i c.given
   going_earlier same = naming_earlier text ops names same c.naming
 
-  pub going_end : {before : List ℕ} → Put 1 before 0 (91 ∷ []) at₀ answer₀ → g ≡ Nothing → AllDone text ops names schema n rows₀ rows before answer (record { fault = Fine; pending = pending; count = m; at = at })
+  pub going_end : {before : List ℕ} → Put 1 before 0 (91 ∷ []) at₀ answer₀ → g ≡ None → AllDone text ops names schema n rows₀ rows before answer (record { fault = Fine; pending = pending; count = m; at = at })
   going_end first h =
       let e = run_end s text ops names c.given i (working s m rows) h in
       record {
@@ -98,7 +97,7 @@ module _ {schema : List (List ℕ)} {text : List ℕ} {ops : Found} {names : Lis
         answer = put_then first (due_none (due_is c.due (ap (λ r. joined (eqb i 0) r.results) e)) 3999999 (omega (arith, c.short, c.size)));
       }
 
-  module _ {p : ℕ} (h : g ≡ At p) where
+  module _ {p : ℕ} (h : g ≡ Some p) where
     pub going_more : i < 16
     going_more = omega (arith, c.size, ap length (walk_rest text h))
 
@@ -114,7 +113,7 @@ module _ {schema : List (List ℕ)} {text : List ℕ} {ops : Found} {names : Lis
 
       pub going_on : is_fine r.fault ≡ true → {answer3 : List ℕ} {at2 : ℕ}
           → ((begun t : List ℕ) → single.Answers (fresh_at names i) at1 begun answer2 r.reply t → Put 200000 begun at1 t at2 answer3)
-          → {k : ℕ} → k ≡ i + 1 → {g2 : Found} → g2 ≡ next_item text p → {moved : Bool} → moved ≡ single.may_change r.reply → Going schema text ops names rows₀ n answer₀ at₀ rows2 answer3 at2 g2 k r.count (pending || moved)
+          → {k : ℕ} → k ≡ i + 1 → {g2 : Option ℕ} → g2 ≡ next_item text p → {moved : Bool} → moved ≡ single.may_change r.reply → Going schema text ops names rows₀ n answer₀ at₀ rows2 answer3 at2 g2 k r.count (pending || moved)
       going_on f put {k} ek {g2} eg {moved} em =
           let o = done s text ops names c.given i (working s m rows) p in
           let w = put answer1 o.answer (did.reply f) in
@@ -137,7 +136,7 @@ module _ {schema : List (List ℕ)} {text : List ℕ} {ops : Found} {names : Lis
             tidy = λ t. did.tidy (c.tidy t);
           })
 
-      pub going_stop : {before : List ℕ} → Put 1 before 0 (91 ∷ []) at₀ answer₀ → is_fine r.fault ≡ false → {g2 : Found} → g2 ≡ next_item text p
+      pub going_stop : {before : List ℕ} → Put 1 before 0 (91 ∷ []) at₀ answer₀ → is_fine r.fault ≡ false → {g2 : Option ℕ} → g2 ≡ next_item text p
           → {answer3 : List ℕ} {x : Finish} → Stopped text g2 r.fault m at1 answer2 answer3 x → AllDone text ops names schema n rows₀ rows2 before answer3 x
       going_stop first f {g2} eg {answer3} {x} y =
           let o = done s text ops names c.given i (working s m rows) p in

@@ -1,15 +1,13 @@
 -- One operation after another. Assumes nothing.
+use Rattle.std.specs.Prelude.{Option, Some, None}
 use mathlib.Core.Path.{◌≡◌, refl, sym, ap, subst, ◌∙◌}
 use mathlib.Core.List.{List, [], ◌∷◌, ◌++◌, map}
 use mathlib.Core.Bool.{Bool, true, false, ◌||◌}
-use mathlib.Core.Option.{Option, none, some}
 use Prim.Native.Nat.{ℕ, ◌+◌, ◌≤◌, ◌<◌}
 use native.Mathlib.Omega.{arith}
 use borrow.Author.Tests.{lt-ltb, le-ltb}
 use lib.ListN.{get_or, drop}
 use lib.Seq.{drop-drop, get_or-drop}
-use Rattle.model.specs.declared.Found.{Found}
-use Rattle.model.specs.declared.Found.TheVariants.{At, Nothing}
 use Rattle.model.specs.declared.Fault.{Fault}
 use Rattle.model.specs.declared.Fault.TheVariants.{Fine}
 use Rattle.model.specs.Octets.{eq_bytes}
@@ -33,8 +31,8 @@ use Rattle.operations.specs.Running.{run_from, run_whole, nulls_from}
 
 -- ── names that were given, by the operations before i ──
 -- a name was given before i, or the first insert of that name is still to come
-pub data Naming (text : List ℕ) (ops : Found) (given : List (List ℕ)) (i : ℕ) (g : Found) (w : List ℕ) : Type 0 where
-  past : (k : ℕ) → member w given ≡ true → place_named 0 w (operations_at text ops) ≡ At k → k < i → Naming text ops given i g w
+pub data Naming (text : List ℕ) (ops : Option ℕ) (given : List (List ℕ)) (i : ℕ) (g : Option ℕ) (w : List ℕ) : Type 0 where
+  past : (k : ℕ) → member w given ≡ true → place_named 0 w (operations_at text ops) ≡ Some k → k < i → Naming text ops given i g w
   ahead : member w given ≡ false → place_named 0 w (operations_at text ops) ≡ place_named i w (operations_at text g) → Naming text ops given i g w
 
 late : (i : ℕ) (w : List ℕ) (os : List (List Named)) → (j : ℕ) → j ≤ i → found_before j (place_named i w os) ≡ false
@@ -57,18 +55,18 @@ or_true false e = e
 
 -- the name of an operation is given from then on
 given_now : (n : Option (List ℕ)) (given : List (List ℕ)) (w : List ℕ) → is_named n w ≡ true → member w (with_name n given) ≡ true
-given_now none given w e = absurd (clash false e refl)
-given_now (some v) given w e = let q : eq_bytes w v ≡ true = bytes_flip w v ∙ e in rw q
+given_now None given w e = absurd (clash false e refl)
+given_now (Some v) given w e = let q : eq_bytes w v ≡ true = bytes_flip w v ∙ e in rw q
 
 not_now : (n : Option (List ℕ)) (given : List (List ℕ)) (w : List ℕ) → is_named n w ≡ false → member w given ≡ false → member w (with_name n given) ≡ false
-not_now none given w e m = m
-not_now (some v) given w e m = let q : eq_bytes w v ≡ false = bytes_flip w v ∙ e in rw (q, m)
+not_now None given w e m = m
+not_now (Some v) given w e m = let q : eq_bytes w v ≡ false = bytes_flip w v ∙ e in rw (q, m)
 
 still_given : (n : Option (List ℕ)) (given : List (List ℕ)) (w : List ℕ) → member w given ≡ true → member w (with_name n given) ≡ true
-still_given none given w m = m
-still_given (some v) given w m = or_true (eq_bytes w v) m
+still_given None given w m = m
+still_given (Some v) given w m = or_true (eq_bytes w v) m
 
-place_now : (i : ℕ) (w : List ℕ) (o : List Named) (os : List (List Named)) → is_named (insert_name o) w ≡ true → place_named i w (o ∷ os) ≡ At i
+place_now : (i : ℕ) (w : List ℕ) (o : List Named) (os : List (List Named)) → is_named (insert_name o) w ≡ true → place_named i w (o ∷ os) ≡ Some i
 unfolding place_named
 place_now i w o os e = rw (place_named, e)
 
@@ -76,11 +74,11 @@ place_later : (i : ℕ) (w : List ℕ) (o : List Named) (os : List (List Named))
 unfolding place_named
 place_later i w o os e = rw (place_named, e)
 
-module _ (text : List ℕ) (ops : Found) where
+module _ (text : List ℕ) (ops : Option ℕ) where
   pub naming_first : (w : List ℕ) → Naming text ops [] 0 ops w
   naming_first w = ahead refl refl
 
-  pub naming_earlier : {given : List (List ℕ)} {i : ℕ} {g : Found} (names : List ℕ) → ((w : List ℕ) → place_in text names w ≡ place_named 0 w (operations_at text ops)) → ((w : List ℕ) → Naming text ops given i g w) → Earlier text names i given
+  pub naming_earlier : {given : List (List ℕ)} {i : ℕ} {g : Option ℕ} (names : List ℕ) → ((w : List ℕ) → place_in text names w ≡ place_named 0 w (operations_at text ops)) → ((w : List ℕ) → Naming text ops given i g w) → Earlier text names i given
   unfolding Earlier found_before
   naming_earlier {given} {i} {g} names same t w = go (t w) ∙ ap (found_before i) (sym (same w))
     where
@@ -88,11 +86,11 @@ module _ (text : List ℕ) (ops : Found) where
       go (past k m p h) = m ∙ sym (ap (found_before i) p ∙ lt-ltb k i h)
       go (ahead m p) = m ∙ sym (ap (found_before i) p ∙ late i w (operations_at text g) i (omega arith))
 
-  operations_next : {g : Found} {p : ℕ} → g ≡ At p → operations_at text g ≡ members_in (tree_at text p) ∷ operations_at text (next_item text p)
+  operations_next : {g : Option ℕ} {p : ℕ} → g ≡ Some p → operations_at text g ≡ members_in (tree_at text p) ∷ operations_at text (next_item text p)
   unfolding operations_at
   operations_next h = ap (map members_in) (walk_rest text h)
 
-  pub naming_on : {given : List (List ℕ)} {i p : ℕ} {g : Found} → g ≡ At p → ((w : List ℕ) → Naming text ops given i g w)
+  pub naming_on : {given : List (List ℕ)} {i p : ℕ} {g : Option ℕ} → g ≡ Some p → ((w : List ℕ) → Naming text ops given i g w)
       → (w : List ℕ) → Naming text ops (with_name (insert_name (members_in (tree_at text p))) given) (i + 1) (next_item text p) w
   naming_on {given} {i} {p} {g} h t w = go (t w)
     where
@@ -134,7 +132,7 @@ module _ (s : Schema) (names : Names) (given : List (List ℕ)) (ids : List ℕ)
     next_bad : is_fine (done_by x).fault ≡ false → run_all s names given ids rows (o ∷ os) ≡ stopped (done_by x).fault rows os
     next_bad = subst (λ (x : ℕ). is_fine (done_by x).fault ≡ false → run_all s names given ids rows (o ∷ os) ≡ stopped (done_by x).fault rows os) e bad_first
 
-module _ (s : Schema) (text : List ℕ) (ops : Found) (names : List ℕ) where
+module _ (s : Schema) (text : List ℕ) (ops : Option ℕ) (names : List ℕ) where
   pub run_first : (rows : List Row) → run_whole s text ops names rows ≡ run_from s text names [] 0 rows ops
   unfolding run_whole run_from
   run_first rows = refl
@@ -142,12 +140,12 @@ module _ (s : Schema) (text : List ℕ) (ops : Found) (names : List ℕ) where
   abbrev pub done : List (List ℕ) → ℕ → List Row → ℕ → model.Done
   done given i rows p = model.operate s (names_at text names) given (get_or (fresh_ids names) i 0) rows (members_in (tree_at text p))
 
-  module _ (given : List (List ℕ)) (i : ℕ) (rows : List Row) {g : Found} where
-    pub run_end : g ≡ Nothing → run_from s text names given i rows g ≡ record { fault = Fine; rows = rows; results = [] }
+  module _ (given : List (List ℕ)) (i : ℕ) (rows : List Row) {g : Option ℕ} where
+    pub run_end : g ≡ None → run_from s text names given i rows g ≡ record { fault = Fine; rows = rows; results = [] }
     unfolding run_from operations_at
     run_end h = ap (λ l. run_all s (names_at text names) given (drop i (fresh_ids names)) rows (map members_in l)) (walk_end text h)
 
-    module _ {p : ℕ} (h : g ≡ At p) where
+    module _ {p : ℕ} (h : g ≡ Some p) where
       next_is : run_from s text names given i rows g ≡ run_all s (names_at text names) given (drop i (fresh_ids names)) rows (members_in (tree_at text p) ∷ operations_at text (next_item text p))
       unfolding run_from
       next_is = ap (run_all s (names_at text names) given (drop i (fresh_ids names)) rows) (operations_next text ops h)
@@ -164,7 +162,7 @@ module _ (s : Schema) (text : List ℕ) (ops : Found) (names : List ℕ) where
       run_bad f = next_is ∙ next_bad s (names_at text names) given (drop i (fresh_ids names)) rows (members_in (tree_at text p)) (operations_at text (next_item text p)) (id_at i (fresh_ids names)) f
 
 -- the results of operations that are stopped
-pub stopped_text : (text : List ℕ) (f : Fault) (rows : List Row) (g : Found) (first : Bool)
+pub stopped_text : (text : List ℕ) (f : Fault) (rows : List Row) (g : Option ℕ) (first : Bool)
     → joined first (stopped f rows (operations_at text g)).results ≡ comma_text first ++ (error_result f ++ joined false (nulls_from text g))
 unfolding error_result nulls_from null_text operations_at
 stopped_text text f rows g first = ap (λ l. comma_text first ++ (error_text f ++ joined false l)) (nulls (items_from text g))

@@ -1,16 +1,14 @@
 -- What a slot stands for: arrays, objects and names. Assumes nothing.
+use Rattle.std.specs.Prelude.{Option, Some, None}
 use mathlib.Core.Path.{◌≡◌, refl, sym, ap, subst, ◌∙◌}
 use mathlib.Core.Bool.{Bool, true, false, not}
 use mathlib.Core.List.{List, [], map}
-use mathlib.Core.Option.{Option, none, some}
 use Prim.Native.Nat.{ℕ, ◌<◌, ◌≤◌}
 use borrow.Author.Tests.{eq-eqb, ne_eqb, lt-ltb, le-ltb, leb-false}
 use lib.Dec.{eqb, leb}
 use lib.ListN.{length, get_or}
 use Rattle.model.specs.declared.Fault.{Fault}
 use Rattle.model.specs.declared.Fault.TheVariants.{Fine, Syntax, Duplicate}
-use Rattle.model.specs.declared.Found.{Found}
-use Rattle.model.specs.declared.Found.TheVariants.{At, Nothing}
 use Rattle.model.specs.Base.{member, ascii}
 use Rattle.model.specs.Json.{Json, null, bool, num, str, arr, obj, Named}
 use Rattle.inner.specs.Positions.{tree_at, well_at, first_of, items_from, items_fine}
@@ -44,11 +42,11 @@ use Rattle.request_rows.specs.Assigned.{slotted, absent_by, named_by, written_ro
 use Rattle.operations.specs.Clauses.{SlotFine, array_slot, object_slot, where_at, mutations_in, row_at, found_before, Earlier, taken_fault}
 
 -- ── the member of a word ──
-slotted_some : (s : List ℕ) (p : ℕ) → eqb p 0 ≡ false → slotted s p ≡ some (tree_at s p)
+slotted_some : (s : List ℕ) (p : ℕ) → eqb p 0 ≡ false → slotted s p ≡ Some (tree_at s p)
 unfolding slotted
 slotted_some s p h = rw (slotted, h)
 
-slotted_none : (s : List ℕ) (p : ℕ) → eqb p 0 ≡ true → slotted s p ≡ none
+slotted_none : (s : List ℕ) (p : ℕ) → eqb p 0 ≡ true → slotted s p ≡ None
 unfolding slotted
 slotted_none s p h = rw (slotted, h)
 
@@ -60,7 +58,7 @@ module _ {s : List ℕ} {ws : List (List ℕ)} {ms : List Named} {slots : List �
   p = get_or slots i 0
 
   abbrev found : Bool → Option Json
-  found b = elim b [ true ↦ some (member_value w ms) | false ↦ none ]
+  found b = elim b [ true ↦ Some (member_value w ms) | false ↦ None ]
 
   -- what the slot of a word stands for is the member of that name
   pub slot_find : member_named w ms ≡ slotted s p
@@ -68,7 +66,7 @@ module _ {s : List ℕ} {ws : List (List ℕ)} {ms : List Named} {slots : List �
       split
       (eqb p 0)
       (λ e. ap found (k.here i h ∙ ap not e) ∙ sym (slotted_none s p e))
-      (λ e. ap found (k.here i h ∙ ap not e) ∙ ap some (k.value i h ∙ slot_some s p e) ∙ sym (slotted_some s p e))
+      (λ e. ap found (k.here i h ∙ ap not e) ∙ ap Some (k.value i h ∙ slot_some s p e) ∙ sym (slotted_some s p e))
 
   pub slot_fine_lem : SlotFine s p
   unfolding SlotFine
@@ -76,9 +74,9 @@ module _ {s : List ℕ} {ws : List (List ℕ)} {ms : List Named} {slots : List �
 
 -- ── arrays and objects ──
 abbrev array_or : Option Json → Option (List Json)
-array_or o = elim o [ none ↦ none | some j ↦ array_in j ]
+array_or o = elim o [ None ↦ None | Some j ↦ array_in j ]
 
-array_by : (j : Json) → array_in j ≡ elim (is_array (kind_of j)) [ true ↦ some (items_in j) | false ↦ none ]
+array_by : (j : Json) → array_in j ≡ elim (is_array (kind_of j)) [ true ↦ Some (items_in j) | false ↦ None ]
 unfolding kind_of items_in
 array_by null = refl
 array_by (bool b) = refl
@@ -88,9 +86,9 @@ array_by (arr xs) = refl
 array_by (obj ms) = refl
 
 abbrev object_or : Option Json → Option (List Named)
-object_or o = elim o [ none ↦ none | some j ↦ object_in j ]
+object_or o = elim o [ None ↦ None | Some j ↦ object_in j ]
 
-object_by : (j : Json) → object_in j ≡ elim (is_object (kind_of j)) [ true ↦ some (members_in j) | false ↦ none ]
+object_by : (j : Json) → object_in j ≡ elim (is_object (kind_of j)) [ true ↦ Some (members_in j) | false ↦ None ]
 unfolding kind_of members_in
 object_by null = refl
 object_by (bool b) = refl
@@ -105,19 +103,19 @@ module _ (s : List ℕ) (p : ℕ) where
   unfolding slot_tree
   here is n a = split (eqb p 0) (λ e. let q : slot_tree s p ≡ null = rw (slot_tree, e) in absurd (clash (is (slot_tree s p)) a (ap is q ∙ n))) (λ e. e)
 
-  slot_array : array_or (slotted s p) ≡ elim (is_array (kind_of (slot_tree s p))) [ true ↦ some (items_in (tree_at s p)) | false ↦ none ]
+  slot_array : array_or (slotted s p) ≡ elim (is_array (kind_of (slot_tree s p))) [ true ↦ Some (items_in (tree_at s p)) | false ↦ None ]
   unfolding slotted slot_tree kind_of
   slot_array = split (eqb p 0) (λ e. rw (slotted, slot_tree, e) refl) (λ e. rw (slotted, slot_tree, e) (array_by (tree_at s p)))
 
-  array_slot_lem : {b : Bool} → is_array (kind_of (slot_tree s p)) ≡ b → array_slot s p ≡ elim b [ true ↦ some (items_in (tree_at s p)) | false ↦ none ]
-  array_slot_lem h = slot_array ∙ ap (λ (b : Bool). elim b [ true ↦ some (items_in (tree_at s p)) | false ↦ none ]) h
+  array_slot_lem : {b : Bool} → is_array (kind_of (slot_tree s p)) ≡ b → array_slot s p ≡ elim b [ true ↦ Some (items_in (tree_at s p)) | false ↦ None ]
+  array_slot_lem h = slot_array ∙ ap (λ (b : Bool). elim b [ true ↦ Some (items_in (tree_at s p)) | false ↦ None ]) h
 
-  slot_object : object_or (slotted s p) ≡ elim (is_object (kind_of (slot_tree s p))) [ true ↦ some (members_in (tree_at s p)) | false ↦ none ]
+  slot_object : object_or (slotted s p) ≡ elim (is_object (kind_of (slot_tree s p))) [ true ↦ Some (members_in (tree_at s p)) | false ↦ None ]
   unfolding slotted slot_tree kind_of
   slot_object = split (eqb p 0) (λ e. rw (slotted, slot_tree, e) refl) (λ e. rw (slotted, slot_tree, e) (object_by (tree_at s p)))
 
-  object_slot_lem : {b : Bool} → is_object (kind_of (slot_tree s p)) ≡ b → object_slot s p ≡ elim b [ true ↦ some (members_in (tree_at s p)) | false ↦ none ]
-  object_slot_lem h = slot_object ∙ ap (λ (b : Bool). elim b [ true ↦ some (members_in (tree_at s p)) | false ↦ none ]) h
+  object_slot_lem : {b : Bool} → is_object (kind_of (slot_tree s p)) ≡ b → object_slot s p ≡ elim b [ true ↦ Some (members_in (tree_at s p)) | false ↦ None ]
+  object_slot_lem h = slot_object ∙ ap (λ (b : Bool). elim b [ true ↦ Some (members_in (tree_at s p)) | false ↦ None ]) h
 
   -- of an array, the items from its first place on
   module _ (fine : SlotFine s p) (a : is_array (kind_of (slot_tree s p)) ≡ true) where
@@ -128,10 +126,10 @@ module _ (s : List ℕ) (p : ℕ) where
     pub array_fine : items_fine s (first_of s 91 93 p) ≡ true
     array_fine = (items_in_lem s p array_well).1
 
-    pub array_here : array_slot s p ≡ some (items_from s (first_of s 91 93 p))
-    array_here = array_slot_lem a ∙ ap some (items_in_lem s p array_well).0
+    pub array_here : array_slot s p ≡ Some (items_from s (first_of s 91 93 p))
+    array_here = array_slot_lem a ∙ ap Some (items_in_lem s p array_well).0
 
-  pub array_gone : is_array (kind_of (slot_tree s p)) ≡ false → array_slot s p ≡ none
+  pub array_gone : is_array (kind_of (slot_tree s p)) ≡ false → array_slot s p ≡ None
   array_gone a = array_slot_lem a
 
   module _ (fine : SlotFine s p) (a : is_object (kind_of (slot_tree s p)) ≡ true) where
@@ -142,13 +140,13 @@ module _ (s : List ℕ) (p : ℕ) where
 -- ── "where", "mutations", "row" ──
 module _ (s : List ℕ) (names : List ℕ) (columns : List (List ℕ)) (p : ℕ) where
   abbrev tests_or : Option (List Json) → Judged (List Test)
-  tests_or o = elim o [ none ↦ record { fault = Syntax; got = [] } | some l ↦ read_tests (names_at s names) (map column_from columns) l ]
+  tests_or o = elim o [ None ↦ record { fault = Syntax; got = [] } | Some l ↦ read_tests (names_at s names) (map column_from columns) l ]
 
   abbrev mutations_or : Option (List Json) → Judged (List Mutation)
-  mutations_or o = elim o [ none ↦ record { fault = Syntax; got = [] } | some l ↦ read_mutations (names_at s names) (map column_from columns) l ]
+  mutations_or o = elim o [ None ↦ record { fault = Syntax; got = [] } | Some l ↦ read_mutations (names_at s names) (map column_from columns) l ]
 
   abbrev row_or : Bool → Option (List Named) → Judged (List (Option Value))
-  row_or insert o = elim o [ none ↦ record { fault = Syntax; got = [] } | some ms ↦ row_of (names_at s names) (absent_by insert) (named_by insert) (map column_from columns) ms ]
+  row_or insert o = elim o [ None ↦ record { fault = Syntax; got = [] } | Some ms ↦ row_of (names_at s names) (absent_by insert) (named_by insert) (map column_from columns) ms ]
 
   module _ (fine : SlotFine s p) (a : is_array (kind_of (slot_tree s p)) ≡ true) where
     pub where_is : where_at s names columns p ≡ tests_at s names columns (first_of s 91 93 p)
@@ -215,15 +213,15 @@ mutated_missing {u = u} {n = n} {rows = rows} e = record {
 module _ (s : List ℕ) (names : List ℕ) (columns : List (List ℕ)) (ms : List Named) (p : ℕ) where
   pub where_by : member_named (ascii "where") ms ≡ slotted s p → read_where (names_at s names) (map column_from columns) ms ≡ where_at s names columns p
   unfolding where_at
-  where_by e = ap (λ (o : Option Json). tests_or s names columns p (elim o [ none ↦ none | some j ↦ array_in j ])) e
+  where_by e = ap (λ (o : Option Json). tests_or s names columns p (elim o [ None ↦ None | Some j ↦ array_in j ])) e
 
   pub mutations_by : member_named (ascii "mutations") ms ≡ slotted s p → read_mutation_list (names_at s names) (map column_from columns) ms ≡ mutations_in s names columns p
   unfolding mutations_in
-  mutations_by e = ap (λ (o : Option Json). mutations_or s names columns p (elim o [ none ↦ none | some j ↦ array_in j ])) e
+  mutations_by e = ap (λ (o : Option Json). mutations_or s names columns p (elim o [ None ↦ None | Some j ↦ array_in j ])) e
 
   pub row_by : (insert : Bool) → member_named (ascii "row") ms ≡ slotted s p → read_row (names_at s names) (absent_by insert) (named_by insert) (map column_from columns) ms ≡ row_at insert s names columns p
   unfolding row_at
-  row_by insert e = ap (λ (o : Option Json). row_or s names columns p insert (elim o [ none ↦ none | some j ↦ object_in j ])) e
+  row_by insert e = ap (λ (o : Option Json). row_or s names columns p insert (elim o [ None ↦ None | Some j ↦ object_in j ])) e
 
 -- ── uuid-names ──
 -- a name by its cell
@@ -236,20 +234,20 @@ cell_id t =
     (λ e. rw (short_cell, e) (id_none [] refl ∙ sym (id_long t (leb-false (length t) 24 e))))
 
 module _ (s names : List ℕ) (i : ℕ) where
-  module _ (w : List ℕ) {f : Found} (e : f ≡ place_in s names w) where
+  module _ (w : List ℕ) {f : Option ℕ} (e : f ≡ place_in s names w) where
     taken_by : {b : Bool} → found_before i f ≡ b → taken_fault s names i w ≡ check (not b) Duplicate Fine
     unfolding taken_fault
     taken_by q = ap (λ (b : Bool). check (not b) Duplicate Fine) (ap (found_before i) (sym e) ∙ q)
 
-    pub taken_before : {k : ℕ} → f ≡ At k → k < i → Duplicate ≡ taken_fault s names i w
+    pub taken_before : {k : ℕ} → f ≡ Some k → k < i → Duplicate ≡ taken_fault s names i w
     unfolding found_before
     taken_before {k} g h = sym (taken_by (ap (found_before i) g ∙ lt-ltb k i h))
 
-    pub taken_later : {k : ℕ} → f ≡ At k → i ≤ k → Fine ≡ taken_fault s names i w
+    pub taken_later : {k : ℕ} → f ≡ Some k → i ≤ k → Fine ≡ taken_fault s names i w
     unfolding found_before
     taken_later {k} g h = sym (taken_by (ap (found_before i) g ∙ le-ltb k i h))
 
-    pub taken_never : f ≡ Nothing → Fine ≡ taken_fault s names i w
+    pub taken_never : f ≡ None → Fine ≡ taken_fault s names i w
     unfolding found_before
     taken_never g = sym (taken_by (ap (found_before i) g))
 
@@ -267,10 +265,10 @@ module _ (s names : List ℕ) (i : ℕ) where
         j = tree_at s p
 
         name_by : {o : Option (List ℕ)} → string_in j ≡ o
-            → name_fault given (slotted s p) ≡ elim o [ none ↦ Syntax | some w ↦ check (is_id w) Syntax (check (not (member w given)) Duplicate Fine) ]
+            → name_fault given (slotted s p) ≡ elim o [ None ↦ Syntax | Some w ↦ check (is_id w) Syntax (check (not (member w given)) Duplicate Fine) ]
         name_by q =
             ap (name_fault given) (slotted_some s p (ne_eqb p 0 h))
-            ∙ ap (λ (o : Option (List ℕ)). elim o [ none ↦ Syntax | some w ↦ check (is_id w) Syntax (check (not (member w given)) Duplicate Fine) ]) q
+            ∙ ap (λ (o : Option (List ℕ)). elim o [ None ↦ Syntax | Some w ↦ check (is_id w) Syntax (check (not (member w given)) Duplicate Fine) ]) q
 
         pub name_other : is_text (kind_of j) ≡ false → Syntax ≡ name_fault given (slotted s p)
         name_other t = sym (name_by (no_string j t))

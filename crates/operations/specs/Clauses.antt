@@ -1,10 +1,7 @@
 -- Members of an operation by slots. Assumes nothing: these are definitions.
-use Rattle.std.specs.Prelude.{ℕ, ◌≡◌, Bool, true, false, not, List, [], map, eqb, ltb}
-use Rattle.std.proofs.Math.Option.{Option, none, some}
+use Rattle.std.specs.Prelude.{ℕ, ◌≡◌, Bool, true, false, not, List, [], map, eqb, ltb, Option, Some, None}
 use Rattle.model.specs.declared.Fault.{Fault}
 use Rattle.model.specs.declared.Fault.TheVariants.{Fine, Syntax, Duplicate}
-use Rattle.model.specs.declared.Found.{Found}
-use Rattle.model.specs.declared.Found.TheVariants.{At, Nothing}
 use Rattle.model.specs.Base.{member}
 use Rattle.model.specs.Json.{Json, Named}
 use Rattle.inner.specs.Positions.{well_at}
@@ -24,32 +21,32 @@ SlotFine s p = eqb p 0 ≡ false → well_at s p ≡ true
 
 -- the array, or the members of the object, that a slot stands for
 abbrev pub array_slot : List ℕ → ℕ → Option (List Json)
-array_slot s p = elim (slotted s p) [ none ↦ none | some j ↦ array_in j ]
+array_slot s p = elim (slotted s p) [ None ↦ None | Some j ↦ array_in j ]
 
 abbrev pub object_slot : List ℕ → ℕ → Option (List Named)
-object_slot s p = elim (slotted s p) [ none ↦ none | some j ↦ object_in j ]
+object_slot s p = elim (slotted s p) [ None ↦ None | Some j ↦ object_in j ]
 
 -- "where", "mutations" and "row" of a slot: a syntax error where it is missing or mistyped
 unfoldable pub where_at : List ℕ → List ℕ → List (List ℕ) → ℕ → Judged (List Test)
 where_at s names columns p =
-    elim (array_slot s p) [ none ↦ record { fault = Syntax; got = [] } | some l ↦ read_tests (names_at s names) (map column_from columns) l ]
+    elim (array_slot s p) [ None ↦ record { fault = Syntax; got = [] } | Some l ↦ read_tests (names_at s names) (map column_from columns) l ]
 
 unfoldable pub mutations_in : List ℕ → List ℕ → List (List ℕ) → ℕ → Judged (List Mutation)
 mutations_in s names columns p =
-    elim (array_slot s p) [ none ↦ record { fault = Syntax; got = [] } | some l ↦ read_mutations (names_at s names) (map column_from columns) l ]
+    elim (array_slot s p) [ None ↦ record { fault = Syntax; got = [] } | Some l ↦ read_mutations (names_at s names) (map column_from columns) l ]
 
 unfoldable pub row_at : Bool → List ℕ → List ℕ → List (List ℕ) → ℕ → Judged (List (Option Value))
 row_at insert s names columns p =
     elim (object_slot s p) [
-      | none ↦ record { fault = Syntax; got = [] }
-      | some ms ↦ row_of (names_at s names) (absent_by insert) (named_by insert) (map column_from columns) ms
+      | None ↦ record { fault = Syntax; got = [] }
+      | Some ms ↦ row_of (names_at s names) (absent_by insert) (named_by insert) (map column_from columns) ms
     ]
 
 -- ── uuid-names ──
 -- a place that lies before another
-unfoldable pub found_before : ℕ → Found → Bool
-found_before i (At k) = ltb k i
-found_before i Nothing = false
+unfoldable pub found_before : ℕ → Option ℕ → Bool
+found_before i (Some k) = ltb k i
+found_before i None = false
 
 -- the names that the operations before number i give
 unfoldable pub Earlier : List ℕ → List ℕ → ℕ → List (List ℕ) → Type 0

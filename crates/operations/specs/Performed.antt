@@ -1,6 +1,5 @@
 -- Operations by what they are. Assumes nothing: these are definitions.
-use Rattle.std.specs.Prelude.{ℕ, ◌≤◌, ◌<◌, ◌≡◌, Bool, true, false, List, eqb}
-use Rattle.std.proofs.Math.Option.{none, some}
+use Rattle.std.specs.Prelude.{ℕ, ◌≤◌, ◌<◌, ◌≡◌, Bool, true, false, List, eqb, Some, None}
 use Rattle.model.specs.Octets.{eq_bytes}
 use Rattle.model.specs.Base.{ascii}
 use Rattle.model.specs.Limits.{most_operations, most_rows}
@@ -56,7 +55,7 @@ operation_named w =
 
 -- by its members
 unfoldable pub operation_in : List Named → Operation
-operation_in ms = elim (Model.member_as string_in (ascii "op") ms) [ none ↦ Unknown | some w ↦ operation_named w ]
+operation_in ms = elim (Model.member_as string_in (ascii "op") ms) [ None ↦ Unknown | Some w ↦ operation_named w ]
 
 abbrev pub is_on_table : Operation → Bool
 is_on_table k = elim k [ Insert ↦ true | Select ↦ true | Update ↦ true | Mutate ↦ true | Delete ↦ true | Comment ↦ false | Abort ↦ false | Unknown ↦ false ]

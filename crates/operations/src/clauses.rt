@@ -10,7 +10,7 @@ ghost use Rattle.mutations.specs.Rows.{MarkedMutated};
 ghost use Rattle.request_rows.specs.Assigned.{slotted, RowRead};
 ghost use Rattle.operations.specs.Clauses.{SlotFine, where_at, mutations_in, row_at, Earlier, taken_fault};
 
-use model::{COLUMNS, Entry, Fault, Found, Kind, ROWS, Row};
+use model::{COLUMNS, Entry, Fault, Kind, ROWS, Row};
 
 // The conditions of a slot: how they are judged; where none has a fault, marks of a table's rows become those of its rows that meet all of them. After a fault they are free.
 pub fn read_where(
@@ -93,13 +93,13 @@ fn taken_fault(text: &[u8], names: &[u8], i: usize, p: usize) -> Fault
 {
     let f = uuids::place_of(text, names, p);
     match f {
-        Found::At(k) => {
+        Some(k) => {
             if k < i {
                 return Fault::Duplicate;
             }
             Fault::Fine
         }
-        Found::Nothing => Fault::Fine,
+        None => Fault::Fine,
     }
 }
 

@@ -17,7 +17,7 @@ ghost use Rattle.uuids.specs.Named.{Running};
 ghost use Rattle.operations.specs.Ran.{Room, may_change, Answers};
 ghost use Rattle.operations.specs.Running.{Listed, nulls_most, stop_most, nulls_from, Stopped, AllDone};
 
-use model::{Catalog, Fault, Found, Row};
+use model::{Catalog, Fault, Row};
 use on_table::Reply;
 
 // What the operations leave: the first fault, whether there is something to commit (no fault, and an operation that may have changed a row), how many rows there are, and where the answer ends.
@@ -42,7 +42,7 @@ fn may_change(reply: Reply) -> bool
 }
 
 // Nulls for the operations from g on, at most 16 of them, each after a comma.
-fn put_nulls(text: &[u8], ends: &[u16], g: Found, answer: &mut [u8], at: usize) -> usize
+fn put_nulls(text: &[u8], ends: &[u16], g: Option<usize>, answer: &mut [u8], at: usize) -> usize
     requires says { Says text.now ends.now }
     requires g_value { items_fine text.now g ≡ true }
     requires g_len_bound { length (items_from text.now g) ≤ most_operations }
@@ -51,16 +51,12 @@ fn put_nulls(text: &[u8], ends: &[u16], g: Found, answer: &mut [u8], at: usize) 
 {
     let mut h = g;
     let mut e = at;
-    loop {
-        match h {
-            Found::At(p) => {
-                e = json_writer::put_comma(answer, e, false);
-                e = json_writer::put_null(answer, e);
-                h = nav::next_item(text, ends, p);
-            }
-            Found::Nothing => return e,
-        }
+    while let Some(p) = h {
+        e = json_writer::put_comma(answer, e, false);
+        e = json_writer::put_null(answer, e);
+        h = nav::next_item(text, ends, p);
     }
+    e
 }
 
 // The result of operation i, after an operation that gave no fault; rows are there already.
@@ -82,7 +78,7 @@ fn put_result(answer: &mut [u8], at: usize, reply: Reply, names: &[u8], i: usize
 fn stop(
     text: &[u8],
     ends: &[u16],
-    g: Found,
+    g: Option<usize>,
     fault: Fault,
     n: usize,
     answer: &mut [u8],
@@ -108,7 +104,7 @@ fn stop(
 pub fn run(
     text: &[u8],
     ends: &[u16],
-    ops: Found,
+    ops: Option<usize>,
     names: &[u8],
     schema: &Catalog,
     rows: &mut [Row],
@@ -127,7 +123,7 @@ pub fn run(
     let mut m = n;
     let mut pending = false;
     loop {
-        let Found::At(p) = g else {
+        let Some(p) = g else {
             return Finish {
                 fault: Fault::Fine,
                 pending: pending,

@@ -6,13 +6,12 @@ ghost use Rattle.inner.specs.Positions.{Says, well_at, tree_at};
 ghost use Rattle.model.specs.Members.{members_in};
 ghost use Rattle.model.specs.Operations.{table_in};
 ghost use Rattle.model.specs.Catalog.{packed_tables, table_count};
-ghost use Rattle.catalog.specs.Entries.{found_at};
 ghost use Rattle.operations.specs.declared.on_table.Operation.TheVariants.{Comment, Abort};
 ghost use Rattle.operations.specs.Ran.{Effect};
 ghost use Rattle.operations.specs.Performed.{Begun, Still, operation_by, operation_in, is_on_table, Called};
 
 use super::on_table::{Call, Done, Operation, Reply};
-use model::{Catalog, Fault, Found, Kind, Row};
+use model::{Catalog, Fault, Kind, Row};
 
 // Comment: it answers {}, and needs a string.
 fn run_comment(text: &[u8], ends: &[u16], call: Call) -> Done
@@ -63,16 +62,16 @@ fn run_abort(text: &[u8], ends: &[u16], call: Call) -> Done
 }
 
 // The table that the operation at `op` names.
-fn table_in(text: &[u8], ends: &[u16], schema: &Catalog, op: usize) -> Found
+fn table_in(text: &[u8], ends: &[u16], schema: &Catalog, op: usize) -> Option<usize>
     requires says { Says text.now ends.now }
     requires op_value { well_at text.now op ≡ true }
     requires schema_bound { table_count schema.now ≤ most_tables }
-    ensures { result ≡ found_at (table_in (packed_tables schema.now) (members_in (tree_at text.now op))) }
+    ensures { result ≡ table_in (packed_tables schema.now) (members_in (tree_at text.now op)) }
 {
     let f = text::find(text, ends, op, b"table");
     match f {
-        Found::At(p) => conditions::lookup::table_at(text, p, schema),
-        Found::Nothing => Found::Nothing,
+        Some(p) => conditions::lookup::table_at(text, p, schema),
+        None => None,
     }
 }
 
@@ -111,7 +110,7 @@ fn operation_at(text: &[u8], ends: &[u16], op: usize) -> Operation
     ensures { result ≡ operation_in (members_in (tree_at text.now op)) }
 {
     let f = text::find(text, ends, op, b"op");
-    let Found::At(p) = f else {
+    let Some(p) = f else {
         return Operation::Unknown;
     };
     let k = members::choose(
@@ -126,16 +125,14 @@ fn operation_at(text: &[u8], ends: &[u16], op: usize) -> Operation
 fn is_on_table(k: Operation) -> bool
     ensures { result ≡ is_on_table k }
 {
-    match k {
-        Operation::Insert => true,
-        Operation::Select => true,
-        Operation::Update => true,
-        Operation::Mutate => true,
-        Operation::Delete => true,
-        Operation::Comment => false,
-        Operation::Abort => false,
-        Operation::Unknown => false,
-    }
+    matches!(
+        k,
+        Operation::Insert
+            | Operation::Select
+            | Operation::Update
+            | Operation::Mutate
+            | Operation::Delete
+    )
 }
 
 // Operation i, at `op`, where n rows are there before it: what it is and its table. One on a table that the schema does not have is unknown.
@@ -149,7 +146,7 @@ pub fn read(text: &[u8], ends: &[u16], schema: &Catalog, i: usize, op: usize, n:
     let on = is_on_table(k);
     if on {
         let f = table_in(text, ends, schema, op);
-        let Found::At(t) = f else {
+        let Some(t) = f else {
             return Call {
                 operation: Operation::Unknown,
                 number: i,

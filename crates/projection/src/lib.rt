@@ -18,7 +18,6 @@ pub const SHOWN: usize = 1 + COLUMNS;
 pub fn name_of<'c>(cell: &'c Entry) -> &'c [u8]
     ensures { (result.now ≡ entry_name cell.now) × (length result.now < entry_bytes) }
 {
-    let entry = &cell[..];
     catalog::name_of(cell)
 }
 
@@ -27,8 +26,7 @@ fn put_name(out: &mut [u8], at: usize, cell: &Entry) -> usize
     requires { at + name_most < 2 ^ 64 }
     ensures { Put name_most out.old at (name_text (entry_name cell.now)) result out.new }
 {
-    let name = name_of(cell);
-    let r = json_writer::put_quoted(out, at, name);
+    let r = json_writer::put_quoted(out, at, name_of(cell));
     json_writer::put_byte(out, r, b':')
 }
 
@@ -56,11 +54,11 @@ fn put_shown(
     requires { (at + shown_most < 2 ^ 64) × (c < most_columns) }
     ensures { Put shown_most out.old at (shown_text show first (column_text cell.now row.now c)) result out.new }
 {
-    if show {
-        let r = json_writer::put_comma(out, at, first);
-        return put_column(out, r, cell, row, c);
+    if !show {
+        return at;
     }
-    at
+    let r = json_writer::put_comma(out, at, first);
+    put_column(out, r, cell, row, c)
 }
 
 // The id where it is shown.
@@ -68,12 +66,11 @@ fn put_row_id(out: &mut [u8], at: usize, show: bool, row: &Row) -> usize
     requires { at + row_id_most < 2 ^ 64 }
     ensures { Put row_id_most out.old at (shown_text show true (row_id_text row.now)) result out.new }
 {
-    if show {
-        let id = rows::id_of(row);
-        let r = json_writer::put_bytes(out, at, b"\"_uuid\":");
-        return json_writer::put_id(out, r, id);
+    if !show {
+        return at;
     }
-    at
+    let r = json_writer::put_bytes(out, at, b"\"_uuid\":");
+    json_writer::put_id(out, r, rows::id_of(row))
 }
 
 // The columns that are shown, of n whose cells begin at `from`.
@@ -92,12 +89,10 @@ fn put_columns(
 {
     let mut first = none;
     let mut r = at;
-    let mut c = 0;
-    while c < n {
+    for c in 0..n {
         let show = shown[c + 1];
         r = put_shown(out, r, show, first, &schema[from + c], row, c);
         first = !show & first;
-        c += 1;
     }
     r
 }

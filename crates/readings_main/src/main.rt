@@ -7,338 +7,182 @@
 //     lacking CALL         a call on an area that lacks its last byte
 #![tactic(auto)]
 
-ghost use Rattle.std.specs.Prelude.{◌≡◌, ◌+◌, ◌≤◌, ◌<◌, length};
-ghost use Rattle.model.specs.Limits.{store_bytes};
-ghost use Rattle.io.specs.Counts.{IsPrefixLen};
+ghost use Rattle.std.specs.Prelude.{◌<◌, ◌≤◌};
 
 use model::{STORE_BYTES, Status};
+use programs::{put, put_hex, refusal_of, used};
+use std::alloc::{AllocError, Global};
 
-fn put(s: &[u8]) {
-    io::write_all(1, s);
+// Bytes of a call's records and of its answer, at most.
+const RECORDS: usize = 26349;
+
+const ANSWER: usize = 20000;
+
+// Bytes of a mark, at most.
+const MARK: usize = 20;
+
+fn put_status(status: Status) {
+    io::print_decimal(1, refusal_of(status).unwrap_or(0));
 }
 
-// The number of a refusal, 0 for any other status.
-fn refusal_of(status: Status) -> u64 {
-    match status {
-        Status::Disordered => 1,
-        Status::WrongLength => 2,
-        Status::BadSchema => 3,
-        Status::BadRequest => 4,
-        Status::OtherDatabase => 5,
-        Status::BadFreshIds => 6,
-        Status::AnswerTooLong => 7,
-        Status::BadRecord => 8,
-        Status::OtherRun => 9,
-        Status::NumbersSpent => 10,
+// A space and the bytes without the zeros at the end, - where there are none.
+fn put_bytes(bytes: &[u8]) {
+    match used(bytes) {
+        [] => put(b" -"),
+        bytes => {
+            put(b" ");
+            put_hex(bytes);
+        }
+    }
+}
+
+// A space and the text without the zeros at the end, - where there is none.
+fn put_text(text: &[u8]) {
+    match used(text) {
+        [] => put(b" -"),
+        text => {
+            put(b" ");
+            put(text);
+        }
+    }
+}
+
+// The first field of a line, and the fields after it.
+fn cut(line: &[u8]) -> (&[u8], &[u8]) {
+    match line.iter().position(|b| *b == b' ') {
+        Some(n) => (&line[..n], &line[n + 1..]),
+        None => (line, &[]),
+    }
+}
+
+// The number of a digit, 0 for any other byte.
+fn value_of(digit: u8) -> u8
+    ensures { result < 16 }
+{
+    match digit {
+        b'0'..=b'9' => digit - b'0',
+        b'a'..=b'f' => 10 + (digit - b'a'),
         _ => 0,
     }
 }
 
-fn put_status(status: Status) {
-    io::print_decimal(1, refusal_of(status));
-}
-
-// How many bytes there are without the zeros at the end.
-fn used(s: &[u8]) -> usize
-    ensures { IsPrefixLen result s.now }
-{
-    let mut n = s.len();
-    while 0 < n {
-        if s[n - 1] != 0 {
-            return n;
+// The bytes that a field stands for.
+fn bytes(alloc: Global, field: &[u8]) -> Result<Vec<u8>, AllocError> {
+    let mut bytes = Vec::new(alloc);
+    for pair in field.chunks_exact(2) {
+        if let [high, low] = pair {
+            bytes.push(16 * value_of(*high) + value_of(*low))?;
         }
-        n -= 1;
     }
-    0
-}
-
-// The digit of a number below 16.
-fn digit_of(n: u8) -> u8
-    requires { n < 16 }
-{
-    if n < 10 {
-        return b'0' + n;
-    }
-    b'a' + (n - 10)
-}
-
-// Bytes in hexadecimal, as far as there is room; how many characters.
-fn hex(s: &[u8], out: &mut [u8]) -> usize
-    ensures { IsPrefixLen result out.new }
-{
-    let mut i = 0;
-    let mut at = 0;
-    while i < s.len() {
-        if out.len() - at < 2 {
-            return at;
-        }
-        out[at] = digit_of(s[i] / 16);
-        out[at + 1] = digit_of(s[i] % 16);
-        at += 2;
-        i += 1;
-    }
-    at
-}
-
-// Space for the characters of records in hexadecimal.
-fn characters() -> [u8; 52698] {
-    [0u8; 52698]
-}
-
-// A space and the bytes without the zeros at the end, - where there are none.
-fn put_bytes(s: &[u8]) {
-    let n = used(s);
-    if n == 0 {
-        put(b" -");
-        return;
-    }
-    let mut out = characters();
-    let k = hex(&s[..n], &mut out);
-    put(b" ");
-    put(&out[..k]);
-}
-
-// A space and the text without the zeros at the end, - where there is none.
-fn put_text(s: &[u8]) {
-    let n = used(s);
-    if n == 0 {
-        put(b" -");
-        return;
-    }
-    put(b" ");
-    put(&s[..n]);
-}
-
-// Where a byte stands first, or the end.
-fn find(s: &[u8], b: u8) -> usize
-    ensures { IsPrefixLen result s.now }
-{
-    let mut i = 0;
-    while i < s.len() {
-        if s[i] == b {
-            return i;
-        }
-        i += 1;
-    }
-    i
-}
-
-// The first field of a line.
-fn first(line: &[u8]) -> &[u8] {
-    let n = find(line, b' ');
-    &line[..n]
-}
-
-// The fields after the first.
-fn rest(line: &[u8]) -> &[u8] {
-    let n = find(line, b' ');
-    if n == line.len() {
-        return &line[n..];
-    }
-    &line[n + 1..]
-}
-
-// The number of a digit, 0 for any other byte.
-fn value_of(c: u8) -> u8
-    ensures { result < 16 }
-{
-    if c < b'0' {
-        return 0;
-    }
-    if c <= b'9' {
-        return c - b'0';
-    }
-    if c < b'a' {
-        return 0;
-    }
-    if c <= b'f' {
-        return 10 + (c - b'a');
-    }
-    0
-}
-
-// The bytes that a field stands for, as far as there is room; how many.
-fn bytes(field: &[u8], out: &mut [u8]) -> usize
-    ensures { IsPrefixLen result out.new }
-{
-    let mut i = 0;
-    let mut at = 0;
-    while i < out.len() {
-        if field.len() - at < 2 {
-            return i;
-        }
-        out[i] = 16 * value_of(field[at]) + value_of(field[at + 1]);
-        at += 2;
-        i += 1;
-    }
-    i
+    Ok(bytes)
 }
 
 // The number that a field stands for, or the largest.
 fn number(field: &[u8]) -> u32 {
-    let mut n: u64 = 0;
-    let mut i = 0;
-    while i < field.len() {
-        n = 10 * n + value_of(field[i]) as u64;
-        if 4294967295 < n {
-            return 4294967295;
-        }
-        i += 1;
-    }
-    n as u32
+    field.iter().fold(0, |n: u32, digit| {
+        n.saturating_mul(10)
+            .saturating_add(u32::from(value_of(*digit)))
+    })
 }
 
-// The number that a field stands for, or the length of a buffer that is shorter.
-fn length_in(field: &[u8], buffer: &[u8]) -> usize
-    ensures { IsPrefixLen result buffer.now }
+// The number that a field stands for, or the most that it may be.
+fn at_most(field: &[u8], most: usize) -> usize
+    ensures { result ≤ most }
 {
-    let n = number(field) as usize;
-    if n < buffer.len() {
-        return n;
-    }
-    buffer.len()
+    most.min(number(field) as usize)
 }
 
-fn start(area: &mut [u8], fields: &[u8]) {
-    let mut schema = [0u8; 5000];
-    let n = bytes(first(fields), &mut schema);
-    let run = number(first(rest(fields)));
-    let status = store::start(area, &schema[..n], run);
+fn start(alloc: Global, area: &mut [u8], fields: &[u8]) -> Result<(), AllocError> {
+    let (schema, fields) = cut(fields);
+    let (run, _) = cut(fields);
+    let schema = bytes(alloc, schema)?;
+    let status = store::start(area, schema.as_slice(), number(run));
     put(b"start ");
     put_status(status);
+    Ok(())
 }
 
-fn call(area: &mut [u8], request: &[u8], fresh: &[u8], records: &mut [u8], answer: &mut [u8]) {
-    let refusal = store::transact(area, request, fresh, records, answer);
+// A request with its fresh ids, and the lengths of the buffers, which a call has to write over.
+fn transact(alloc: Global, area: &mut [u8], fields: &[u8]) -> Result<(), AllocError> {
+    let (request, fields) = cut(fields);
+    let (fresh, fields) = cut(fields);
+    let (length, fields) = cut(fields);
+    let mut records = vec![in alloc; 255u8; at_most(length, RECORDS)]?;
+    let (length, _) = cut(fields);
+    let mut answer = vec![in alloc; 255u8; at_most(length, ANSWER)]?;
+    let request = bytes(alloc, request)?;
+    let fresh = bytes(alloc, fresh)?;
+    let status = store::transact(area, &request, &fresh, &mut records, &mut answer);
     put(b"transact ");
-    put_status(refusal);
-    put_text(answer);
-    put_bytes(records);
+    put_status(status);
+    put_text(&answer);
+    put_bytes(&records);
+    Ok(())
 }
 
-// Records that a call has to write over.
-fn old_records() -> [u8; 26349] {
-    [255u8; 26349]
-}
-
-// An answer that a call has to write over.
-fn old_answer() -> [u8; 20000] {
-    [255u8; 20000]
-}
-
-// A request with its fresh ids, and the lengths of the buffers.
-fn request(area: &mut [u8], request: &[u8], fresh: &[u8], lengths: &[u8]) {
-    let mut records = old_records();
-    let mut answer = old_answer();
-    let r = length_in(first(lengths), &records);
-    let a = length_in(first(rest(lengths)), &answer);
-    call(area, request, fresh, &mut records[..r], &mut answer[..a]);
-}
-
-fn transact(area: &mut [u8], fields: &[u8]) {
-    let mut text = [0u8; 9000];
-    let n = bytes(first(fields), &mut text);
-    let mut fresh = [0u8; 300];
-    let more = rest(fields);
-    let k = bytes(first(more), &mut fresh);
-    request(area, &text[..n], &fresh[..k], rest(more));
-}
-
-fn mark_in(area: &[u8], mark: &mut [u8]) {
+fn mark(area: &[u8], fields: &[u8]) {
+    let (length, _) = cut(fields);
+    let mut mark = [255; MARK];
+    let mark = &mut mark[..at_most(length, MARK)];
     let status = store::mark(area, mark);
     put(b"mark ");
     put_status(status);
     put_bytes(mark);
 }
 
-fn mark(area: &[u8], fields: &[u8]) {
-    let mut mark = [255u8; 20];
-    let n = length_in(first(fields), &mark);
-    mark_in(area, &mut mark[..n]);
-}
-
-// Bytes put at a place of the area.
-fn put_at(area: &mut [u8], fields: &[u8]) {
-    let at = length_in(first(fields), area);
-    let k = bytes(first(rest(fields)), &mut area[at..]);
+// Bytes put at a place of the area, as far as it has room.
+fn put_at(alloc: Global, area: &mut [u8], fields: &[u8]) -> Result<(), AllocError> {
+    let (place, fields) = cut(fields);
+    let (field, _) = cut(fields);
+    let bytes = bytes(alloc, field)?;
+    let at = at_most(place, area.len());
+    let room = &mut area[at..];
+    let n = bytes.len().min(room.len());
+    room[..n].copy_from_slice(&bytes[..n]);
     put(b"put ");
-    io::print_decimal(1, k as u64);
+    io::print_decimal(1, n as u64);
+    Ok(())
 }
 
 // One call, by its first letter.
-fn one(area: &mut [u8], line: &[u8]) {
-    if line.len() == 0 {
-        return;
+fn one(alloc: Global, area: &mut [u8], line: &[u8]) -> Result<(), AllocError> {
+    let (_, fields) = cut(line);
+    match line {
+        [b's', ..] => start(alloc, area, fields)?,
+        [b't', ..] => transact(alloc, area, fields)?,
+        [b'm', ..] => mark(area, fields),
+        _ => put(line),
     }
-    let letter = line[0];
-    if letter == b's' {
-        start(area, rest(line));
-        return;
-    }
-    if letter == b't' {
-        transact(area, rest(line));
-        return;
-    }
-    if letter == b'm' {
-        mark(area, rest(line));
-        return;
-    }
-    put(line);
+    Ok(())
 }
 
 // A line: a call on the area, bytes put into it, or a call on it without its last byte.
-fn line(area: &mut [u8], line: &[u8])
-    requires { length area.old ≡ store_bytes }
-{
-    if line.len() == 0 {
-        return;
+fn line(alloc: Global, area: &mut [u8; STORE_BYTES], line: &[u8]) -> Result<(), AllocError> {
+    let (_, rest) = cut(line);
+    match line {
+        [b'p', ..] => put_at(alloc, area, rest),
+        [b'l', ..] => one(alloc, &mut area[..STORE_BYTES - 1], rest),
+        _ => one(alloc, area, line),
     }
-    let letter = line[0];
-    if letter == b'p' {
-        put_at(area, rest(line));
-        return;
-    }
-    if letter == b'l' {
-        one(&mut area[..STORE_BYTES - 1], rest(line));
-        return;
-    }
-    one(area, line);
-}
-
-// The line that begins at `at`, and where the next one does.
-fn next(lines: &[u8], at: usize, area: &mut [u8]) -> usize
-    requires at_in_bounds { at < length lines.now }
-    requires area_len { length area.old ≡ store_bytes }
-    ensures { (at < result) × (result ≤ length lines.now) }
-{
-    let more = &lines[at..];
-    let n = find(more, b'\n');
-    line(area, &more[..n]);
-    put(b"\n");
-    if n == more.len() {
-        return lines.len();
-    }
-    at + n + 1
 }
 
 // The lines, one after another.
-fn each(lines: &[u8], area: &mut [u8])
-    requires { length area.old ≡ store_bytes }
-{
-    let mut at = 0;
-    while at < lines.len() {
-        at = next(lines, at, area);
+fn each(alloc: Global, lines: &[u8], area: &mut [u8; STORE_BYTES]) -> Result<(), AllocError> {
+    for text in lines.split_inclusive(|b| *b == b'\n') {
+        line(alloc, area, text.strip_suffix(b"\n").unwrap_or(text))?;
+        put(b"\n");
     }
+    Ok(())
 }
 
 // Space for the lines.
 fn space() -> [u8; 300000] {
-    [0u8; 300000]
+    [0; 300000]
 }
 
-fn main() {
+fn main(rt: HostRuntime) -> Result<(), AllocError> {
     let mut space = space();
     let n = io::read_full(0, &mut space);
-    let mut area = [0u8; STORE_BYTES];
-    each(&space[..n], &mut area);
+    let mut area = [0; STORE_BYTES];
+    each(rt.alloc(), &space[..n], &mut area)
 }

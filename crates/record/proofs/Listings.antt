@@ -1,5 +1,5 @@
 -- What a schema lists of an arrival, by the kind that it is. Assumes nothing.
-use mathlib.Core.Path.{◌≡◌, refl, sym, ap, ◌∙◌}
+use mathlib.Core.Path.{◌≡◌, refl}
 use mathlib.Core.Bool.{Bool, true, false, not, ◌&&◌}
 use mathlib.Core.List.{List}
 use Prim.Native.Nat.{ℕ, ◌^◌, ◌≤◌, ◌<◌}
@@ -9,12 +9,10 @@ use lib.ListN.{length, get_or}
 use Rattle.model.specs.Octets.{value}
 use Rattle.model.proofs.Tests.{and_l}
 use Rattle.model.proofs.Octets.{octets, value_lt}
-use Rattle.record.specs.Reading.{id_in, arrival_record, Sized, known_in, listed_in, listed_record}
+use Rattle.record.specs.Reading.{Sized, known_in}
 use Rattle.record.specs.declared.Born.{Born}
 use Rattle.record.specs.declared.Gone.{Gone}
 use Rattle.record.specs.declared.Column.{Column}
-use Rattle.record.specs.declared.End.{End}
-use Rattle.record.specs.declared.Mark.{Mark}
 use Rattle.record.specs.declared.Arrival.{Arrival}
 use Rattle.record.specs.declared.Arrival.TheVariants as arrival
 
@@ -36,32 +34,7 @@ pub known_table : (n t i : ℕ) → known_in n t i ≡ true → t < n
 unfolding known_in
 known_table n t i h = ltb-true t n (and_l (ltb t n) (not (eqb i 0)) (and_l (ltb t n && not (eqb i 0)) (ltb i (256 ^ 16)) h))
 
--- an arrival's kind says how long it is, and what is asked of it
-module _ (counts l : List ℕ) (a : Arrival) where
-  pub born_listed : (r : Born) (k : Bool) → a ≡ arrival.Born r → k ≡ known_in (length counts) r.table (value (id_in l)) → k ≡ listed_record counts (arrival_record a l)
-  unfolding arrival_record listed_record listed_in
-  born_listed r k e p = p ∙ sym (ap (λ (x : Arrival). listed_record counts (arrival_record x l)) e)
-
-  pub gone_listed : (r : Gone) (k : Bool) → a ≡ arrival.Gone r → k ≡ known_in (length counts) r.table (value (id_in l)) → k ≡ listed_record counts (arrival_record a l)
-  unfolding arrival_record listed_record listed_in
-  gone_listed r k e p = p ∙ sym (ap (λ (x : Arrival). listed_record counts (arrival_record x l)) e)
-
-  pub column_listed : (r : Column) (k : Bool) → a ≡ arrival.Column r → k ≡ known_in (length counts) r.table (value (id_in l)) → (k && ltb r.column (get_or counts r.table 0)) ≡ listed_record counts (arrival_record a l)
-  unfolding arrival_record listed_record listed_in
-  column_listed r k e p = ap (λ (b : Bool). b && ltb r.column (get_or counts r.table 0)) p ∙ sym (ap (λ (x : Arrival). listed_record counts (arrival_record x l)) e)
-
-  pub end_listed : (r : End) → a ≡ arrival.End r → true ≡ listed_record counts (arrival_record a l)
-  unfolding arrival_record listed_record listed_in
-  end_listed r e = sym (ap (λ (x : Arrival). listed_record counts (arrival_record x l)) e)
-
-  pub mark_listed : (r : Mark) → a ≡ arrival.Mark r → true ≡ listed_record counts (arrival_record a l)
-  unfolding arrival_record listed_record
-  mark_listed r e = sym (ap (λ (x : Arrival). listed_record counts (arrival_record x l)) e)
-
-  pub bad_listed : a ≡ arrival.Bad → false ≡ listed_record counts (arrival_record a l)
-  unfolding arrival_record listed_record
-  bad_listed e = sym (ap (λ (x : Arrival). listed_record counts (arrival_record x l)) e)
-
+-- an arrival's kind says how long it is
 module _ (a : Arrival) (n : ℕ) (h : Sized a n) where
   pub born_size : (r : Born) → a ≡ arrival.Born r → n ≡ 26
   unfolding Sized

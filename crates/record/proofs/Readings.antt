@@ -1,18 +1,21 @@
 -- What is read of bytes by their places is the record that the model decodes. Assumes nothing.
+use Rattle.std.specs.Prelude.{Some}
 use mathlib.Core.Path.{◌≡◌, refl, sym, ap, ◌∙◌}
-use mathlib.Core.Bool.{◌&&◌}
-use mathlib.Core.List.{List, [], ◌∷◌, ◌++◌, append-nil}
-use mathlib.Core.Option.{some}
-use Prim.Native.Nat.{ℕ, suc, ◌+◌, ◌*◌, ◌≤◌, ◌<◌}
+use mathlib.Core.Bool.{Bool, ◌&&◌}
+use mathlib.Core.List.{List, [], ◌∷◌}
+use Prim.Native.Nat.{ℕ, zero, suc, ◌+◌, ◌*◌, ◌^◌, ◌≤◌, ◌<◌}
 use native.Mathlib.Omega.{arith}
-use borrow.Author.Tests.{eq-eqb, ne_eqb, eqb-true, eqb-false}
+use borrow.Author.Tests.{eq-eqb, ne_eqb, eqb-true}
+use native.Mathlib.Nat.{zero-mul, zero-add, suc-mul}
 use lib.Dec.{eqb}
-use lib.ListN.{length, get_or, take, drop, length-drop, drop_of_length-le}
-use lib.Seq.{get_or-drop, drop-drop, length-take-le}
+use lib.ListN.{length, get_or, drop}
+use lib.Seq.{get_or-drop, drop-drop}
+use Rattle.std.proofs.Common.{Some, None, slice_get}
+use Rattle.std.specs.List.{list_all}
 use Rattle.model.specs.Octets.{value, part}
 use Rattle.model.specs.Records.{born, gone, column, end, numbered, mark, record_bytes, body_of, cut, decode}
 use Rattle.model.proofs.Tests.{split}
-use Rattle.octets.proofs.Laws.{value_take_suc}
+use Rattle.model.proofs.Octets.{pow_pos}
 use Rattle.record.specs.Kinds.{born_of, gone_of, column_of, end_of, mark_of}
 use Rattle.record.specs.Reading.{arrival_record, Sized, ReadAs}
 use Rattle.record.specs.declared.Born.{Born}
@@ -36,6 +39,15 @@ least k h =
     (λ d. split (eqb k 5) (λ t. rw (a, b, c, d, t) (omega arith)) (λ f. let z : record_bytes k ≡ 0 = rw (a, b, c, d, f) in absurd (omega arith))))))
 
 -- "an unknown kind, the wrong length"
+-- the first byte, where there is one
+pub first_is : (l : List ℕ) (k : ℕ) → Some k ≡ slice_get l 0 → (0 < length l) × (get_or l 0 0 ≡ k)
+first_is [] k e = cc
+first_is (x ∷ b) k e = (omega arith, cc)
+
+pub none_first : (l : List ℕ) → None ≡ slice_get l 0 → length l ≡ 0
+none_first [] e = refl
+none_first (x ∷ b) e = cc
+
 pub none_read : (l : List ℕ) → length l ≡ 0 → ReadAs arrival.Bad l
 unfolding arrival_record Sized
 none_read [] h = record { same = refl; size = tt }
@@ -54,7 +66,7 @@ pub born_read : (l : List ℕ) (u n : ℕ) (r : Born) → get_or l 0 0 ≡ 1 →
 unfolding arrival_record Sized
 born_read [] u n r e m p q w = absurd (omega arith)
 born_read (x ∷ b) u n r e m p q w = record {
-  same = ap (λ (y : Born). arrival_record (arrival.Born y) (x ∷ b)) w ∙ (λ j. some (numbered (p j) (q j) (born (get_or b 8 0) (value (part 9 16 b))))) ∙ sym (decoded 1 x b e m);
+  same = ap (λ (y : Born). arrival_record (arrival.Born y) (x ∷ b)) w ∙ (λ j. Some (numbered (p j) (q j) (born (get_or b 8 0) (value (part 9 16 b))))) ∙ sym (decoded 1 x b e m);
   size = m;
 }
 
@@ -62,7 +74,7 @@ pub gone_read : (l : List ℕ) (u n : ℕ) (r : Gone) → get_or l 0 0 ≡ 2 →
 unfolding arrival_record Sized
 gone_read [] u n r e m p q w = absurd (omega arith)
 gone_read (x ∷ b) u n r e m p q w = record {
-  same = ap (λ (y : Gone). arrival_record (arrival.Gone y) (x ∷ b)) w ∙ (λ j. some (numbered (p j) (q j) (gone (get_or b 8 0) (value (part 9 16 b))))) ∙ sym (decoded 2 x b e m);
+  same = ap (λ (y : Gone). arrival_record (arrival.Gone y) (x ∷ b)) w ∙ (λ j. Some (numbered (p j) (q j) (gone (get_or b 8 0) (value (part 9 16 b))))) ∙ sym (decoded 2 x b e m);
   size = m;
 }
 
@@ -72,7 +84,7 @@ unfolding arrival_record Sized
 column_read [] u n r e m p q w = absurd (omega arith)
 column_read (x ∷ b) u n r e m p q w = record {
   same = ap (λ (y : Column). arrival_record (arrival.Column y) (x ∷ b)) w
-      ∙ (λ j. some (numbered (p j) (q j) (column (get_or b 8 0) (value (part 9 16 b)) (get_or b 25 0) (record { count = sym (get_or-drop 26 b 0 0) j; atoms = cut 4 (sym (drop-drop 1 26 b) j) }))))
+      ∙ (λ j. Some (numbered (p j) (q j) (column (get_or b 8 0) (value (part 9 16 b)) (get_or b 25 0) (record { count = sym (get_or-drop 26 b 0 0) j; atoms = cut 4 (sym (drop-drop 1 26 b) j) }))))
       ∙ sym (decoded 3 x b e m);
   size = m;
 }
@@ -80,35 +92,23 @@ column_read (x ∷ b) u n r e m p q w = record {
 pub end_read : (l : List ℕ) (u n : ℕ) (r : End) → get_or l 0 0 ≡ 4 → length l ≡ 9 → u ≡ value (part 1 4 l) → n ≡ value (part 5 4 l) → r ≡ end_of u n → ReadAs (arrival.End r) l
 unfolding arrival_record Sized
 end_read [] u n r e m p q w = absurd (omega arith)
-end_read (x ∷ b) u n r e m p q w = record { same = ap (λ (y : End). arrival_record (arrival.End y) (x ∷ b)) w ∙ (λ j. some (numbered (p j) (q j) end)) ∙ sym (decoded 4 x b e m); size = m }
+end_read (x ∷ b) u n r e m p q w = record { same = ap (λ (y : End). arrival_record (arrival.End y) (x ∷ b)) w ∙ (λ j. Some (numbered (p j) (q j) end)) ∙ sym (decoded 4 x b e m); size = m }
 
 pub mark_read : (l : List ℕ) (u n : ℕ) (r : Mark) → get_or l 0 0 ≡ 5 → length l ≡ 9 → u ≡ value (part 1 4 l) → n ≡ value (part 5 4 l) → r ≡ mark_of u n → ReadAs (arrival.Mark r) l
 unfolding arrival_record Sized
 mark_read [] u n r e m p q w = absurd (omega arith)
-mark_read (x ∷ b) u n r e m p q w = record { same = ap (λ (y : Mark). arrival_record (arrival.Mark y) (x ∷ b)) w ∙ (λ j. some (mark (p j) (q j))) ∙ sym (decoded 5 x b e m); size = m }
+mark_read (x ∷ b) u n r e m p q w = record { same = ap (λ (y : Mark). arrival_record (arrival.Mark y) (x ∷ b)) w ∙ (λ j. Some (mark (p j) (q j))) ∙ sym (decoded 5 x b e m); size = m }
 
 -- ── an id of zeros ──
-nil_both : (v b : ℕ) → (eqb v 0 && eqb b 0) ≡ eqb (v * 256 + b) 0
-nil_both v b =
-    split (eqb v 0)
-    (λ p. split (eqb b 0)
-    (λ q. let i = eqb-true v 0 p in let j = eqb-true b 0 q in rw (p, q, eq-eqb (v * 256 + b) 0 (omega arith)))
-    (λ q. let j = eqb-false b 0 q in rw (p, q, ne_eqb (v * 256 + b) 0 (λ z. j (omega arith)))))
-    (λ p. let i = eqb-false v 0 p in rw (p, ne_eqb (v * 256 + b) 0 (λ z. i (omega arith))))
+nil_both : (b p v : ℕ) → 0 < p → (eqb b 0 && eqb v 0) ≡ eqb (b * p + v) 0
+nil_both zero p v h = rw (zero-mul p, zero-add v)
+nil_both (suc b) p v h = rw (ne_eqb (suc b) 0 (λ z. omega (arith, z)), ne_eqb (suc b * p + v) 0 (λ z. omega (arith, suc-mul b p, h, z)))
 
-pub nil_more : (s : List ℕ) (i : ℕ) → i < length s → (eqb (value (take i s)) 0 && eqb (get_or s i 0) 0) ≡ eqb (value (take (i + 1) s)) 0
-nil_more s i h = nil_both (value (take i s)) (get_or s i 0) ∙ ap (λ (n : ℕ). eqb n 0) (sym (value_take_suc s i h))
+pub all_nil : (l : List ℕ) → list_all (λ b. eqb b 0) l ≡ eqb (value l) 0
+all_nil [] = refl
+all_nil (b ∷ l) = ap (λ (t : Bool). eqb b 0 && t) (all_nil l) ∙ nil_both b (256 ^ length l) (value l) (pow_pos (length l))
 
 -- ── atoms ──
--- what is copied to a whole array of its length
-pub copied_part : (l z : List ℕ) (at w n : ℕ) → n ≡ w → at + w ≤ length l → length z ≡ w → part at n l ++ drop (length (part at n l)) z ≡ part at w l
-copied_part l z at w n e h m =
-    let k : length (part at w l) ≡ w = length-take-le w (drop at l) (omega (arith, length-drop at l)) in
-    ap (λ (x : ℕ). part at x l ++ drop (length (part at x l)) z) e
-    ∙ ap (λ (x : ℕ). part at w l ++ drop x z) k
-    ∙ ap (λ (x : List ℕ). part at w l ++ x) (drop_of_length-le z {i = w} (omega arith))
-    ∙ append-nil (part at w l)
-
 -- the four parts, one after another
 pub parts_cut : (l : List ℕ) → part 28 25 l ∷ part 53 25 l ∷ part 78 25 l ∷ part 103 25 l ∷ [] ≡ cut 4 (drop 28 l)
 parts_cut l = rw (drop-drop 25 28 l, drop-drop 25 53 l, drop-drop 25 78 l)

@@ -1,8 +1,8 @@
 -- A record is sound exactly when the schema lists what it names and its value is canonical. Assumes nothing.
+use Rattle.std.specs.Prelude.{Some}
 use mathlib.Core.Path.{◌≡◌, refl, ap, ◌∙◌}
 use mathlib.Core.Bool.{Bool, true, false, ◌&&◌}
 use mathlib.Core.List.{List, [], ◌∷◌}
-use mathlib.Core.Option.{some}
 use Prim.Native.Nat.{ℕ, zero, suc, ◌<◌}
 use native.Mathlib.Omega.{arith}
 use borrow.Author.Tests.{lt-ltb}
@@ -26,7 +26,7 @@ count_at (x ∷ s) zero = refl
 count_at (x ∷ s) (suc t) = count_at s t
 
 -- a column that is there is judged by its type; one that is not is never sound
-pub allows_at : (cs : List Column) (c : ℕ) (v : Value) (x : Column) → nth cs c ≡ some x → allows cs c v ≡ canonical_for x v
+pub allows_at : (cs : List Column) (c : ℕ) (v : Value) (x : Column) → nth cs c ≡ Some x → allows cs c v ≡ canonical_for x v
 allows_at [] c v x h = let z : ◌≡◌ {A = ℕ} 0 1 = cc in absurd (omega arith)
 allows_at (y ∷ cs) zero v x h = let e : y ≡ x = cc in ap (λ (z : Column). canonical_for z v) e
 allows_at (y ∷ cs) (suc c) v x h = allows_at cs c v x h

@@ -1,6 +1,5 @@
 -- What bytes are read as, and what of it a schema has to list (document 01, refusal 8). Assumes nothing: these are definitions.
-use Rattle.std.specs.Prelude.{ℕ, ◌+◌, ◌^◌, ◌≡◌, Bool, true, false, not, ◌&&◌, List, map, eqb, ltb, length, get_or, drop}
-use Rattle.std.proofs.Math.Option.{Option, none, some}
+use Rattle.std.specs.Prelude.{ℕ, ◌+◌, ◌^◌, ◌≡◌, Bool, true, false, not, ◌&&◌, List, map, eqb, ltb, length, get_or, drop, Option, Some, None}
 use Rattle.model.specs.Limits.{most_elements, id_bytes, end_bytes, row_record_bytes}
 use Rattle.model.specs.Octets.{part}
 use Rattle.model.specs.Schema.{Table, Schema, columns_of}
@@ -25,12 +24,12 @@ atoms_in bytes = cut most_elements (drop atoms_at bytes)
 
 -- the record that an answer of the reader and the bytes are; none for "an unknown kind, the wrong length"
 unfoldable pub arrival_record : Arrival → List ℕ → Option Record
-arrival_record (Born r) bytes = some (born_record r (id_in bytes))
-arrival_record (Gone r) bytes = some (gone_record r (id_in bytes))
-arrival_record (Column r) bytes = some (column_record r (id_in bytes) (atoms_in bytes))
-arrival_record (End r) bytes = some (end_record r)
-arrival_record (Mark r) bytes = some (mark_record r)
-arrival_record Bad bytes = none
+arrival_record (Born r) bytes = Some (born_record r (id_in bytes))
+arrival_record (Gone r) bytes = Some (gone_record r (id_in bytes))
+arrival_record (Column r) bytes = Some (column_record r (id_in bytes) (atoms_in bytes))
+arrival_record (End r) bytes = Some (end_record r)
+arrival_record (Mark r) bytes = Some (mark_record r)
+arrival_record Bad bytes = None
 
 -- "a body whose length the kind fixes"
 unfoldable pub Sized : Arrival → ℕ → Type 0
@@ -70,6 +69,6 @@ canonical_in s end = true
 
 -- a mark names none of these
 unfoldable pub listed_record : List ℕ → Option Record → Bool
-listed_record counts none = false
-listed_record counts (some (numbered u n e)) = listed_in counts e
-listed_record counts (some (mark u n)) = true
+listed_record counts None = false
+listed_record counts (Some (numbered u n e)) = listed_in counts e
+listed_record counts (Some (mark u n)) = true

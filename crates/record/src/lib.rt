@@ -94,6 +94,7 @@ impl Born {
         Born { run, number, table }
     }
 
+    #[tactic(auto, unfolding(crate::specs::Writing::start_bytes, crate::specs::Writing::head_bytes))]
     pub fn write(self, id: &[u8], out: &mut [u8])
         requires { (row_record_bytes ≤ length out.old) × (length id.now ≡ id_bytes) }
         ensures { Wrote (born_record self id.now) row_record_bytes out.old out.new }
@@ -121,6 +122,7 @@ impl Gone {
         Gone { run, number, table }
     }
 
+    #[tactic(auto, unfolding(crate::specs::Writing::start_bytes, crate::specs::Writing::head_bytes))]
     pub fn write(self, id: &[u8], out: &mut [u8])
         requires { (row_record_bytes ≤ length out.old) × (length id.now ≡ id_bytes) }
         ensures { Wrote (gone_record self id.now) row_record_bytes out.old out.new }
@@ -160,11 +162,9 @@ impl Column {
         requires { (column_record_bytes ≤ length out.old) × (length id.now ≡ id_bytes) × (length atoms.now ≡ most_elements) }
         ensures { Wrote (column_record self id.now atoms.now) column_record_bytes out.old out.new }
     {
-        let column = self.column;
-        let count = self.count;
         put_head(out, Self::KIND, self.run, self.number, self.table, id);
-        leaf::put_byte(&mut out[COLUMN_AT..], column);
-        leaf::put_byte(&mut out[COUNT_AT..], count);
+        leaf::put_byte(&mut out[COLUMN_AT..], self.column);
+        leaf::put_byte(&mut out[COUNT_AT..], self.count);
         put_atoms(&mut out[ATOMS_AT..], atoms);
     }
 }
@@ -187,6 +187,7 @@ impl End {
         End { run, number }
     }
 
+    #[tactic(auto, unfolding(crate::specs::Writing::start_bytes))]
     pub fn write(self, out: &mut [u8])
         requires { end_bytes ≤ length out.old }
         ensures { Wrote (end_record self) end_bytes out.old out.new }
@@ -213,6 +214,7 @@ impl Mark {
         Mark { run, last }
     }
 
+    #[tactic(auto, unfolding(crate::specs::Writing::start_bytes))]
     pub fn write(self, out: &mut [u8])
         requires { end_bytes ≤ length out.old }
         ensures { Wrote (mark_record self) end_bytes out.old out.new }
@@ -236,22 +238,14 @@ pub enum Arrival {
 pub fn len_of(kind: u8) -> usize
     ensures { result ≡ record_bytes kind }
 {
-    if kind == Born::KIND {
-        return Born::LEN;
+    match kind {
+        Born::KIND => Born::LEN,
+        Gone::KIND => Gone::LEN,
+        Column::KIND => Column::LEN,
+        End::KIND => End::LEN,
+        Mark::KIND => Mark::LEN,
+        _ => 0,
     }
-    if kind == Gone::KIND {
-        return Gone::LEN;
-    }
-    if kind == Column::KIND {
-        return Column::LEN;
-    }
-    if kind == End::KIND {
-        return End::LEN;
-    }
-    if kind == Mark::KIND {
-        return Mark::LEN;
-    }
-    0
 }
 
 // The number in a number's bytes.
@@ -266,34 +260,27 @@ fn four(bytes: &[u8], at: usize) -> u32
 pub fn read(bytes: &[u8]) -> Arrival
     ensures { ReadAs result bytes.now }
 {
-    if bytes.len() == 0 {
+    let Some(&kind) = bytes.first() else {
         return Arrival::Bad;
-    }
-    let kind = bytes[0];
+    };
     if bytes.len() != len_of(kind) {
         return Arrival::Bad;
     }
     let run = four(bytes, RUN_AT);
     let number = four(bytes, NUMBER_AT);
-    if kind == Born::KIND {
-        return Arrival::Born(Born::new(run, number, bytes[TABLE_AT]));
-    }
-    if kind == Gone::KIND {
-        return Arrival::Gone(Gone::new(run, number, bytes[TABLE_AT]));
-    }
-    if kind == Column::KIND {
-        return Arrival::Column(Column::new(
+    match kind {
+        Born::KIND => Arrival::Born(Born::new(run, number, bytes[TABLE_AT])),
+        Gone::KIND => Arrival::Gone(Gone::new(run, number, bytes[TABLE_AT])),
+        Column::KIND => Arrival::Column(Column::new(
             run,
             number,
             bytes[TABLE_AT],
             bytes[COLUMN_AT],
             bytes[COUNT_AT],
-        ));
+        )),
+        End::KIND => Arrival::End(End::new(run, number)),
+        _ => Arrival::Mark(Mark::new(run, number)),
     }
-    if kind == End::KIND {
-        return Arrival::End(End::new(run, number));
-    }
-    Arrival::Mark(Mark::new(run, number))
 }
 
 // The atom that stands at a place.
@@ -311,24 +298,19 @@ pub fn atoms(bytes: &[u8]) -> Atoms
     requires { column_record_bytes ≤ length bytes.now }
     ensures { result ≡ atoms_in bytes.now }
 {
-    let a = atom_at(bytes, ATOMS_AT);
-    let b = atom_at(bytes, ATOMS_AT + SECOND);
-    let c = atom_at(bytes, ATOMS_AT + THIRD);
-    let d = atom_at(bytes, ATOMS_AT + FOURTH);
-    [a, b, c, d]
+    [
+        atom_at(bytes, ATOMS_AT),
+        atom_at(bytes, ATOMS_AT + SECOND),
+        atom_at(bytes, ATOMS_AT + THIRD),
+        atom_at(bytes, ATOMS_AT + FOURTH),
+    ]
 }
 
 // Whether the number that bytes stand for is 0.
 pub fn is_nil(id: &[u8]) -> bool
     ensures { result ≡ eqb (value id.now) 0 }
 {
-    let mut nil = true;
-    let mut i = 0;
-    while i < id.len() {
-        nil = nil & (id[i] == 0);
-        i += 1;
-    }
-    nil
+    id.iter().all(|b| *b == 0)
 }
 
 // Whether a schema of so many tables has the table, and the id is not all zero.
@@ -336,13 +318,11 @@ pub fn known(tables: usize, table: u8, id: &[u8]) -> bool
     requires { length id.now ≡ id_bytes }
     ensures { result ≡ known_in tables table (value id.now) }
 {
-    if tables <= table as usize {
-        return false;
-    }
-    !is_nil(id)
+    (table as usize) < tables && !is_nil(id)
 }
 
 // Whether a schema, given by each table's number of columns, has the record's table and column, and the id is not all zero.
+#[tactic(auto, using(crate::proofs::Listings::known_table), unfolding(crate::specs::Reading::arrival_record, crate::specs::Reading::listed_record, crate::specs::Reading::listed_in, crate::specs::Reading::Sized))]
 pub fn listed(arrival: Arrival, bytes: &[u8], counts: &[u8]) -> bool
     requires { Sized arrival (length bytes.now) }
     ensures { result ≡ listed_record counts.now (arrival_record arrival bytes.now) }
@@ -351,14 +331,10 @@ pub fn listed(arrival: Arrival, bytes: &[u8], counts: &[u8]) -> bool
         Arrival::Born(b) => known(counts.len(), b.table, &bytes[ID_AT..ROW_RECORD]),
         Arrival::Gone(g) => known(counts.len(), g.table, &bytes[ID_AT..ROW_RECORD]),
         Arrival::Column(c) => {
-            let table = c.table as usize;
-            if known(counts.len(), c.table, &bytes[ID_AT..ROW_RECORD]) {
-                return c.column < counts[table];
-            }
-            false
+            known(counts.len(), c.table, &bytes[ID_AT..ROW_RECORD])
+                && c.column < counts[c.table as usize]
         }
-        Arrival::End(_) => true,
-        Arrival::Mark(_) => true,
+        Arrival::End(_) | Arrival::Mark(_) => true,
         Arrival::Bad => false,
     }
 }

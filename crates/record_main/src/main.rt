@@ -7,6 +7,7 @@ ghost use Rattle.model.specs.Records.{encode, number_from};
 ghost use Rattle.record_main.specs.Reading.{new_row};
 
 use model::{ATOM, Atom};
+use programs::{put, put_hex};
 use record::{Born, Column, End};
 
 // The first commit of run 1: a new row of table 0 with one column, which has one element. Each record is lent the rest from where the last one ended.
@@ -22,34 +23,17 @@ fn write_commit(id: &[u8], atoms: &[Atom], out: &mut [u8])
     End::new(1, 3).write(&mut out[at..]);
 }
 
-// A hexadecimal digit.
-fn digit(n: u8) -> u8
-    requires { n < 16 }
-{
-    if n < 10 {
-        return b'0' + n;
-    }
-    b'a' + (n - 10)
-}
-
 // A line of bytes in hex.
 fn print(bytes: &[u8]) {
-    let mut i = 0;
-    while i < bytes.len() {
-        let b = bytes[i];
-        let pair = [digit(b / 16), digit(b % 16)];
-        io::write_all(1, &pair);
-        i += 1;
-    }
-    io::write_all(1, b"\n");
+    put_hex(bytes);
+    put(b"\n");
 }
 
 fn main() {
-    let id = [0, 0, 0, 0, 0, 0, 0, 0, 0, 0, 0, 0, 0, 0, 0, 1];
-    let name = [
-        4, b'p', b'H', b'-', b'1', 0, 0, 0, 0, 0, 0, 0, 0, 0, 0, 0, 0, 0, 0, 0, 0, 0, 0, 0, 0,
-    ];
-    let blank = [0u8; ATOM];
+    let id = 1u128.to_be_bytes();
+    let mut name = [0; ATOM];
+    name[..5].copy_from_slice(b"\x04pH-1");
+    let blank = [0; ATOM];
     let atoms = [name, blank, blank, blank];
     let mut out = [0u8; 163];
     write_commit(&id, &atoms, &mut out);

@@ -1,8 +1,8 @@
 -- What the columns of a row refer to, one column after another. Assumes nothing.
+use Rattle.std.specs.Prelude.{Option, Some, None}
 use mathlib.Core.Path.{◌≡◌, refl, sym, ap, ◌∙◌}
-use mathlib.Core.Bool.{Bool, true, false, ◌&&◌, ◌||◌}
+use mathlib.Core.Bool.{Bool, true, false, not, ◌&&◌, ◌||◌, beq}
 use mathlib.Core.List.{List, [], ◌∷◌, ◌++◌}
-use mathlib.Core.Option.{Option}
 use Prim.Native.Nat.{ℕ, zero, suc, ◌+◌, ◌≤◌, ◌<◌, min}
 use native.Mathlib.Numerals.{add-one}
 use native.Mathlib.Omega.{arith}
@@ -20,33 +20,41 @@ use Rattle.inner.specs.Working.{table_in, value_in}
 use Rattle.model.proofs.Tests.{split}
 use Rattle.inner.proofs.Working.{row_table}
 use Rattle.inner.proofs.Columns.{column_value_lem}
-use Rattle.references.specs.Links.{pick, target_table, refers_at}
+use Rattle.references.specs.Links.{pick, refers_at}
 use Rattle.catalog.specs.Accepted.{Accepted}
-use Rattle.references.specs.declared.Target.TheVariants.{Table, Nothing}
 use Rattle.references.proofs.Walks.{take_min}
 use Rattle.references.proofs.Packs.{columns_on}
 
 -- ── how a column refers, by its bytes ──
+together : (a b : Bool) → beq a b ≡ true → a ≡ b
+together true true e = refl
+together true false e = sym e
+together false true e = e
+together false false e = refl
+
+apart : (a b : Bool) → beq a b ≡ false → a ≡ not b
+apart true true e = e
+apart true false e = refl
+apart false true e = refl
+apart false false e = sym e
+
 module _ (how k t : ℕ) where
-  pub pick_plain : k ≡ 0 → target_table Nothing ≡ pick how (refers_from k t)
-  unfolding target_table pick refers_from
+  pub pick_plain : k ≡ 0 → None ≡ pick how (refers_from k t)
+  unfolding pick refers_from
   pick_plain e = split (eqb how 1) (λ b. rw (pick, b, e)) (λ b. rw (pick, b, e))
 
-  pub pick_strong : k ≡ 1 → how ≡ 1 → target_table (Table t) ≡ pick how (refers_from k t)
-  unfolding target_table pick refers_from
-  pick_strong e f = rw (e, f)
+  -- a reference of the kind that is asked for, and of the other
+  pub pick_some : (k ≡ 0 → ⊥) → beq (eqb k 1) (eqb how 1) ≡ true → (Some t) ≡ pick how (refers_from k t)
+  unfolding pick refers_from
+  pick_some g e = split (eqb how 1)
+      (λ b. rw (pick, refers_from, b, ne_eqb k 0 g, together (eqb k 1) (eqb how 1) e ∙ b))
+      (λ b. rw (pick, refers_from, b, ne_eqb k 0 g, together (eqb k 1) (eqb how 1) e ∙ b))
 
-  pub pick_not_weak : k ≡ 1 → (how ≡ 1 → ⊥) → target_table Nothing ≡ pick how (refers_from k t)
-  unfolding target_table pick refers_from
-  pick_not_weak e f = rw (pick, ne_eqb how 1 f, e)
-
-  pub pick_weak : (k ≡ 0 → ⊥) → (k ≡ 1 → ⊥) → (how ≡ 1 → ⊥) → target_table (Table t) ≡ pick how (refers_from k t)
-  unfolding target_table pick refers_from
-  pick_weak e g f = rw (pick, refers_from, ne_eqb how 1 f, ne_eqb k 0 e, ne_eqb k 1 g)
-
-  pub pick_not_strong : (k ≡ 0 → ⊥) → (k ≡ 1 → ⊥) → how ≡ 1 → target_table Nothing ≡ pick how (refers_from k t)
-  unfolding target_table pick refers_from
-  pick_not_strong e g f = rw (f, refers_from, ne_eqb k 0 e, ne_eqb k 1 g)
+  pub pick_other : (k ≡ 0 → ⊥) → beq (eqb k 1) (eqb how 1) ≡ false → None ≡ pick how (refers_from k t)
+  unfolding pick refers_from
+  pick_other g e = split (eqb how 1)
+      (λ b. rw (pick, refers_from, b, ne_eqb k 0 g, apart (eqb k 1) (eqb how 1) e ∙ ap not b))
+      (λ b. rw (pick, refers_from, b, ne_eqb k 0 g, apart (eqb k 1) (eqb how 1) e ∙ ap not b))
 
 -- ── the columns and the values of a row ──
 columns_length : (n : ℕ) (counts : List ℕ) (cells : List (List ℕ)) → length (columns_from n counts cells) ≡ n

@@ -1,7 +1,9 @@
 -- Tests over the first n elements of a list, one after another, with a way out at the first that decides. Assumes nothing.
+use Rattle.std.specs.Prelude.{Some}
 use mathlib.Core.Path.{◌≡◌, refl, sym, ap, ◌∙◌}
-use mathlib.Core.Bool.{Bool, true, false}
-use mathlib.Core.List.{List, [], ◌∷◌}
+use mathlib.Core.Bool.{Bool, true, false, ◌&&◌, ◌||◌}
+use mathlib.Core.List.{List, [], ◌∷◌, map}
+use Rattle.std.specs.List.{list_any, list_all}
 use Prim.Native.Nat.{ℕ, zero, suc, ◌+◌, ◌≤◌, ◌<◌, min}
 use native.Mathlib.Numerals.{add-one}
 use native.Mathlib.Omega.{arith}
@@ -9,7 +11,6 @@ use lib.Dec.{eqb}
 use lib.ListN.{length, get_or, take, drop, drop_of_length-le}
 use lib.Seq.{drop-cons, get_or-take, length-take-le}
 use borrow.Author.Tests.{eq-eqb, eqb-true}
-use mathlib.Core.Option.{some}
 use Rattle.model.specs.Base.{any, all}
 use Rattle.model.specs.Value.{uuid_of}
 use Rattle.model.specs.Commit.{keys_of}
@@ -29,15 +30,6 @@ module _ {A : Type 0} (d : A) (l : List A) (n i : ℕ) (h : n ≤ length l) wher
   first_end g = drop_of_length-le (take n l) {i = i} (omega (arith, length-take-le n l h))
 
   module _ (q : A → Bool) where
-    pub any_here : i < n → q (get_or l i d) ≡ true → any q (drop i (take n l)) ≡ true
-    any_here g e = rw (first_on g, e)
-
-    pub any_on : i < n → q (get_or l i d) ≡ false → any q (drop i (take n l)) ≡ any q (drop (i + 1) (take n l))
-    any_on g e = rw (first_on g, e)
-
-    pub any_end : n ≤ i → any q (drop i (take n l)) ≡ false
-    any_end g = rw (first_end g)
-
     pub all_here : i < n → q (get_or l i d) ≡ false → all q (drop i (take n l)) ≡ false
     all_here g e = rw (first_on g, e)
 
@@ -46,6 +38,20 @@ module _ {A : Type 0} (d : A) (l : List A) (n i : ℕ) (h : n ≤ length l) wher
 
     pub all_end : n ≤ i → all q (drop i (take n l)) ≡ true
     all_end g = rw (first_end g)
+
+-- ── what iterators say, in the model's words ──
+module _ {A : Type 0} (q : A → Bool) where
+  pub any_list : (l : List A) → list_any q l ≡ any q l
+  any_list [] = refl
+  any_list (a ∷ l) = ap (λ (b : Bool). q a || b) (any_list l)
+
+  pub all_list : (l : List A) → list_all q l ≡ all q l
+  all_list [] = refl
+  all_list (a ∷ l) = ap (λ (b : Bool). q a && b) (all_list l)
+
+-- of rows in cells, of the rows that these stand for
+pub all_rows : (s : Schema) (q : Row → Bool) (l : List (List (List ℕ))) → list_all (λ (r : List (List ℕ)). q (row_from s r)) l ≡ all q (map (row_from s) l)
+all_rows s q l = all_list (λ (r : List (List ℕ)). q (row_from s r)) l ∙ sym (all_map (row_from s) q (λ (r : List (List ℕ)). q (row_from s r)) (λ r. refl) l)
 
 -- ── working rows, one after another ──
 module _ (s : Schema) (cells : List (List (List ℕ))) (n : ℕ) (h : n ≤ length cells) (i : ℕ) (q : Row → Bool) where
@@ -57,15 +63,6 @@ module _ (s : Schema) (cells : List (List (List ℕ))) (n : ℕ) (h : n ≤ leng
 
   pub any_row_end : n ≤ i → any q (drop i (working s n cells)) ≡ false
   any_row_end g = rw (working_end s cells n h i g)
-
-  pub all_row_here : i < n → q (row_from s (get_or cells i [])) ≡ false → all q (drop i (working s n cells)) ≡ false
-  all_row_here g e = rw (working_on s cells n h i g, e)
-
-  pub all_row_on : i < n → q (row_from s (get_or cells i [])) ≡ true → all q (drop i (working s n cells)) ≡ all q (drop (i + 1) (working s n cells))
-  all_row_on g e = rw (working_on s cells n h i g, e)
-
-  pub all_row_end : n ≤ i → all q (drop i (working s n cells)) ≡ true
-  all_row_end g = rw (working_end s cells n h i g)
 
 -- as many elements as there are
 pub take_min : {A : Type 0} (n m : ℕ) (l : List A) → length l ≡ m → take n l ≡ take (min n m) l
@@ -83,8 +80,8 @@ take_min {A} n m l e = go n l m e
 eqb_sym : (m n : ℕ) → eqb m n ≡ eqb n m
 eqb_sym m n = split (eqb m n) (λ e. e ∙ sym (eq-eqb n m (sym (eqb-true m n e)))) (λ e. e ∙ sym (eqb_flip m n e))
 
-pub any_keys : (t k : ℕ) (l : List (List ℕ)) → any (eqb k) (keys_of (some t) l) ≡ any (λ (a : List ℕ). eqb (key_of t (uuid_of a)) k) l
+pub any_keys : (t k : ℕ) (l : List (List ℕ)) → any (eqb k) (keys_of (Some t) l) ≡ any (λ (a : List ℕ). eqb (key_of t (uuid_of a)) k) l
 any_keys t k l = any_map (λ (a : List ℕ). key_of t (uuid_of a)) (eqb k) (λ (a : List ℕ). eqb (key_of t (uuid_of a)) k) (λ a. eqb_sym k (key_of t (uuid_of a))) l
 
-pub all_keys : (t : ℕ) (q : ℕ → Bool) (l : List (List ℕ)) → all q (keys_of (some t) l) ≡ all (λ (a : List ℕ). q (key_of t (uuid_of a))) l
+pub all_keys : (t : ℕ) (q : ℕ → Bool) (l : List (List ℕ)) → all q (keys_of (Some t) l) ≡ all (λ (a : List ℕ). q (key_of t (uuid_of a))) l
 all_keys t q l = all_map (λ (a : List ℕ). key_of t (uuid_of a)) q (λ (a : List ℕ). q (key_of t (uuid_of a))) (λ a. refl) l

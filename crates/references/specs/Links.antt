@@ -1,21 +1,14 @@
 -- How columns refer, by the numbers that the code has for it. Assumes nothing: these are definitions.
-use Rattle.std.specs.Prelude.{ℕ, Bool, true, false, List, [], eqb, get_or}
-use Rattle.std.proofs.Math.Option.{Option, none, some}
+use Rattle.std.specs.Prelude.{ℕ, Bool, true, false, List, [], eqb, get_or, Option, Some, None}
 use Rattle.model.specs.Base.{all}
 use Rattle.model.specs.Schema.{Refers, Schema, columns_of}
 use Rattle.model.specs.Rows.{Row, has}
 use Rattle.model.specs.Commit.{strongly, weakly, targets}
 use Rattle.model.specs.Catalog.{column_place, column_from}
-use Rattle.references.specs.declared.Target.{Target}
-use Rattle.references.specs.declared.Target.TheVariants.{Table, Nothing}
 
 -- strong references (1) or weak ones
 unfoldable pub pick : ℕ → Refers → Option ℕ
 pick how r = elim (eqb how 1) [ true ↦ strongly r | false ↦ weakly r ]
-
-unfoldable pub target_table : Target → Option ℕ
-target_table (Table t) = some t
-target_table Nothing = none
 
 -- how column c of table t refers, in the cells of a schema
 unfoldable pub refers_at : List (List ℕ) → ℕ → ℕ → Refers

@@ -1,14 +1,14 @@
 -- Requests by their items. Assumes nothing.
+use Rattle.std.specs.Prelude.{Ok, Err}
+use Rattle.model.specs.declared.ReadError.{ReadError}
+use Rattle.std.specs.Prelude.{Option, Some, None}
 use mathlib.Core.Path.{◌≡◌, refl, sym, ap, ◌∙◌}
 use mathlib.Core.List.{List, [], ◌∷◌, map}
 use mathlib.Core.Bool.{Bool, true, false, ◌&&◌}
-use mathlib.Core.Option.{Option, none, some}
 use Prim.Native.Nat.{ℕ, suc, ◌≤◌, ◌<◌}
 use borrow.Author.Tests.{lt-leb, le-leb, leb-true}
 use lib.Dec.{leb}
 use lib.ListN.{length, length-map}
-use Rattle.model.specs.declared.Read.TheVariants.{End, Stop, Deep}
-use Rattle.model.specs.declared.Found.TheVariants.{At, Nothing}
 use Rattle.model.specs.Base.{all, is_some}
 use Rattle.model.specs.Limits.{most_request_bytes}
 use Rattle.model.specs.Scan.{Parsed}
@@ -65,7 +65,7 @@ module _ (l : List Json) where
   few_length h = leb-true (length l) 16 (and_l (leb (length l) 16) (all object l) h)
 
 -- ── the model's reading of a request, by the same tests ──
-object_in_lem : (j : Json) → object_in j ≡ elim (object j) [ true ↦ some (members_in j) | false ↦ none ]
+object_in_lem : (j : Json) → object_in j ≡ elim (object j) [ true ↦ Some (members_in j) | false ↦ None ]
 unfolding kind_of members_in
 object_in_lem null = refl
 object_in_lem (bool b) = refl
@@ -74,7 +74,7 @@ object_in_lem (str t) = refl
 object_in_lem (arr xs) = refl
 object_in_lem (obj ms) = refl
 
-string_in_lem : (j : Json) → string_in j ≡ elim (is_text (kind_of j)) [ true ↦ some (text_in j) | false ↦ none ]
+string_in_lem : (j : Json) → string_in j ≡ elim (is_text (kind_of j)) [ true ↦ Some (text_in j) | false ↦ None ]
 unfolding kind_of text_in
 string_in_lem null = refl
 string_in_lem (bool b) = refl
@@ -85,24 +85,24 @@ string_in_lem (obj ms) = refl
 
 -- the objects' members, where a test passes
 abbrev member_when : Bool → Json → Option (List Named)
-member_when b j = elim b [ true ↦ some (members_in j) | false ↦ none ]
+member_when b j = elim b [ true ↦ Some (members_in j) | false ↦ None ]
 
 abbrev members_when : Bool → List Json → Option (List (List Named))
-members_when true l = some (map members_in l)
-members_when false l = none
+members_when true l = Some (map members_in l)
+members_when false l = None
 
 abbrev joined : Option (List Named) → Option (List (List Named)) → Option (List (List Named))
-joined none o = none
-joined (some ms) o = elim o [ none ↦ none | some l ↦ some (ms ∷ l) ]
+joined None o = None
+joined (Some ms) o = elim o [ None ↦ None | Some l ↦ Some (ms ∷ l) ]
 
 joined_when : (a b : Bool) (j : Json) (js : List Json) → joined (member_when a j) (members_when b js) ≡ members_when (a && b) (j ∷ js)
 joined_when true true j js = refl
 joined_when true false j js = refl
 joined_when false b j js = refl
 
-joined_is : (o : Option (List Named)) (p : Option (List (List Named))) → elim o [ none ↦ none | some ms ↦ elim p [ none ↦ none | some l ↦ some (ms ∷ l) ] ] ≡ joined o p
-joined_is none p = refl
-joined_is (some ms) p = refl
+joined_is : (o : Option (List Named)) (p : Option (List (List Named))) → elim o [ None ↦ None | Some ms ↦ elim p [ None ↦ None | Some l ↦ Some (ms ∷ l) ] ] ≡ joined o p
+joined_is None p = refl
+joined_is (Some ms) p = refl
 
 objects_in_lem : (l : List Json) → objects_in l ≡ members_when (all object l) l
 objects_in_lem [] = refl
@@ -110,7 +110,7 @@ objects_in_lem (j ∷ js) =
     joined_is (object_in j) (objects_in js) ∙ (λ k. joined (object_in_lem j k) (objects_in_lem js k)) ∙ joined_when (object j) (all object js) j js
 
 -- what is not an array has no items, and is no request either
-tree_items : (j : Json) → elim (array_in j) [ none ↦ none | some l ↦ request_items l ] ≡ request_items (items_in j)
+tree_items : (j : Json) → elim (array_in j) [ None ↦ None | Some l ↦ request_items l ] ≡ request_items (items_in j)
 unfolding items_in
 tree_items null = refl
 tree_items (bool b) = refl
@@ -122,7 +122,7 @@ tree_items (obj ms) = refl
 tree_read : (q : Parsed Json) → is_read q.read ≡ true → request_tree q ≡ request_items (items_in q.tree)
 tree_read q e = rw (request_tree, e) (tree_items q.tree)
 
-tree_bad : (q : Parsed Json) → is_read q.read ≡ false → request_tree q ≡ none
+tree_bad : (q : Parsed Json) → is_read q.read ≡ false → request_tree q ≡ None
 tree_bad q e = rw (request_tree, e)
 
 -- a request is a string and at most 16 objects
@@ -130,17 +130,17 @@ abbrev request_of : Json → List Json → Request
 request_of j js = record { name = text_in j; operations = map members_in js }
 
 few_by : (w : List ℕ) (js : List Json) (b : Bool) → leb (length js) 16 ≡ b
-    → request_by (some w) (some (map members_in js)) ≡ elim b [ true ↦ some (record { name = w; operations = map members_in js }) | false ↦ none ]
+    → request_by (Some w) (Some (map members_in js)) ≡ elim b [ true ↦ Some (record { name = w; operations = map members_in js }) | false ↦ None ]
 few_by w js true h = rw (request_by, length-map js members_in, h)
 few_by w js false h = rw (request_by, length-map js members_in, h)
 
-items_fit : (j : Json) (js : List Json) → is_text (kind_of j) ≡ true → few_objects js ≡ true → request_items (j ∷ js) ≡ some (request_of j js)
+items_fit : (j : Json) (js : List Json) → is_text (kind_of j) ≡ true → few_objects js ≡ true → request_items (j ∷ js) ≡ Some (request_of j js)
 unfolding few_objects
 items_fit j js t f =
-    let e : request_items (j ∷ js) ≡ request_by (some (text_in j)) (members_when true js) = rw (string_in_lem j, t, objects_in_lem js, and_r (leb (length js) 16) (all object js) f) in
+    let e : request_items (j ∷ js) ≡ request_by (Some (text_in j)) (members_when true js) = rw (string_in_lem j, t, objects_in_lem js, and_r (leb (length js) 16) (all object js) f) in
     e ∙ few_by (text_in j) js true (and_l (leb (length js) 16) (all object js) f)
 
-items_unfit : (j : Json) (js : List Json) → (is_text (kind_of j) && few_objects js) ≡ false → request_items (j ∷ js) ≡ none
+items_unfit : (j : Json) (js : List Json) → (is_text (kind_of j) && few_objects js) ≡ false → request_items (j ∷ js) ≡ None
 unfolding few_objects
 items_unfit j js h =
     split (is_text (kind_of j))
@@ -156,9 +156,9 @@ items_unfit j js h =
 
 -- ── the value at the text's front ──
 module _ (s : List ℕ) where
-  pub parted_none : first_of s 91 93 0 ≡ Nothing → well_at s 0 ≡ true → (r : code.Request) → r.fits ≡ false → Parted s r
+  pub parted_none : first_of s 91 93 0 ≡ None → well_at s 0 ≡ true → (r : code.Request) → r.fits ≡ false → Parted s r
   parted_none e w r f =
-      let q : request_items (items_in (tree_at s 0)) ≡ none = ap request_items ((items_in_lem s 0 w).0 ∙ walk_end s e) in
+      let q : request_items (items_in (tree_at s 0)) ≡ None = ap request_items ((items_in_lem s 0 w).0 ∙ walk_end s e) in
       record {
         accepted = f ∙ sym (ap is_some q);
         request = λ h. absurd (clash r.fits h f);
@@ -168,7 +168,7 @@ module _ (s : List ℕ) where
         count = λ h. absurd (clash r.fits h f);
       }
 
-  pub parted_some : {a : ℕ} → first_of s 91 93 0 ≡ At a → well_at s 0 ≡ true → (r : code.Request) → r.name ≡ a → r.ops ≡ next_item s a
+  pub parted_some : {a : ℕ} → first_of s 91 93 0 ≡ Some a → well_at s 0 ≡ true → (r : code.Request) → r.name ≡ a → r.ops ≡ next_item s a
       → {k : Items} → Counted (items_from s (next_item s a)) k → r.fits ≡ (is_text (kind_of (tree_at s a)) && k.few) → r.count ≡ k.count → Parted s r
   unfolding operations_at
   parted_some {a} e w r n o {k} is said sized =
@@ -207,7 +207,7 @@ module _ (s : List ℕ) where
           count = p.count;
         }
 
-    refused_read : r.fits ≡ false → read_request s ≡ none → RequestRead s ends r
+    refused_read : r.fits ≡ false → read_request s ≡ None → RequestRead s ends r
     refused_read f q =
         record {
           accepted = f ∙ sym (ap is_some q);
@@ -228,22 +228,18 @@ module _ (s : List ℕ) where
     unfolding read_request
     read_bad f e = refused_read f (bad (leb (length s) 8192) refl)
       where
-        bad : (b : Bool) → leb (length s) 8192 ≡ b → read_request s ≡ none
+        bad : (b : Bool) → leb (length s) 8192 ≡ b → read_request s ≡ None
         bad true h = rw (read_request, h) (tree_bad (text_at s) e)
         bad false h = rw (read_request, h)
 
-    pub read_stop : r.fits ≡ false → {e : ℕ} → (text_at s).read ≡ Stop e → RequestRead s ends r
+    pub read_stopped : r.fits ≡ false → {e : ReadError} → (text_at s).read ≡ Err e → RequestRead s ends r
     unfolding is_read
-    read_stop f q = read_bad f (ap is_read q)
+    read_stopped f q = read_bad f (ap is_read q)
 
-    pub read_deep : r.fits ≡ false → {e : ℕ} → (text_at s).read ≡ Deep e → RequestRead s ends r
-    unfolding is_read
-    read_deep f q = read_bad f (ap is_read q)
-
-    pub read_end : length s ≤ most_request_bytes → {e : ℕ} → (text_at s).read ≡ End e → Says s ends → Parted s r → RequestRead s ends r
+    pub read_end : length s ≤ most_request_bytes → {e : ℕ} → (text_at s).read ≡ Ok e → Says s ends → Parted s r → RequestRead s ends r
     unfolding is_read
     read_end l q y p = read_whole l (ap is_read q) y p
 
-  pub well_end : {e : ℕ} → (text_at s).read ≡ End e → well_at s 0 ≡ true
+  pub well_end : {e : ℕ} → (text_at s).read ≡ Ok e → well_at s 0 ≡ true
   unfolding is_read
   well_end q = (text_well s (ap is_read q)).0

@@ -5,14 +5,14 @@ ghost use Rattle.std.specs.Prelude.{◌≡◌, true, false};
 ghost use Rattle.inner.specs.Positions.{Says, well_at, items_from, items_fine};
 ghost use Rattle.request.specs.Reading.{Counted, Parted, RequestRead};
 
-use model::{Found, Kind, OPERATIONS, REQUEST_TEXT, Read};
+use model::{Kind, OPERATIONS, REQUEST_TEXT};
 
 // Whether a text is a request, where the database's name stands in it, where its operations begin, and how many they are.
 #[derive(Clone, Copy)]
 pub struct Request {
     pub fits: bool,
     pub name: usize,
-    pub ops: Found,
+    pub ops: Option<usize>,
     pub count: usize,
 }
 
@@ -34,35 +34,29 @@ fn no_items() -> Items
 }
 
 // What the items from f on are as objects.
-fn few_objects(text: &[u8], ends: &[u16], f: Found) -> Items
+fn few_objects(text: &[u8], ends: &[u16], f: Option<usize>) -> Items
     requires says { Says text.now ends.now }
     requires f_value { items_fine text.now f ≡ true }
     ensures { Counted (items_from text.now f) result }
 {
     let mut n: usize = 0;
     let mut g = f;
-    loop {
-        match g {
-            Found::At(p) => {
-                if OPERATIONS <= n {
-                    return no_items();
-                }
-                let k = nav::kind_at(text, p);
-                let o = leaf::is_kind(k, Kind::Object);
-                if o {
-                    n += 1;
-                    g = nav::next_item(text, ends, p);
-                } else {
-                    return no_items();
-                }
-            }
-            Found::Nothing => {
-                return Items {
-                    few: true,
-                    count: n,
-                };
-            }
+    while let Some(p) = g {
+        if OPERATIONS <= n {
+            return no_items();
         }
+        let k = nav::kind_at(text, p);
+        let o = leaf::is_kind(k, Kind::Object);
+        if o {
+            n += 1;
+            g = nav::next_item(text, ends, p);
+        } else {
+            return no_items();
+        }
+    }
+    Items {
+        few: true,
+        count: n,
     }
 }
 
@@ -73,7 +67,7 @@ fn refused() -> Request
     Request {
         fits: false,
         name: 0,
-        ops: Found::Nothing,
+        ops: None,
         count: 0,
     }
 }
@@ -85,7 +79,7 @@ fn parts(text: &[u8], ends: &[u16]) -> Request
     ensures { Parted text.now result }
 {
     let f = nav::first(text, 0, b'[', b']');
-    let Found::At(a) = f else {
+    let Some(a) = f else {
         return refused();
     };
     let k = nav::kind_at(text, a);
@@ -109,8 +103,7 @@ pub fn read(text: &[u8], ends: &mut [u16]) -> Request
     }
     let d = json_reader::document(text, ends);
     match d {
-        Read::End(_) => parts(text, ends),
-        Read::Stop(_) => refused(),
-        Read::Deep(_) => refused(),
+        Ok(_) => parts(text, ends),
+        Err(_) => refused(),
     }
 }

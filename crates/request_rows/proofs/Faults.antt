@@ -1,31 +1,25 @@
 -- How a row as written is judged: a member found, one column, all columns, names. Assumes nothing.
+use Rattle.std.specs.Prelude.{Option, Some, None}
 use mathlib.Core.Path.{◌≡◌, refl, sym, ap, subst, ◌∙◌}
 use mathlib.Core.Bool.{Bool, true, false, ◌&&◌}
 use mathlib.Core.List.{List, [], ◌∷◌, map}
-use mathlib.Core.Option.{Option, none, some}
 use Prim.Native.Nat.{ℕ, ◌+◌, ◌≤◌, ◌<◌}
 use native.Mathlib.Numerals.{add-one}
-use lib.Dec.{eqb}
 use lib.ListN.{length, get_or, drop, drop_of_length-le}
 use lib.Seq.{drop-cons}
 use Rattle.model.specs.declared.Fault.{Fault}
 use Rattle.model.specs.declared.Fault.TheVariants.{Fine, Syntax, Resources, Duplicate, Constraint, Domain, Range, Aborted, Integrity}
-use Rattle.model.specs.declared.Found.{Found}
-use Rattle.model.specs.declared.Found.TheVariants.{At, Nothing}
-use Rattle.std.specs.Prelude.{if◌then◌else◌}
 use Rattle.model.specs.Base.{is_some}
 use Rattle.model.specs.Json.{Json, Named, member_at, value_at}
 use Rattle.inner.specs.Positions.{tree_at, well_at, first_of, next_member, members_from, members_fine}
 use Rattle.model.specs.Members.{members_in, has_member, member_value as last_of}
 use Rattle.inner.specs.Positions.{Means}
 use Rattle.model.specs.Schema.{Column, column_named}
-use Rattle.model.specs.Value.{blank, elements, value_of, atom_in_limits, all_in_limits}
 use Rattle.model.specs.Faults.{earlier, check}
 use Rattle.model.specs.Written.{Names, member_named, row_fault, written}
-use Rattle.model.specs.Operations.{known_names, column_written, columns_written, default_fault}
+use Rattle.model.specs.Operations.{known_names, column_written, columns_written}
 use Rattle.model.specs.Catalog.{column_from}
 use Rattle.nav.proofs.Walk.{members_in_lem, pass_end, pass_rest, pass_fine, pass_name}
-use Rattle.catalog.specs.Entries.{found_at}
 use Rattle.conditions.specs.Lookup.{column_in}
 use Rattle.uuids.specs.Named.{names_at}
 use Rattle.model.proofs.FaultLaws.{earlier_first, earlier_last, earlier_assoc}
@@ -42,46 +36,30 @@ earlier_syntax Range = refl
 earlier_syntax Aborted = refl
 earlier_syntax Integrity = refl
 
--- ── the default of a column ──
-all_one : (b : Bool) → (b && true) ≡ b
-all_one true = refl
-all_one false = refl
-
-module _ (c : Column) where
-  default_by : {b : Bool} → eqb c.min 0 ≡ b → default_fault c ≡ check (all_in_limits c (elements (value_of (if b then [] else blank ∷ [])))) Constraint Fine
-  default_by e = ap (λ (b : Bool). check (all_in_limits c (elements (value_of (if b then [] else blank ∷ [])))) Constraint Fine) e
-
-  -- none where min is 0
-  pub default_none : eqb c.min 0 ≡ true → Fine ≡ default_fault c
-  default_none e = sym (default_by e)
-
-  pub default_one : eqb c.min 0 ≡ false → {b : Bool} → b ≡ atom_in_limits c c.base blank → check b Constraint Fine ≡ default_fault c
-  default_one e {b} h = ap (λ (x : Bool). check x Constraint Fine) (h ∙ sym (all_one (atom_in_limits c c.base blank))) ∙ sym (default_by e)
-
 -- ── a member by the name of a column ──
 module _ (s : List ℕ) (ms : List Named) where
-  pub find_there : {w v : List ℕ} {f : Found} {p : ℕ} → Means s f (has_member w ms) (last_of w ms) → w ≡ v → f ≡ At p → (member_named v ms ≡ some (tree_at s p)) × (well_at s p ≡ true)
+  pub find_there : {w v : List ℕ} {f : Option ℕ} {p : ℕ} → Means s f (has_member w ms) (last_of w ms) → w ≡ v → f ≡ Some p → (member_named v ms ≡ Some (tree_at s p)) × (well_at s p ≡ true)
   unfolding Means
   find_there {w} {v} {f} {p} m e g =
       let n = subst (λ y. Means s f (has_member y ms) (last_of y ms)) e m in
       let k = subst (λ x. Means s x (has_member v ms) (last_of v ms)) g n in
-      (ap (λ (b : Bool). elim b [ true ↦ some (last_of v ms) | false ↦ none ]) k.0 ∙ ap some k.1, k.2)
+      (ap (λ (b : Bool). elim b [ true ↦ Some (last_of v ms) | false ↦ None ]) k.0 ∙ ap Some k.1, k.2)
 
-  pub find_missing : {w v : List ℕ} {f : Found} → Means s f (has_member w ms) (last_of w ms) → w ≡ v → f ≡ Nothing → member_named v ms ≡ none
+  pub find_missing : {w v : List ℕ} {f : Option ℕ} → Means s f (has_member w ms) (last_of w ms) → w ≡ v → f ≡ None → member_named v ms ≡ None
   unfolding Means
   find_missing {w} {v} {f} m e g =
       let n = subst (λ y. Means s f (has_member y ms) (last_of y ms)) e m in
       let k : has_member v ms ≡ false = subst (λ x. Means s x (has_member v ms) (last_of v ms)) g n in
-      ap (λ (b : Bool). elim b [ true ↦ some (last_of v ms) | false ↦ none ]) k
+      ap (λ (b : Bool). elim b [ true ↦ Some (last_of v ms) | false ↦ None ]) k
 
 -- ── one column, and all ──
 module _ (insert : Bool) (names : Names) (ms : List Named) where
   module _ (c : Column) where
-    pub fault_named : {j : Json} → member_named c.name ms ≡ some j → {v w r : Fault} → v ≡ (written names c.base (row_fault c) j).fault → w ≡ named_by insert c → r ≡ earlier v w → r ≡ fault_of insert names c ms
+    pub fault_named : {j : Json} → member_named c.name ms ≡ Some j → {v w r : Fault} → v ≡ (written names c.base (row_fault c) j).fault → w ≡ named_by insert c → r ≡ earlier v w → r ≡ fault_of insert names c ms
     unfolding fault_of
     fault_named {j} e {v} {w} {r} a b d = d ∙ (λ i. earlier (a i) (b i)) ∙ sym (ap (λ (o : Option Json). (column_written names (absent_by insert) (named_by insert) c o).fault) e)
 
-    pub fault_absent : member_named c.name ms ≡ none → {r : Fault} → r ≡ absent_by insert c → r ≡ fault_of insert names c ms
+    pub fault_absent : member_named c.name ms ≡ None → {r : Fault} → r ≡ absent_by insert c → r ≡ fault_of insert names c ms
     unfolding fault_of
     fault_absent e a = a ∙ sym (ap (λ (o : Option Json). (column_written names (absent_by insert) (named_by insert) c o).fault) e)
 
@@ -104,44 +82,42 @@ module _ (insert : Bool) (names : Names) (ms : List Named) where
         ∙ ap (λ (x : Fault). earlier f (earlier x rest)) (sym eg) ∙ earlier_assoc f g rest ∙ ap (λ (x : Fault). earlier x rest) (sym er)
 
 -- ── names ──
-found_some : (o : Option ℕ) (k : ℕ) → found_at o ≡ At k → is_some o ≡ true
-unfolding found_at
-found_some none k e = cc
-found_some (some i) k e = refl
+found_some : (o : Option ℕ) (k : ℕ) → o ≡ Some k → is_some o ≡ true
+found_some None k e = cc
+found_some (Some i) k e = refl
 
-found_none : (o : Option ℕ) → found_at o ≡ Nothing → is_some o ≡ false
-unfolding found_at
-found_none none e = refl
-found_none (some i) e = cc
+found_none : (o : Option ℕ) → o ≡ None → is_some o ≡ false
+found_none None e = refl
+found_none (Some i) e = cc
 
 module _ (s : List ℕ) (cs : List Column) where
   -- what the walk knows at the place g
-  pub record Knows (all : List Named) (g : Found) : Type 0 where
+  pub record Knows (all : List Named) (g : Option ℕ) : Type 0 where
     pub rest : known_names cs all ≡ known_names cs (members_from s g)
     pub fine : members_fine s g ≡ true
 
-  pub knows_start : (at : ℕ) → well_at s at ≡ true → {g : Found} → g ≡ first_of s 123 125 at → Knows (members_in (tree_at s at)) g
+  pub knows_start : (at : ℕ) → well_at s at ≡ true → {g : Option ℕ} → g ≡ first_of s 123 125 at → Knows (members_in (tree_at s at)) g
   knows_start at h {g} e =
       let q = members_in_lem s at h in
       record { rest = ap (known_names cs) (q.0 ∙ ap (members_from s) (sym e)); fine = rw e q.1 }
 
-  module _ {all : List Named} {g : Found} (so : Knows all g) where
-    pub knows_end : g ≡ Nothing → true ≡ known_names cs all
+  module _ {all : List Named} {g : Option ℕ} (so : Knows all g) where
+    pub knows_end : g ≡ None → true ≡ known_names cs all
     knows_end e = sym (so.rest ∙ ap (known_names cs) (pass_end s e))
 
-    module _ {p : ℕ} (h : g ≡ At p) {r : Found} (t : r ≡ found_at (column_in cs (tree_at s p))) where
-      named : found_at (column_named cs (member_at (value_at 12 s) s p).tree.name) ≡ r
-      named = sym (t ∙ ap (λ j. found_at (column_in cs j)) (pass_name s h so.fine))
+    module _ {p : ℕ} (h : g ≡ Some p) {r : Option ℕ} (t : r ≡ (column_in cs (tree_at s p))) where
+      named : (column_named cs (member_at (value_at 12 s) s p).tree.name) ≡ r
+      named = sym (t ∙ ap (λ j. (column_in cs j)) (pass_name s h so.fine))
 
       here : {b : Bool} → is_some (column_named cs (member_at (value_at 12 s) s p).tree.name) ≡ b → known_names cs all ≡ (b && known_names cs (members_from s (next_member s p)))
       here e = so.rest ∙ ap (known_names cs) (pass_rest s h) ∙ ap (λ (b : Bool). b && known_names cs (members_from s (next_member s p))) e
 
-      pub knows_not : r ≡ Nothing → false ≡ known_names cs all
+      pub knows_not : r ≡ None → false ≡ known_names cs all
       knows_not e = sym (here (found_none (column_named cs (member_at (value_at 12 s) s p).tree.name) (named ∙ e)))
 
-      pub knows_on : {k : ℕ} {n : Found} → r ≡ At k → n ≡ next_member s p → Knows all n
+      pub knows_on : {k : ℕ} {n : Option ℕ} → r ≡ Some k → n ≡ next_member s p → Knows all n
       knows_on {k} {n} e en = record {
-        rest = here (found_some (column_named cs (member_at (value_at 12 s) s p).tree.name) k (named ∙ e)) ∙ ap (λ (f : Found). known_names cs (members_from s f)) (sym en);
+        rest = here (found_some (column_named cs (member_at (value_at 12 s) s p).tree.name) k (named ∙ e)) ∙ ap (λ (f : Option ℕ). known_names cs (members_from s f)) (sym en);
         fine = rw en (pass_fine s h so.fine);
       }
 

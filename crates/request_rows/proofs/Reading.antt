@@ -1,8 +1,8 @@
 -- A row as written read into a row and its flags: one column, then one after another, then the row. Assumes nothing.
+use Rattle.std.specs.Prelude.{Option, Some, None}
 use mathlib.Core.Path.{◌≡◌, refl, sym, ap, subst, ◌∙◌}
 use mathlib.Core.Bool.{Bool, true, false}
 use mathlib.Core.List.{List, [], map}
-use mathlib.Core.Option.{Option, none, some}
 use Prim.Native.Nat.{ℕ, ◌+◌, ◌≤◌, ◌<◌}
 use native.Mathlib.Omega.{arith}
 use borrow.Author.Tests.{ltb-true, ltb-false}
@@ -34,7 +34,7 @@ use Rattle.request_rows.proofs.Rows.{column_set, column_kept, Assigning, assigni
 
 -- ── one column ──
 module _ (insert : Bool) (names : Names) (ms : List Named) (column : Column) (c : ℕ) (entry : List (List ℕ)) where
-  pub read_absent : member_named column.name ms ≡ none → {r : Fault} → r ≡ absent_by insert column → ColumnRead insert names ms column c r false entry entry
+  pub read_absent : member_named column.name ms ≡ None → {r : Fault} → r ≡ absent_by insert column → ColumnRead insert names ms column c r false entry entry
   read_absent e f =
       let n = value_missing names ms column e in
       record {
@@ -44,7 +44,7 @@ module _ (insert : Bool) (names : Names) (ms : List Named) (column : Column) (c 
         before = λ h d l. refl;
       }
 
-  module _ {j : Json} (e : member_named column.name ms ≡ some j) {v w r : Fault} (n : ℕ) (fits : Bool) (atoms exit : List (List ℕ)) (g : RowGiven names column j v n fits atoms)
+  module _ {j : Json} (e : member_named column.name ms ≡ Some j) {v w r : Fault} (n : ℕ) (fits : Bool) (atoms exit : List (List ℕ)) (g : RowGiven names column j v n fits atoms)
       (b : w ≡ named_by insert column) (d : r ≡ earlier v w) (p : Puts fits c (record { count = n; atoms = atoms }) entry exit) where
     fine : is_fine r ≡ true → is_fine (value_written names column j).fault ≡ true
     fine h = ap is_fine (sym g.fault) ∙ (earlier_fine v w (ap is_fine (sym d) ∙ h)).0
@@ -56,15 +56,15 @@ module _ (insert : Bool) (names : Names) (ms : List Named) (column : Column) (c 
     read_there = record {
       fault = fault_named insert names ms column e g.fault b d;
       assigned = λ h. column_set c entry (put h).column (sym (g.got (fine h))) (value_there names ms column e);
-      there = λ h. value_there names ms column e ∙ ap some (g.got (fine h) ∙ sym (put h).there);
+      there = λ h. value_there names ms column e ∙ ap Some (g.got (fine h) ∙ sym (put h).there);
       before = λ h. (put h).before;
     }
 
 -- ── one column after another ──
-module _ (os : List (Option Value)) (c : ℕ) (row next : List (List ℕ)) (given : List Bool) (g : Bool) (l : c < length given) (e : get_or os c none ≡ flagged g c next)
+module _ (os : List (Option Value)) (c : ℕ) (row next : List (List ℕ)) (given : List Bool) (g : Bool) (l : c < length given) (e : get_or os c None ≡ flagged g c next)
     (b : (d : ℕ) → d < c → value_in d next ≡ value_in d row) (t : TemplateTo c os row given) where
   abbrev Says : ℕ → Type 0
-  Says d = get_or os d none ≡ flagged (get_or (set given c g) d false) d next
+  Says d = get_or os d None ≡ flagged (get_or (set given c g) d false) d next
 
   before_on : (d : ℕ) → d < c → Says d
   unfolding TemplateTo
@@ -73,7 +73,7 @@ module _ (os : List (Option Value)) (c : ℕ) (row next : List (List ℕ)) (give
       ∙ flagged_as (get_or (set given c g) d false) (sym (b d h))
     where
       flagged_as : (x : Bool) → value_in d row ≡ value_in d next → flagged x d row ≡ flagged x d next
-      flagged_as true f = ap some f
+      flagged_as true f = ap Some f
       flagged_as false f = refl
 
   here_on : Says c
@@ -147,13 +147,13 @@ module _ (insert : Bool) (text : List ℕ) (names : List ℕ) (columns : List (L
 
 -- ── a row and its flags put over another ──
 module _ (os : List (Option Value)) (c : ℕ) (h : c < length os) (row to : List (List ℕ)) (given : List Bool) (t : Template os row given) where
-  flag_here : {b : Bool} → get_or given c false ≡ b → get_or os c none ≡ flagged b c row
+  flag_here : {b : Bool} → get_or given c false ≡ b → get_or os c None ≡ flagged b c row
   unfolding TemplateTo
   flag_here e = t c h ∙ ap (λ (b : Bool). flagged b c row) e
 
   pub put_flagged : {n : ℕ} {atoms next : List (List ℕ)} → get_or given c false ≡ true → n ≡ (value_in c row).count → atoms ≡ (value_in c row).atoms → ColumnSet c (record { count = n; atoms = atoms }) to next
-      → ColumnAssigned c (get_or os c none) to next
+      → ColumnAssigned c (get_or os c None) to next
   put_flagged g e f s = column_set c to s (λ i. record { count = e i; atoms = f i }) (flag_here g)
 
-  pub put_unflagged : get_or given c false ≡ false → ColumnAssigned c (get_or os c none) to to
+  pub put_unflagged : get_or given c false ≡ false → ColumnAssigned c (get_or os c None) to to
   put_unflagged g = column_kept c to (flag_here g)

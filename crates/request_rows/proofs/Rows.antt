@@ -1,8 +1,8 @@
 -- What is written put into rows: one column, all columns, a new row, the rows that meet conditions. Assumes nothing.
+use Rattle.std.specs.Prelude.{Option, Some, None}
 use mathlib.Core.Path.{◌≡◌, refl, sym, ap, ◌∙◌}
 use mathlib.Core.Bool.{Bool, true}
 use mathlib.Core.List.{List, [], ◌∷◌, map}
-use mathlib.Core.Option.{Option, none, some}
 use Prim.Native.Nat.{ℕ, zero, suc, ◌+◌, ◌^◌, ◌≤◌, ◌<◌}
 use native.Mathlib.Numerals.{add-one}
 use native.Mathlib.Omega.{arith}
@@ -25,46 +25,46 @@ use Rattle.request_rows.proofs.Values.{got_length}
 
 -- ── one column ──
 module _ (c : ℕ) (entry : List (List ℕ)) where
-  pub column_set : {exit : List (List ℕ)} {v w : Value} {o : Option Value} → ColumnSet c v entry exit → v ≡ w → o ≡ some w → ColumnAssigned c o entry exit
+  pub column_set : {exit : List (List ℕ)} {v w : Value} {o : Option Value} → ColumnSet c v entry exit → v ≡ w → o ≡ Some w → ColumnAssigned c o entry exit
   unfolding put_column
   column_set t e f = record {
     row = λ s. t.row s ∙ ap (λ (x : Value). set_column c x (row_from s entry)) e ∙ sym (ap (λ (x : Option Value). put_column c x (row_from s entry)) f);
     tidy = t.tidy;
   }
 
-  pub column_kept : {o : Option Value} → o ≡ none → ColumnAssigned c o entry entry
+  pub column_kept : {o : Option Value} → o ≡ None → ColumnAssigned c o entry entry
   unfolding put_column
   column_kept f = record { row = λ s. sym (ap (λ (x : Option Value). put_column c x (row_from s entry)) f); tidy = λ s h g t. t }
 
 -- ── one column after another ──
 put_at : ℕ → Option Value → List Value → List Value
-put_at c none l = l
-put_at c (some v) l = set l c v
+put_at c None l = l
+put_at c (Some v) l = set l c v
 
 put_empty : (c : ℕ) (o : Option Value) → put_at c o [] ≡ []
 unfolding put_at
-put_empty c none = refl
-put_empty c (some v) = refl
+put_empty c None = refl
+put_empty c (Some v) = refl
 
 put_cons : (c : ℕ) (o : Option Value) (v : Value) (l : List Value) → put_at (suc c) o (v ∷ l) ≡ v ∷ put_at c o l
 unfolding put_at
-put_cons c none v l = refl
-put_cons c (some w) v l = refl
+put_cons c None v l = refl
+put_cons c (Some w) v l = refl
 
-assigned_on : (os : List (Option Value)) (vs : List Value) (c : ℕ) → c < length os → put_at c (get_or os c none) (assigned (take c os) vs) ≡ assigned (take (suc c) os) vs
+assigned_on : (os : List (Option Value)) (vs : List Value) (c : ℕ) → c < length os → put_at c (get_or os c None) (assigned (take c os) vs) ≡ assigned (take (suc c) os) vs
 unfolding put_at
 assigned_on [] vs c h = absurd (omega arith)
 assigned_on (o ∷ os) [] zero h = put_empty 0 o
-assigned_on (none ∷ os) (v ∷ vs) zero h = refl
-assigned_on (some w ∷ os) (v ∷ vs) zero h = refl
-assigned_on (o ∷ os) [] (suc c) h = put_empty (suc c) (get_or os c none)
-assigned_on (none ∷ os) (v ∷ vs) (suc c) h = put_cons c (get_or os c none) v (assigned (take c os) vs) ∙ ap (λ (l : List Value). v ∷ l) (assigned_on os vs c (omega arith))
-assigned_on (some w ∷ os) (v ∷ vs) (suc c) h = put_cons c (get_or os c none) w (assigned (take c os) vs) ∙ ap (λ (l : List Value). w ∷ l) (assigned_on os vs c (omega arith))
+assigned_on (None ∷ os) (v ∷ vs) zero h = refl
+assigned_on (Some w ∷ os) (v ∷ vs) zero h = refl
+assigned_on (o ∷ os) [] (suc c) h = put_empty (suc c) (get_or os c None)
+assigned_on (None ∷ os) (v ∷ vs) (suc c) h = put_cons c (get_or os c None) v (assigned (take c os) vs) ∙ ap (λ (l : List Value). v ∷ l) (assigned_on os vs c (omega arith))
+assigned_on (Some w ∷ os) (v ∷ vs) (suc c) h = put_cons c (get_or os c None) w (assigned (take c os) vs) ∙ ap (λ (l : List Value). w ∷ l) (assigned_on os vs c (omega arith))
 
 put_row : (c : ℕ) (o : Option Value) (xs : List (Option Value)) (r : Row) → put_column c o (put_columns xs r) ≡ record { table = r.table; id = r.id; columns = put_at c o (assigned xs r.columns) }
 unfolding put_column put_at
-put_row c none xs r = refl
-put_row c (some v) xs r = refl
+put_row c None xs r = refl
+put_row c (Some v) xs r = refl
 
 module _ (os : List (Option Value)) (entry : List (List ℕ)) where
   -- the columns before c are done
@@ -78,7 +78,7 @@ module _ (os : List (Option Value)) (entry : List (List ℕ)) where
   pub assigning_end : (c : ℕ) (row : List (List ℕ)) → length os ≤ c → Assigning c row → RowAssigned os entry row
   assigning_end c row h w = record { row = λ s. w.row_is s ∙ ap (λ (l : List (Option Value)). put_columns l (row_from s entry)) (take_all c os h); tidy = w.tidy }
 
-  pub assigning_on : (c : ℕ) {o : Option Value} {row next : List (List ℕ)} → c < length os → length os ≤ 6 → get_or os c none ≡ o → ColumnAssigned c o row next → Assigning c row → Assigning (c + 1) next
+  pub assigning_on : (c : ℕ) {o : Option Value} {row next : List (List ℕ)} → c < length os → length os ≤ 6 → get_or os c None ≡ o → ColumnAssigned c o row next → Assigning c row → Assigning (c + 1) next
   assigning_on c {o} {row} {next} h few e k w = record {
     row_is = λ s.
         k.row s ∙ ap (put_column c o) (w.row_is s) ∙ put_row c o (take c os) (row_from s entry)

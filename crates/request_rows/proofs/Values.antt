@@ -1,8 +1,8 @@
 -- The values of a row as written: what is got of it, of all columns and of one. Assumes nothing.
+use Rattle.std.specs.Prelude.{Option, Some, None}
 use mathlib.Core.Path.{◌≡◌, refl, ap, ◌∙◌}
 use mathlib.Core.Bool.{Bool}
 use mathlib.Core.List.{List, [], ◌∷◌, map}
-use mathlib.Core.Option.{Option, none, some}
 use Prim.Native.Nat.{ℕ, zero, suc, ◌<◌}
 use native.Mathlib.Omega.{arith}
 use lib.ListN.{length, get_or, length-map, get_or-map}
@@ -18,9 +18,9 @@ use Rattle.uuids.specs.Named.{names_at}
 use Rattle.request_rows.specs.Assigned.{absent_by, named_by, written_row, value_for, values_for}
 
 module _ (names : Names) (ms : List Named) (absent named : Column → Fault) where
-  got_one : (c : Column) (o : Option Json) → (column_written names absent named c o).got ≡ elim o [ none ↦ none | some j ↦ some (value_written names c j).got ]
-  got_one c none = refl
-  got_one c (some j) = refl
+  got_one : (c : Column) (o : Option Json) → (column_written names absent named c o).got ≡ elim o [ None ↦ None | Some j ↦ Some (value_written names c j).got ]
+  got_one c None = refl
+  got_one c (Some j) = refl
 
   got_all : (cs : List Column) → (columns_written names absent named cs ms).got ≡ values_for names ms cs
   unfolding values_for value_for
@@ -39,14 +39,14 @@ module _ (insert : Bool) (text : List ℕ) (names : List ℕ) (columns : List (L
 
 -- ── one column ──
 module _ (names : Names) (ms : List Named) (c : Column) where
-  pub value_missing : member_named c.name ms ≡ none → value_for names ms c ≡ none
+  pub value_missing : member_named c.name ms ≡ None → value_for names ms c ≡ None
   unfolding value_for
-  value_missing e = ap (λ (o : Option Json). elim o [ none ↦ none | some j ↦ some (value_written names c j).got ]) e
+  value_missing e = ap (λ (o : Option Json). elim o [ None ↦ None | Some j ↦ Some (value_written names c j).got ]) e
 
-  module _ {j : Json} (e : member_named c.name ms ≡ some j) where
-    pub value_there : value_for names ms c ≡ some (value_written names c j).got
+  module _ {j : Json} (e : member_named c.name ms ≡ Some j) where
+    pub value_there : value_for names ms c ≡ Some (value_written names c j).got
     unfolding value_for
-    value_there = ap (λ (o : Option Json). elim o [ none ↦ none | some j ↦ some (value_written names c j).got ]) e
+    value_there = ap (λ (o : Option Json). elim o [ None ↦ None | Some j ↦ Some (value_written names c j).got ]) e
 
 -- ── the columns by their cells ──
 at_map : {A B : Type 0} (f : A → B) (l : List A) (i : ℕ) (a : A) (b : B) → i < length l → get_or (map f l) i b ≡ f (get_or l i a)
@@ -60,6 +60,6 @@ module _ (names : Names) (ms : List Named) (cells : List (List ℕ)) where
   values_length = length-map (map column_from cells) (value_for names ms) ∙ length-map cells column_from
 
   module _ (c : ℕ) (h : c < length cells) where
-    pub values_at : get_or (values_for names ms (map column_from cells)) c none ≡ value_for names ms (column_from (get_or cells c []))
+    pub values_at : get_or (values_for names ms (map column_from cells)) c None ≡ value_for names ms (column_from (get_or cells c []))
     unfolding values_for
-    values_at = at_map (value_for names ms) (map column_from cells) c (column_from []) none (omega (arith, length-map cells column_from)) ∙ ap (value_for names ms) (get_or-map column_from cells c [])
+    values_at = at_map (value_for names ms) (map column_from cells) c (column_from []) None (omega (arith, length-map cells column_from)) ∙ ap (value_for names ms) (get_or-map column_from cells c [])

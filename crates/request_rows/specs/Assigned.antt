@@ -1,6 +1,5 @@
 -- A row as written in insert and update: how it is judged, and what it leaves of a row and of the working rows. Assumes nothing: these are definitions.
-use Rattle.std.specs.Prelude.{ℕ, ◌+◌, ◌^◌, ◌≤◌, ◌<◌, ◌≡◌, Bool, true, false, List, map, eqb, length, get_or, take}
-use Rattle.std.proofs.Math.Option.{Option, none, some}
+use Rattle.std.specs.Prelude.{ℕ, ◌+◌, ◌^◌, ◌≤◌, ◌<◌, ◌≡◌, Bool, true, false, List, map, eqb, length, get_or, take, Option, Some, None}
 use Rattle.model.specs.Limits.{most_columns, id_bytes}
 use Rattle.model.specs.declared.Fault.{Fault}
 use Rattle.model.specs.Json.{Json, Named}
@@ -22,7 +21,7 @@ use Rattle.marks.specs.Marks.{MarkedRows}
 
 -- a member that may be missing, by the slot that keeps its place: 0 where it is missing
 unfoldable pub slotted : List ℕ → ℕ → Option Json
-slotted s p = elim (eqb p 0) [ true ↦ none | false ↦ some (tree_at s p) ]
+slotted s p = elim (eqb p 0) [ true ↦ None | false ↦ Some (tree_at s p) ]
 
 -- how a column that the row does not name is judged, in an insert and in an update; and one that it names
 abbrev pub absent_by : Bool → Column → Fault
@@ -46,15 +45,15 @@ faults_of insert names cs ms = (columns_written names (absent_by insert) (named_
 
 -- what is written for a column, and for some
 unfoldable pub value_for : Names → List Named → Column → Option Value
-value_for names ms c = elim (member_named c.name ms) [ none ↦ none | some j ↦ some (value_written names c j).got ]
+value_for names ms c = elim (member_named c.name ms) [ None ↦ None | Some j ↦ Some (value_written names c j).got ]
 
 unfoldable pub values_for : Names → List Named → List Column → List (Option Value)
 values_for names ms cs = map (value_for names ms) cs
 
 -- a row with column c set to what is written for it, if anything is; and with all columns
 unfoldable pub put_column : ℕ → Option Value → Row → Row
-put_column c none r = r
-put_column c (some v) r = set_column c v r
+put_column c None r = r
+put_column c (Some v) r = set_column c v r
 
 abbrev pub put_columns : List (Option Value) → Row → Row
 put_columns os r = record { table = r.table; id = r.id; columns = assigned os r.columns }
@@ -81,12 +80,12 @@ Puts false c v entry exit = exit ≡ entry
 
 -- what a row says of column c: its value, if it is flagged
 abbrev pub flagged : Bool → ℕ → List (List ℕ) → Option Value
-flagged true c row = some (value_in c row)
-flagged false c row = none
+flagged true c row = Some (value_in c row)
+flagged false c row = None
 
 -- a row and its flags say what is written, in the first n columns and in all
 unfoldable pub TemplateTo : ℕ → List (Option Value) → List (List ℕ) → List Bool → Type 0
-TemplateTo n os row given = (c : ℕ) → c < n → get_or os c none ≡ flagged (get_or given c false) c row
+TemplateTo n os row given = (c : ℕ) → c < n → get_or os c None ≡ flagged (get_or given c false) c row
 
 abbrev pub Template : List (Option Value) → List (List ℕ) → List Bool → Type 0
 Template os row given = TemplateTo (length os) os row given

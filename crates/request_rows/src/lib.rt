@@ -1,8 +1,7 @@
 // A row as written in insert and update, read once: its fault, a row with what it says, and rows changed by that.
 #![tactic(auto)]
 
-ghost use Rattle.std.specs.Prelude.{◌≡◌, true, List, map, ◌≤◌, ◌<◌, length};
-ghost use Rattle.std.proofs.Math.Option.{Option};
+ghost use Rattle.std.specs.Prelude.{◌≡◌, true, List, map, ◌≤◌, ◌<◌, length, Option};
 ghost use Rattle.model.specs.Limits.{most_columns, most_elements, most_rows};
 ghost use Rattle.model.specs.Octets.{value};
 ghost use Rattle.inner.specs.Positions.{Says, well_at, tree_at};
@@ -13,22 +12,14 @@ ghost use Rattle.model.specs.Catalog.{column_from};
 ghost use Rattle.uuids.specs.Named.{names_at, Running};
 ghost use Rattle.request_rows.specs.Assigned.{absent_by, named_by, written_row, Puts, ColumnRead, ColumnsRead, RowRead, Born, Template, RowAssigned, Updates};
 
-use model::{ATOM, Atoms, COLUMNS, ELEMENTS, Entry, Fault, Found, ID, ROWS, Row};
+use model::{ATOM, Atoms, COLUMNS, ELEMENTS, Entry, Fault, ID, ROWS, Row};
 use request_values::Given;
 
 // How a column is judged that is not named: in an insert by its default.
 fn absent_fault(insert: bool, column: &Entry) -> Fault
     ensures { result ≡ absent_by insert (column_from column.now) }
 {
-    if insert {
-        if catalog::minimum(column) == 0 {
-            return Fault::Fine;
-        }
-        let atom = [0u8; ATOM];
-        let fits = element_sets::within(column, &atom);
-        if fits {
-            return Fault::Fine;
-        }
+    if insert && catalog::minimum(column) != 0 && !element_sets::within(column, &[0u8; ATOM]) {
         return Fault::Constraint;
     }
     Fault::Fine
@@ -38,10 +29,7 @@ fn absent_fault(insert: bool, column: &Entry) -> Fault
 fn named_fault(insert: bool, column: &Entry) -> Fault
     ensures { result ≡ named_by insert (column_from column.now) }
 {
-    if insert {
-        return Fault::Fine;
-    }
-    if catalog::is_mutable(column) {
+    if insert || catalog::is_mutable(column) {
         return Fault::Fine;
     }
     Fault::Constraint
@@ -60,13 +48,10 @@ fn put_value(row: &mut Row, c: usize, v: Given, atoms: &Atoms)
     requires count_le_most_elements { v.fits ≡ true → v.count ≤ most_elements }
     ensures { Puts v.fits c (record { count = v.count; atoms = atoms.now }) row.old row.new }
 {
-    // lent for what is known of their lengths
+    // lent for what is known of its length
     let key = rows::key_of(row);
-    let cells = &row[..];
-    let four = &atoms[..];
     if v.fits {
-        let n = v.count as u8;
-        rows::set_column(row, c, n, atoms);
+        rows::set_column(row, c, v.count as u8, atoms);
     }
 }
 
@@ -88,7 +73,7 @@ fn read_column(
 {
     let f = text::find(text, ends, at, catalog::name_of(column));
     match f {
-        Found::At(p) => {
+        Some(p) => {
             let mut atoms = [[0u8; ATOM]; ELEMENTS];
             let v = request_values::row_value(text, ends, names, column, p, &mut atoms);
             put_value(row, c, v, &atoms);
@@ -100,7 +85,7 @@ fn read_column(
                 given: true,
             }
         }
-        Found::Nothing => {
+        None => {
             let g = absent_fault(insert, column);
             Taken {
                 fault: g,
@@ -128,13 +113,11 @@ fn read_columns(
 {
     *given = [false; COLUMNS];
     let mut f = Fault::Fine;
-    let mut c = 0;
-    while c < columns.len() {
-        let r = read_column(text, ends, names, insert, &columns[c], at, c, row);
+    for (c, column) in columns.iter().enumerate() {
+        let r = read_column(text, ends, names, insert, column, at, c, row);
         given[c] = r.given;
         let g = r.fault;
         f = leaf::earlier(f, g);
-        c += 1;
     }
     f
 }
@@ -146,18 +129,14 @@ fn known(text: &[u8], ends: &[u16], columns: &[Entry], at: usize) -> bool
     ensures { result ≡ known_names (map column_from columns.now) (members_in (tree_at text.now at)) }
 {
     let mut g = nav::first(text, at, b'{', b'}');
-    loop {
-        match g {
-            Found::At(p) => {
-                let c = conditions::lookup::column_at(text, p, columns);
-                let Found::At(_) = c else {
-                    return false;
-                };
-                g = nav::next_member(text, ends, p);
-            }
-            Found::Nothing => return true,
-        }
+    while let Some(p) = g {
+        let c = conditions::lookup::column_at(text, p, columns);
+        let Some(_) = c else {
+            return false;
+        };
+        g = nav::next_member(text, ends, p);
     }
+    true
 }
 
 // The row at `at` of an insert or an update, read into a row and flagged where a column is named: how it is judged.
@@ -197,14 +176,11 @@ fn put_columns(row: &Row, given: &[bool; COLUMNS], k: usize, to: &mut Row)
     requires { k ≤ most_columns }
     ensures { (os : List (Option Value)) → length os ≡ k → Template os row.now given.now → RowAssigned os to.old to.new }
 {
-    let mut c = 0;
-    while c < k {
+    for c in 0..k {
         if given[c] {
             let n = rows::count_of(row, c);
-            let atoms = rows::atoms_of(row, c);
-            rows::set_column(to, c, n, &atoms);
+            rows::set_column(to, c, n, &rows::atoms_of(row, c));
         }
-        c += 1;
     }
 }
 
@@ -222,11 +198,9 @@ pub fn update_rows(
     requires n_in_bounds { n ≤ length rows.old }
     ensures { Updates k row.now given.now marks.now n rows.old rows.new }
 {
-    let mut i = 0;
-    while i < n {
+    for i in 0..n {
         if marks[i] {
             put_columns(row, given, k, &mut rows[i]);
         }
-        i += 1;
     }
 }

@@ -2,24 +2,22 @@
 use mathlib.Core.Path.{◌≡◌, refl, sym, ap, ◌∙◌}
 use mathlib.Core.Bool.{Bool, true, false, not, ◌&&◌}
 use mathlib.Core.List.{List, [], ◌∷◌}
-use mathlib.Core.Option.{Option, none, some}
 use Prim.Native.Nat.{ℕ, suc, ◌-◌, ◌≤◌}
 use native.Mathlib.Omega.{arith}
 use lib.Dec.{eqb, leb}
 use lib.ListN.{length, take, replicate}
 use lib.Seq.{take-append_seam}
 use borrow.Author.Tests.{leb-true}
-use Rattle.model.specs.declared.Found.{Found}
 use Rattle.model.specs.declared.Fault.{Fault}
 use Rattle.model.specs.declared.Fault.TheVariants.{Fine, Syntax, Resources, Constraint}
 use Rattle.model.specs.declared.Function.{Function}
 use Rattle.model.specs.declared.Mutator.{Mutator}
 use Rattle.model.specs.declared.Mutator.TheVariants.{Add, Subtract, Multiply, Divide, Remainder, Insert, Delete}
-use Rattle.std.specs.Prelude.{if◌then◌else◌}
+use Rattle.std.specs.Prelude.{if◌then◌else◌, Option, Some, None}
 use Rattle.model.specs.Base.{any, is_some, distinct}
 use Rattle.model.specs.Json.{Json}
 use Rattle.model.specs.Schema.{Base, Column, scalar}
-use Rattle.model.specs.Value.{blank, value_of, all_in_limits, count_in_limits}
+use Rattle.model.specs.Value.{blank, value_of, all_in_limits}
 use Rattle.model.specs.Faults.{check, Judged}
 use Rattle.model.specs.Written.{Names, elements_in, atom_in, atoms_in, long_atom, row_fault, insert_fault, delete_fault, operand_fault, set_count, test_fault, written}
 use Rattle.model.specs.Mutations.{mutation_fault}
@@ -32,31 +30,31 @@ use Rattle.request_values.specs.Values.{atoms_as, Inspected, first_fault}
 
 -- ── the atoms of elements that are all of their type ──
 abbrev joined : Option (List ℕ) → Option (List (List ℕ)) → Option (List (List ℕ))
-joined o r = elim o [ none ↦ none | some a ↦ elim r [ none ↦ none | some l ↦ some (a ∷ l) ] ]
+joined o r = elim o [ None ↦ None | Some a ↦ elim r [ None ↦ None | Some l ↦ Some (a ∷ l) ] ]
 
-is_some_lem : (o : Option (List ℕ)) → is_some o ≡ true → o ≡ some (cell_of o)
+is_some_lem : (o : Option (List ℕ)) → is_some o ≡ true → o ≡ Some (cell_of o)
 unfolding cell_of
-is_some_lem none h = cc
-is_some_lem (some a) h = refl
+is_some_lem None h = cc
+is_some_lem (Some a) h = refl
 
-is_none : (o : Option (List ℕ)) → is_some o ≡ false → o ≡ none
-is_none none h = refl
-is_none (some a) h = cc
+is_none : (o : Option (List ℕ)) → is_some o ≡ false → o ≡ None
+is_none None h = refl
+is_none (Some a) h = cc
 
 module _ (names : Names) (k : Base) where
-  atoms_in_lem : (js : List Json) → all_typed names k js ≡ true → atoms_in names k js ≡ some (atoms_of names k js)
+  atoms_in_lem : (js : List Json) → all_typed names k js ≡ true → atoms_in names k js ≡ Some (atoms_of names k js)
   unfolding all_typed is_typed atoms_of atom_as
   atoms_in_lem [] h = refl
   atoms_in_lem (j ∷ js) h =
       ap (λ o. joined o (atoms_in names k js)) (is_some_lem (atom_in names k j) (and_l (is_typed names k j) (all_typed names k js) h))
-      ∙ ap (joined (some (cell_of (atom_in names k j)))) (atoms_in_lem js (and_r (is_typed names k j) (all_typed names k js) h))
+      ∙ ap (joined (Some (cell_of (atom_in names k j)))) (atoms_in_lem js (and_r (is_typed names k j) (all_typed names k js) h))
 
-  atoms_none : (js : List Json) → all_typed names k js ≡ false → atoms_in names k js ≡ none
+  atoms_none : (js : List Json) → all_typed names k js ≡ false → atoms_in names k js ≡ None
   unfolding all_typed is_typed
   atoms_none [] h = cc
   atoms_none (j ∷ js) h = split (is_typed names k j)
       (λ e. ap (λ o. joined o (atoms_in names k js)) (is_some_lem (atom_in names k j) e)
-      ∙ ap (joined (some (cell_of (atom_in names k j)))) (atoms_none js (ap (λ b. b && all_typed names k js) (sym e) ∙ h)))
+      ∙ ap (joined (Some (cell_of (atom_in names k j)))) (atoms_none js (ap (λ b. b && all_typed names k js) (sym e) ∙ h)))
       (λ e. ap (λ o. joined o (atoms_in names k js)) (is_none (atom_in names k j) e))
 
   pub atoms_length : (js : List Json) → length (atoms_of names k js) ≡ length js
@@ -67,7 +65,7 @@ module _ (names : Names) (k : Base) where
   -- ── how it is judged ──
   module _ (judge : List (List ℕ) → Fault) (j : Json) where
     abbrev judged_by : Option (List (List ℕ)) → Judged (List (List ℕ))
-    judged_by o = elim o [ none ↦ record { fault = Syntax; got = [] } | some l ↦ record { fault = judge l; got = l } ]
+    judged_by o = elim o [ None ↦ record { fault = Syntax; got = [] } | Some l ↦ record { fault = judge l; got = l } ]
 
     pub written_typed : all_typed names k (elements_in j) ≡ true → ((written names k judge j).fault ≡ judge (atoms_as names k j)) × ((written names k judge j).got ≡ atoms_as names k j)
     unfolding atoms_as
@@ -132,7 +130,7 @@ five_fault c Insert k l = absurd (k.0 refl)
 five_fault c Delete k l = absurd (k.1 refl)
 
 -- ── inspected by places ──
-pub inspected : (names : Names) (c : Column) (s : List ℕ) (set : Bool) (f : Found) (j : Json) {n : ℕ} {t sh w d : Bool} {atoms : List (List ℕ)} → Begins s set f j
+pub inspected : (names : Names) (c : Column) (s : List ℕ) (set : Bool) (f : Option ℕ) (j : Json) {n : ℕ} {t sh w d : Bool} {atoms : List (List ℕ)} → Begins s set f j
     → Tallied names c (elements_from s set f) n t sh w atoms → d ≡ distinct (atoms_of names c.base (elements_from s set f)) → Inspected names c j n t sh w d atoms
 unfolding atoms_as all_short all_within
 inspected names c s set f j b q e =
@@ -166,6 +164,3 @@ module _ (names : Names) (c : Column) (js : List Json) {n : ℕ} {t s w : Bool} 
 
   pub taken_distinct : distinct (take n atoms) ≡ distinct (atoms_of names c.base js)
   taken_distinct = ap distinct taken
-
-pub count_is : (c : Column) (n : ℕ) {min max : ℕ} → min ≡ c.min → max ≡ c.max → (leb min n && leb n max) ≡ count_in_limits c n
-count_is c n a b = both (ap (λ x. leb x n) a) (ap (leb n) b)

@@ -46,47 +46,37 @@ fn inspect(
     ensures { Inspected (names_at text.now names.now) (column_from column.now) (tree_at text.now at) result.count result.typed result.short result.within result.different atoms.new }
 {
     let e = elements::elements_at(text, ends, at);
-    let set = e.set;
-    let f = e.first;
-    let t = element_sets::tally_from(text, ends, names, column, set, f, atoms);
-    let n = t.count;
-    let fits = (n <= ELEMENTS) & t.short;
-    if fits {
-        let all = &atoms[..];
-        let d = value::distinct(&all[..n]);
-        return Findings {
-            count: n,
-            typed: t.typed,
-            short: t.short,
-            within: t.within,
-            different: d,
-        };
-    }
-    let kind = catalog::kind(column);
-    let d = element_sets::distinct_from(text, ends, names, kind, set, f);
+    let t = element_sets::tally_from(text, ends, names, column, e.set, e.first, atoms);
+    let different = if t.count <= ELEMENTS && t.short {
+        value::distinct(&atoms[..t.count])
+    } else {
+        let kind = catalog::kind(column);
+        element_sets::distinct_from(text, ends, names, kind, e.set, e.first)
+    };
     Findings {
-        count: n,
+        count: t.count,
         typed: t.typed,
         short: t.short,
         within: t.within,
-        different: d,
+        different,
     }
 }
 
 // The first check that fails, of three.
+#[tactic(auto, unfolding(crate::specs::Values::first_fault))]
 fn first_fault(typed: bool, fits: bool, allowed: bool) -> Fault
     ensures { result ≡ first_fault typed fits allowed }
 {
-    if typed {
-        if fits {
-            if allowed {
-                return Fault::Fine;
-            }
-            return Fault::Constraint;
-        }
+    if !typed {
+        return Fault::Syntax;
+    }
+    if !fits {
         return Fault::Resources;
     }
-    Fault::Syntax
+    if !allowed {
+        return Fault::Constraint;
+    }
+    Fault::Fine
 }
 
 // A column's min and max.
@@ -110,9 +100,7 @@ fn sort_atoms(kind: u8, n: usize, atoms: &mut Atoms)
     if n < 2 {
         return;
     }
-    let a = *atoms;
-    let s = value::sort(kind, a, n);
-    *atoms = s;
+    *atoms = value::sort(kind, *atoms, n);
 }
 
 // A value in a row, read: where it has no fault, its count and its atoms, sorted.
@@ -142,7 +130,7 @@ pub fn row_value(
     Given {
         fault: v,
         count: n,
-        fits: fits,
+        fits,
     }
 }
 
@@ -182,7 +170,7 @@ pub fn mutation_value(
     Given {
         fault: v,
         count: n,
-        fits: fits,
+        fits,
     }
 }
 
@@ -193,14 +181,9 @@ fn set_count(column: &Entry, f: Function, n: usize) -> bool
     let min = least(column);
     let max = most(column);
     match f {
-        Function::Less => true,
-        Function::AtMost => true,
-        Function::Equal => (min <= n) & (n <= max),
-        Function::Unequal => (min <= n) & (n <= max),
-        Function::AtLeast => true,
-        Function::Greater => true,
+        Function::Equal | Function::Unequal => min <= n && n <= max,
         Function::Includes => n <= max,
-        Function::Excludes => true,
+        _ => true,
     }
 }
 
@@ -208,11 +191,11 @@ fn set_count(column: &Entry, f: Function, n: usize) -> bool
 fn test_count(column: &Entry, f: Function, n: usize) -> bool
     ensures { result ≡ (if scalar (column_from column.now) then eqb n 1 else set_count (column_from column.now) f n) }
 {
-    let one = catalog::is_scalar(column);
-    if one {
-        return n == 1;
+    if catalog::is_scalar(column) {
+        n == 1
+    } else {
+        set_count(column, f, n)
     }
-    set_count(column, f, n)
 }
 
 // The value of a condition, read: where it has no fault, how many elements, whether their atoms fit, and these in the text's order if they do.
@@ -238,6 +221,6 @@ pub fn test_value(
     Given {
         fault: v,
         count: n,
-        fits: fits,
+        fits,
     }
 }

@@ -1,14 +1,13 @@
 -- Limits as the order of atoms tells them, and the tests of columns and rows one after another. Assumes nothing.
-use mathlib.Core.Path.{◌≡◌, refl, sym, ap, ◌∙◌}
-use mathlib.Core.Bool.{Bool, true, false, not, ◌&&◌}
+use mathlib.Core.Path.{◌≡◌, refl, ap, ◌∙◌}
+use mathlib.Core.Bool.{Bool, true, false, ◌&&◌}
 use mathlib.Core.List.{List, [], ◌∷◌}
 use Prim.Native.Nat.{ℕ, ◌+◌, ◌≤◌, ◌<◌}
 use native.Mathlib.Numerals.{add-one}
 use native.Mathlib.Omega.{arith}
-use borrow.Author.Tests.{lt-ltb, ltb-true, ltb-false, lt-leb, le-leb, eqb-true, ne_eqb}
-use lib.Dec.{ltb, leb, eqb}
-use lib.IntN.{ℤ, pos, negsuc}
-use lib.Signed.{lt_z, le_z}
+use borrow.Author.Tests.{lt-ltb, eqb-true, ne_eqb}
+use lib.Dec.{leb, eqb}
+use lib.IntN.{pos}
 use lib.ListN.{length, get_or, take, drop, drop_of_length-le}
 use lib.Seq.{drop-cons}
 use Rattle.model.specs.Octets.{big, value}
@@ -21,18 +20,6 @@ use Rattle.inner.specs.Working.{value_in}
 use Rattle.model.proofs.Tests.{split}
 use Rattle.model.proofs.Octets.{value_big_fits}
 use Rattle.row_types.specs.Met.{all_met, met_for, met_from}
-
--- ── order ──
-not_less : (a b : ℕ) → not (ltb a b) ≡ leb b a
-not_less a b = split (ltb a b)
-    (λ e. ap not e ∙ sym (lt-leb b a (ltb-true a b e)))
-    (λ e. ap not e ∙ sym (le-leb b a (ltb-false a b e)))
-
-pub not_below : (x y : ℤ) → not (lt_z x y) ≡ le_z y x
-not_below (pos a) (pos b) = not_less a b
-not_below (pos a) (negsuc b) = refl
-not_below (negsuc a) (pos b) = refl
-not_below (negsuc a) (negsuc b) = not_less b a
 
 -- ── a number of characters ──
 pub small_is : (n : ℕ) → n < 9223372036854775808 → from_twos (value (big 8 n)) ≡ pos n
@@ -85,6 +72,10 @@ module _ (cells : List (List ℕ)) (row : List (List ℕ)) (c : ℕ) where
   met_end h = rw (drop_of_length-le cells {i = c} h)
 
 -- ── the tests of one value ──
+and_false : (b : Bool) → (b && false) ≡ false
+and_false true = refl
+and_false false = refl
+
 module _ (cell : List ℕ) (v : Value) where
   abbrev c : Column
   c = column_from cell
@@ -98,18 +89,14 @@ module _ (cell : List ℕ) (v : Value) where
   abbrev limits : Bool
   limits = all_in_limits c (elements v)
 
-  pub met_many : 4 < v.count → met_for c v ≡ false
+  pub met_many : leb v.count 4 ≡ false → met_for c v ≡ false
   unfolding met_for
-  met_many h = ap (λ (b : Bool). b && counts && limits) (lt-leb v.count 4 h)
+  met_many e = ap (λ (b : Bool). b && counts && limits) e
 
   pub met_count : counts ≡ false → met_for c v ≡ false
   unfolding met_for
   met_count e = ap (λ (b : Bool). few && b && limits) e ∙ ap (λ (b : Bool). b && limits) (and_false few)
-    where
-      and_false : (b : Bool) → (b && false) ≡ false
-      and_false true = refl
-      and_false false = refl
 
-  pub met_all : v.count ≤ 4 → counts ≡ true → met_for c v ≡ all_met cell (take v.count v.atoms)
+  pub met_all : leb v.count 4 ≡ true → counts ≡ true → met_for c v ≡ all_met cell (take v.count v.atoms)
   unfolding met_for all_met
-  met_all h e = (λ j. le-leb v.count 4 h j && e j && limits)
+  met_all f e = λ j. f j && e j && limits

@@ -34,24 +34,18 @@ fn in_limits(entry: &Entry, a: &Atom) -> bool
 {
     let low = integer(catalog::low(entry));
     let high = integer(catalog::high(entry));
-    let below = atom::less_integers(a, &low);
-    let above = atom::less_integers(&high, a);
-    !below & !above
+    !atom::less_integers(a, &low) && !atom::less_integers(&high, a)
 }
 
 // Whether an atom is in its column's limits.
 fn atom_meets(entry: &Entry, a: &Atom) -> bool
     ensures { result ≡ atom_in_limits (column_from entry.now) (base_numbered (get_or entry.now base_offset 0)) a.now }
 {
-    let kind = catalog::kind(entry);
-    if kind == 0 {
-        return in_limits(entry, a);
+    match catalog::kind(entry) {
+        0 => in_limits(entry, a),
+        2 => in_limits(entry, &size_of(atom::text_of(a))),
+        _ => true,
     }
-    if kind == 2 {
-        let size = size_of(atom::text_of(a));
-        return in_limits(entry, &size);
-    }
-    true
 }
 
 // Whether all of the first n atoms are in their column's limits.
@@ -59,14 +53,7 @@ fn all_meet(entry: &Entry, atoms: &[Atom], n: usize) -> bool
     requires { n ≤ length atoms.now }
     ensures { result ≡ all_met entry.now (take n atoms.now) }
 {
-    let mut i = 0;
-    while i < n {
-        if !atom_meets(entry, &atoms[i]) {
-            return false;
-        }
-        i += 1;
-    }
-    true
+    atoms[..n].iter().all(|a| atom_meets(entry, a))
 }
 
 // Whether a column of a row meets its type.
@@ -76,13 +63,9 @@ fn column_meets(entry: &Entry, row: &Row, c: usize) -> bool
 {
     let n = rows::count_of(row, c);
     let k = leaf::wide(n);
-    if ELEMENTS < k {
-        return false;
-    }
-    if !((catalog::minimum(entry) <= n) & (n <= catalog::maximum(entry))) {
-        return false;
-    }
-    all_meet(entry, rows::atoms_in(row, c), k)
+    k <= ELEMENTS
+        && (catalog::minimum(entry)..=catalog::maximum(entry)).contains(&n)
+        && all_meet(entry, rows::atoms_in(row, c), k)
 }
 
 // Whether the columns of a row meet their types.
@@ -90,12 +73,10 @@ fn row_meets(columns: &[Entry], row: &Row) -> bool
     requires { length columns.now ≤ most_columns }
     ensures { result ≡ met_from 0 columns.now row.now }
 {
-    let mut c = 0;
-    while c < columns.len() {
-        if !column_meets(&columns[c], row, c) {
+    for (c, entry) in columns.iter().enumerate() {
+        if !column_meets(entry, row, c) {
             return false;
         }
-        c += 1;
     }
     true
 }
@@ -106,11 +87,8 @@ fn one_meets(schema: &Catalog, row: &Row) -> bool
     ensures { result ≡ row_meets schema.now row.now }
 {
     let t = rows::table_of(row);
-    if catalog::table_count(&schema[0]) <= t {
-        return false;
-    }
-    let columns = catalog::columns_of(schema, leaf::wide(t));
-    row_meets(columns, row)
+    t < catalog::table_count(&schema[0])
+        && row_meets(catalog::columns_of(schema, leaf::wide(t)), row)
 }
 
 // Whether rows meet their types.
@@ -119,12 +97,5 @@ pub fn rows_meet(schema: &Catalog, rows: &[Row], n: usize) -> bool
     requires n_in_bounds { n ≤ length rows.now }
     ensures { result ≡ rows_meet schema.now n rows.now }
 {
-    let mut i = 0;
-    while i < n {
-        if !one_meets(schema, &rows[i]) {
-            return false;
-        }
-        i += 1;
-    }
-    true
+    rows[..n].iter().all(|row| one_meets(schema, row))
 }

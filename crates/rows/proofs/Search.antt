@@ -1,7 +1,9 @@
 -- Searches: an id in two halves, a key beside that of a row, rows passed over. Assumes nothing.
+use Rattle.std.specs.Prelude.{Option, Some, None}
 use mathlib.Core.Path.{◌≡◌, refl, sym, ap, ◌∙◌}
 use mathlib.Core.Bool.{Bool, true, false, not, ◌&&◌, ◌||◌}
-use mathlib.Core.List.{List, [], ◌∷◌, ◌++◌}
+use mathlib.Core.List.{List, [], ◌∷◌, ◌++◌, map}
+use Rattle.std.specs.List.{list_any}
 use Prim.Native.Nat.{ℕ, zero, suc, ◌+◌, ◌-◌, ◌*◌, ◌/◌, ◌%◌, ◌^◌, ◌≤◌, ◌<◌}
 use native.Mathlib.Nat.{add_assoc, mul_assoc, add-mul}
 use native.Mathlib.Numerals.{add-one}
@@ -15,11 +17,10 @@ use lib.Seq.{take_all}
 use Rattle.model.specs.Octets.{value}
 use Rattle.model.specs.Schema.{Schema}
 use Rattle.model.specs.Rows.{key_of, has_id}
-use Rattle.model.specs.declared.Found.{Found}
-use Rattle.model.specs.declared.Found.TheVariants.{At, Nothing}
 use Rattle.model.proofs.Tests.{split}
-use Rattle.inner.specs.Working.{working, id_in, key_in, Ordered, place_from, place}
-use Rattle.inner.proofs.Working.{key_bytes, key_head, place_on, place_end, has_id_on}
+use Rattle.model.specs.Areas.{row_from}
+use Rattle.inner.specs.Working.{working, id_in, key_in, Ordered, place_from, place, slot}
+use Rattle.inner.proofs.Working.{row_id, row_key, key_bytes, key_head, place_on, place_end, has_id_on}
 use Rattle.inner.proofs.Ordering.{ordered_next, own_place}
 use Rattle.rows.specs.Post.{key_of_halves, Narrowed, OfFour, Sought, KeyBytes}
 use Rattle.rows.proofs.Laws.{and_true}
@@ -175,7 +176,7 @@ module _ (s : Schema) (cells : List (List (List ℕ))) (n : ℕ) (h : n ≤ leng
       ∙ place_on s cells n h k i (omega arith) (f i (omega arith))
       ∙ ap (λ (m : ℕ). place_from m k (drop m (working s n cells))) (add-one i)
 
-  pub place_nowhere : ((j : ℕ) → j < n → eqb k (key_in (get_or cells j [])) ≡ false) → place k (working s n cells) ≡ Nothing
+  pub place_nowhere : ((j : ℕ) → j < n → eqb k (key_in (get_or cells j [])) ≡ false) → place k (working s n cells) ≡ None
   place_nowhere f = place_after n (omega arith) f ∙ place_end s cells n h k n (omega arith)
 
   pub has_id_after : (i m : ℕ) → i + m ≤ n → ((j : ℕ) → j < m → eqb k (id_in (get_or cells (i + j) [])) ≡ false) → has_id k (drop i (working s n cells)) ≡ has_id k (drop (i + m) (working s n cells))
@@ -230,17 +231,30 @@ module _ (k : ℕ) (cells : List (List (List ℕ))) (from i : ℕ) (f : (j : ℕ
       (λ p. let q : i + (j - i) ≡ j = omega (arith, ltb-false j i p) in ap (λ (m : ℕ). eqb k (key_in (get_or cells m []))) (sym q) ∙ w.others (j - i) (omega (arith, ltb-false j i p)))
 
   -- what was found from i on
-  pub sought_on : (to : ℕ) (r : Found) → Sought k cells i to r → Sought k cells from to r
-  sought_on to (At p) w = w
-  sought_on to Nothing w = λ j g l. split (ltb j i)
+  pub sought_on : (to : ℕ) (r : Option ℕ) → Sought k cells i to r → Sought k cells from to r
+  sought_on to (Some p) w = w
+  sought_on to None w = λ j g l. split (ltb j i)
       (λ p. f j g (ltb-true j i p))
       (λ p. w j (ltb-false j i p) l)
 
 -- what was found among the rows that halving left
-pub found_place : (s : Schema) (n : ℕ) (cells : List (List (List ℕ))) (o : Ordered n cells) (k from to : ℕ) → Narrowed n k cells from to → (r : Found) → Sought k cells from to r → r ≡ place k (working s n cells)
-found_place s n cells o k from to w (At p) h = sym (ap (λ (q : ℕ). place q (working s n cells)) (eqb-true k (key_in (get_or cells p [])) h.1) ∙ own_place n cells o s p (omega (arith, h.0, w.within.1)))
-found_place s n cells o k from to w Nothing h = sym (place_nowhere s cells n o.there k (λ j l. split (ltb j from)
+pub found_place : (s : Schema) (n : ℕ) (cells : List (List (List ℕ))) (o : Ordered n cells) (k from to : ℕ) → Narrowed n k cells from to → (r : Option ℕ) → Sought k cells from to r → r ≡ place k (working s n cells)
+found_place s n cells o k from to w (Some p) h = sym (ap (λ (q : ℕ). place q (working s n cells)) (eqb-true k (key_in (get_or cells p [])) h.1) ∙ own_place n cells o s p (omega (arith, h.0, w.within.1)))
+found_place s n cells o k from to w None h = sym (place_nowhere s cells n o.there k (λ j l. split (ltb j from)
     (λ p. above_other k (key_in (get_or cells j [])) (w.above j (ltb-true j from p)))
     (λ p. split (ltb j to)
     (λ q. h j (ltb-false j from p) (ltb-true j to q))
     (λ q. below_other k (key_in (get_or cells j [])) (w.below j (ltb-false j to q) l)))))
+
+-- ── what iterators say of rows, of the rows that these stand for ──
+module _ (s : Schema) where
+  pub any_id : (i : ℕ) (l : List (List (List ℕ))) → list_any (λ (r : List (List ℕ)). eqb i (id_in r)) l ≡ has_id i (map (row_from s) l)
+  any_id i [] = refl
+  any_id i (r ∷ l) = rw (row_id s r, any_id i l)
+
+  module _ (k : ℕ) (r : List (List ℕ)) (l : List (List (List ℕ))) where
+    pub slot_hit : ltb k (key_in r) ≡ true → slot k (map (row_from s) (r ∷ l)) ≡ 0
+    slot_hit e = rw (row_key s r, e, slot)
+
+    pub slot_miss : ltb k (key_in r) ≡ false → slot k (map (row_from s) (r ∷ l)) ≡ slot k (map (row_from s) l) + 1
+    slot_miss e = rw (row_key s r, e, slot) (sym (add-one (slot k (map (row_from s) l))))

@@ -1,5 +1,5 @@
 -- What the functions of this crate leave: parts of their promises by name. Assumes nothing: these are definitions.
-use Rattle.std.specs.Prelude.{◌≡◌, true, false, List, [], ℕ, ◌+◌, ◌-◌, ◌*◌, ◌^◌, ◌≤◌, ◌<◌, eqb, length, get_or, take}
+use Rattle.std.specs.Prelude.{◌≡◌, true, false, List, [], ℕ, ◌+◌, ◌-◌, ◌*◌, ◌^◌, ◌≤◌, ◌<◌, eqb, length, get_or, take, Option, Some, None}
 use Rattle.model.specs.Limits.{atom_bytes, most_columns, id_offset, id_bytes, counts_offset}
 use Rattle.model.specs.Octets.{part}
 use Rattle.model.specs.Schema.{Schema, columns_of}
@@ -7,8 +7,6 @@ use Rattle.model.specs.Value.{Value}
 use Rattle.model.specs.Rows.{key_of, add, remove, set_column}
 use Rattle.model.specs.Areas.{row_from}
 use Rattle.inner.specs.Working.{working, table_in, key_in, with_value, TidyRow, Tidy, Ordered, place, removed}
-use Rattle.model.specs.declared.Found.{Found}
-use Rattle.model.specs.declared.Found.TheVariants.{At, Nothing}
 
 -- half of an id's bytes; a key by its table and both halves of its id
 abbrev pub word_bytes : ℕ
@@ -30,9 +28,9 @@ pub record OfFour (k : ℕ) (cells : List (List (List ℕ))) (i r : ℕ) : Type 
   pub here : r < 4 → eqb k (key_in (get_or cells (i + r) [])) ≡ true
 
 -- a key looked for among the rows from one place up to another
-abbrev pub Sought : ℕ → List (List (List ℕ)) → ℕ → ℕ → Found → Type 0
-Sought k cells from to (At i) = (i < to) × (eqb k (key_in (get_or cells i [])) ≡ true)
-Sought k cells from to Nothing = (i : ℕ) → from ≤ i → i < to → eqb k (key_in (get_or cells i [])) ≡ false
+abbrev pub Sought : ℕ → List (List (List ℕ)) → ℕ → ℕ → Option ℕ → Type 0
+Sought k cells from to (Some i) = (i < to) × (eqb k (key_in (get_or cells i [])) ≡ true)
+Sought k cells from to None = (i : ℕ) → from ≤ i → i < to → eqb k (key_in (get_or cells i [])) ≡ false
 
 -- a row's table and id, and its id alone, in the first of its cells
 pub record KeyBytes (b : List ℕ) (cells : List (List ℕ)) : Type 0 where
@@ -52,7 +50,7 @@ pub record Added (n : ℕ) (row : List (List ℕ)) (entry exit : List (List (Lis
 -- the row at i taken out of the first n: the one under a key, where i is its place
 pub record Removed (n i : ℕ) (entry exit : List (List (List ℕ))) : Type 0 where
   pub rows : (s : Schema) → working s (n - 1) exit ≡ removed i (working s n entry)
-  pub key : (s : Schema) (k : ℕ) → place k (working s n entry) ≡ At i → working s (n - 1) exit ≡ remove k (working s n entry)
+  pub key : (s : Schema) (k : ℕ) → place k (working s n entry) ≡ Some i → working s (n - 1) exit ≡ remove k (working s n entry)
   pub tidy : (s : Schema) → Tidy s (take n entry) → Tidy s (take (n - 1) exit)
   pub ordered : Ordered n entry → Ordered (n - 1) exit
 

@@ -2,7 +2,7 @@
 use mathlib.Core.Path.{◌≡◌, refl, sym, ap, ◌∙◌}
 use mathlib.Core.List.{List, [], ◌∷◌}
 use mathlib.Core.Bool.{Bool, true, false}
-use Prim.Native.Nat.{ℕ, zero, suc, ◌+◌, ◌-◌, ◌<◌, ◌≤◌}
+use Prim.Native.Nat.{ℕ, zero, suc, ◌+◌, ◌-◌, ◌<◌}
 use native.Mathlib.Nat.{le_of_suc-le-suc, not-suc-le-zero}
 use native.Mathlib.Decide.{dec_lt}
 use native.Mathlib.Omega.{arith}
@@ -38,19 +38,13 @@ inside_open s i e ne = inside s i (λ h. ne (sym e ∙ ap opens h))
 pub inside_test : (f : ℕ → Bool) → f 256 ≡ false → (s : List ℕ) (i : ℕ) → f (byte s i) ≡ true → i < length s
 inside_test f no_end s i e = inside s i (λ h. let z : false ≡ true = sym no_end ∙ sym (ap f h) ∙ e in let y : ◌≡◌ {A = ℕ} 0 1 = cc in omega arith)
 
--- a turn of a loop over the bytes that pass a test
-module _ (f : ℕ → Bool) (s : List ℕ) (n k i : ℕ) where
-  left : k < n → n - k ≡ suc (n - (k + 1))
-  left h = omega arith
-
-  pub pass_turn : k < n → f (byte s i) ≡ true → passing f s (n - k) i ≡ passing f s (n - (k + 1)) (i + 1)
+-- a turn of a loop over the bytes that pass a test, and its end
+module _ (f : ℕ → Bool) (s : List ℕ) where
+  pub pass_turn : (n k i : ℕ) → k < n → f (byte s i) ≡ true → passing f s (n - k) i ≡ passing f s (n - (k + 1)) (i + 1)
   unfolding passing
-  pass_turn h e = rw (left h, passing, e)
+  pass_turn n k i h e = let left : n - k ≡ suc (n - (k + 1)) = omega arith in rw (left, passing, e)
 
-  pub pass_done : k < n → f (byte s i) ≡ false → passing f s (n - k) i ≡ i
+  pub pass_stops : (n i : ℕ) → f (byte s i) ≡ false → passing f s n i ≡ i
   unfolding passing
-  pass_done h e = rw (left h, passing, e)
-
-  pub pass_spent : n ≤ k → passing f s (n - k) i ≡ i
-  unfolding passing
-  pass_spent h = let z : n - k ≡ 0 = omega arith in rw z
+  pass_stops zero i e = refl
+  pass_stops (suc n) i e = rw (passing, e)

@@ -1,4 +1,8 @@
 -- A value ends past where it begins, so the turns that `run` allows, as many as the text has bytes, are enough: more give the same. Assumes nothing.
+use Rattle.std.specs.Prelude.{Ok, Err}
+use Rattle.model.specs.declared.ReadError.TheVariants.{Deep}
+use Rattle.std.specs.declared.ops.ControlFlow.TheVariants.{Continue, Break}
+use Rattle.model.specs.Scan.{Read, Next}
 use mathlib.Core.Path.{◌≡◌, refl, ap, subst}
 use mathlib.Core.List.{List, [], ◌++◌}
 use mathlib.Core.Bool.{Bool, false}
@@ -8,10 +12,6 @@ use native.Mathlib.Omega.{arith}
 use lib.ListN.{length}
 use lib.Dec.{eqb, lit<}
 use borrow.Author.Tests.{eqb-true, eqb-false}
-use Rattle.model.specs.declared.Read.{Read}
-use Rattle.model.specs.declared.Read.TheVariants.{End, Stop, Deep}
-use Rattle.model.specs.declared.Next.{Next}
-use Rattle.model.specs.declared.Next.TheVariants.{More, Done}
 use Rattle.model.specs.declared.Open.{Open}
 use Rattle.model.specs.declared.Open.TheVariants.{Array, Object, Scalar}
 use Rattle.model.specs.Scan.{byte, Parsed, and_then, Turn, run, passing, is_space, is_digit, spaces_at, digits_at, within_at, word_at, then_read}
@@ -22,7 +22,7 @@ use Rattle.scan.proofs.Bytes.{inside_byte, inside_test}
 use Rattle.scan.proofs.Past.{by_test, Past, PastNext, within_past, shorter, later, from_past, char_past}
 
 -- where each turn goes on, within the first N positions, more than N turns give what N do
-module _ {A : Type 0} (f : ℕ → Turn A) (N : ℕ) (on : (i e : ℕ) → (f i).next ≡ More e → (suc i ≤ e) × (e ≤ N)) where
+module _ {A : Type 0} (f : ℕ → Turn A) (N : ℕ) (on : (i e : ℕ) → (f i).next ≡ Continue e → (suc i ≤ e) × (e ≤ N)) where
   pub enough : (n m i : ℕ) → N - i < n → N - i < m → run f n i ≡ run f m i
   unfolding run
   enough zero m i h g = absurd (not-suc-le-zero h)
@@ -30,11 +30,11 @@ module _ {A : Type 0} (f : ℕ → Turn A) (N : ℕ) (on : (i e : ℕ) → (f i)
   enough (suc n) (suc m) i h g = go (f i).next refl (enough n m)
     where
       go : (q : Next) → (f i).next ≡ q → ((e : ℕ) → N - e < n → N - e < m → run f n e ≡ run f m e) → run f (suc n) i ≡ run f (suc m) i
-      go (More e) q ih =
+      go (Continue e) q ih =
           let o = on i e q in
           let r = ih e (omega arith) (omega arith) in
           rw (run, q) (ap (λ x. record { read = x.read; tree = (f i).adds ++ x.tree }) r)
-      go (Done r) q ih = rw (run, q)
+      go (Break r) q ih = rw (run, q)
 
 -- a bound on one side of a choice by an enum
 by_open : {A : Type 0} (P : A → Type 0) (b : Open) {x y z : A} → P x → P y → P z → P (elim b [ Array ↦ x | Object ↦ y | Scalar ↦ z ])
@@ -50,27 +50,25 @@ module _ (s : List ℕ) where
   run_past f h (suc n) i = go (f i).next refl (run_past f h n)
     where
       go : (q : Next) → (f i).next ≡ q → ((e : ℕ) → Past s (suc e) (run f n e).read) → Past s (suc i) (run f (suc n) i).read
-      go (More e) q ih = let o = subst (PastNext s (suc i)) q (h i) in rw (run, q) (shorter s (suc i) (suc e) (omega (arith, o.0)) (run f n e).read (ih e))
-      go (Done r) q ih = rw (run, q) (subst (PastNext s (suc i)) q (h i))
+      go (Continue e) q ih = let o = subst (PastNext s (suc i)) q (h i) in rw (run, q) (shorter s (suc i) (suc e) (omega (arith, o.0)) (run f n e).read (ih e))
+      go (Break r) q ih = rw (run, q) (subst (PastNext s (suc i)) q (h i))
 
-  pub run_on : {A : Type 0} (f : ℕ → Turn A) → ((i : ℕ) → PastNext s (suc i) (f i).next) → (i e : ℕ) → (f i).next ≡ More e → (suc i ≤ e) × (e ≤ length s)
+  pub run_on : {A : Type 0} (f : ℕ → Turn A) → ((i : ℕ) → PastNext s (suc i) (f i).next) → (i e : ℕ) → (f i).next ≡ Continue e → (suc i ≤ e) × (e ≤ length s)
   run_on f h i e q = subst (PastNext s (suc i)) q (h i)
 
   -- sequences
   then_past : {A : Type 0} (d : A) (f : ℕ → Parsed A) (a : ℕ) (r : Read) → Past s a r → ((e : ℕ) → a ≤ e → e ≤ length s → Past s a (f e).read) → Past s a (and_then d f r).read
   unfolding and_then
-  then_past d f a (End e) h g = g e h.0 h.1
-  then_past d f a (Stop e) h g = tt
-  then_past d f a (Deep e) h g = tt
+  then_past d f a (Ok e) h g = g e h.0 h.1
+  then_past d f a (Err e) h g = tt
 
   read_past : (f : ℕ → Read) (a : ℕ) (r : Read) → Past s a r → ((e : ℕ) → a ≤ e → e ≤ length s → Past s a (f e)) → Past s a (then_read f r)
   unfolding then_read
-  read_past f a (End e) h g = g e h.0 h.1
-  read_past f a (Stop e) h g = tt
-  read_past f a (Deep e) h g = tt
+  read_past f a (Ok e) h g = g e h.0 h.1
+  read_past f a (Err e) h g = tt
 
-  first_past : (x a : ℕ) → x < 256 → Past s (suc a) (within_at s x x (End a))
-  first_past x a h = within_past s x x a h (End a) (λ e q. let z : e ≡ a = cc in omega arith)
+  first_past : (x a : ℕ) → x < 256 → Past s (suc a) (within_at s x x (Ok a))
+  first_past x a h = within_past s x x a h (Ok a) (λ e q. let z : e ≡ a = cc in omega arith)
 
   next_past : (x a : ℕ) → x < 256 → (r : Read) → Past s a r → Past s a (within_at s x x r)
   next_past x a h r p = shorter s a (suc a) (omega arith) (within_at s x x r) (within_past s x x a h r (from_past s a r p))
@@ -81,7 +79,7 @@ module _ (s : List ℕ) where
 
   string_past : (at : ℕ) → Past s (suc at) (string_at s at).read
   unfolding string_at
-  string_past at = then_past [] (body_at s) (suc at) (within_at s 34 34 (End at)) (first_past 34 at (lit< tt)) (λ e le lt. shorter s (suc at) (suc e) (omega arith) (body_at s e).read (body_past e))
+  string_past at = then_past [] (body_at s) (suc at) (within_at s 34 34 (Ok at)) (first_past 34 at (lit< tt)) (λ e le lt. shorter s (suc at) (suc e) (omega arith) (body_at s e).read (body_past e))
 
   -- white space and digits
   module _ (f : ℕ → Bool) (no : f 256 ≡ false) where
@@ -143,9 +141,9 @@ module _ (s : List ℕ) where
   scalar_past at b =
       let P : Parsed Json → Type 0 = λ q. Past s (suc at) q.read in
       let w : ℕ → Read → Read = λ x r. within_at s x x r in
-      let n1 = w 110 (End at) in let n2 = w 117 n1 in let n3 = w 108 n2 in
-      let t1 = w 116 (End at) in let t2 = w 114 t1 in let t3 = w 117 t2 in
-      let f1 = w 102 (End at) in let f2 = w 97 f1 in let f3 = w 108 f2 in let f4 = w 115 f3 in
+      let n1 = w 110 (Ok at) in let n2 = w 117 n1 in let n3 = w 108 n2 in
+      let t1 = w 116 (Ok at) in let t2 = w 114 t1 in let t3 = w 117 t2 in
+      let f1 = w 102 (Ok at) in let f2 = w 97 f1 in let f3 = w 108 f2 in let f4 = w 115 f3 in
       by_test P (eqb b 34) (λ t. string_past at) (λ t.
       by_test P (eqb b 110) (λ t. next_past 108 (suc at) (lit< tt) n3 (next_past 108 (suc at) (lit< tt) n2 (next_past 117 (suc at) (lit< tt) n1 (first_past 110 at (lit< tt))))) (λ t.
       by_test P (eqb b 116) (λ t. next_past 101 (suc at) (lit< tt) t3 (next_past 117 (suc at) (lit< tt) t2 (next_past 114 (suc at) (lit< tt) t1 (first_past 116 at (lit< tt))))) (λ t.
@@ -159,9 +157,8 @@ module _ (s : List ℕ) where
 
   pub after_past : (close a : ℕ) → close < 256 → (r : Read) → Past s a r → PastNext s a (after_item s close r)
   unfolding after_item
-  after_past close a h (End e) p = let i = spaces_at s e in later s a (suc i) (omega (arith, spaces_ge e, p.0)) (comma_or s close i) (comma_past close i h)
-  after_past close a h (Stop e) p = tt
-  after_past close a h (Deep e) p = tt
+  after_past close a h (Ok e) p = let i = spaces_at s e in later s a (suc i) (omega (arith, spaces_ge e, p.0)) (comma_or s close i) (comma_past close i h)
+  after_past close a h (Err e) p = tt
 
   list_past : {A : Type 0} (p : ℕ → Parsed A) (close : ℕ) → close < 256 → ((i : ℕ) → Past s (suc i) (p i).read) → (at : ℕ) → Past s (suc at) (list_at p s close at).read
   unfolding list_at
@@ -175,9 +172,9 @@ module _ (s : List ℕ) where
   key_past at =
       let i = spaces_at s at in
       let q = string_at s i in
-      then_past [] (λ e. record { read = within_at s 58 58 (End (spaces_at s e)); tree = q.tree }) (suc at) q.read
+      then_past [] (λ e. record { read = within_at s 58 58 (Ok (spaces_at s e)); tree = q.tree }) (suc at) q.read
       (shorter s (suc at) (suc i) (omega (arith, spaces_ge at)) q.read (string_past i))
-      (λ e le lt. let j = spaces_at s e in shorter s (suc at) (suc j) (omega (arith, spaces_ge e)) (within_at s 58 58 (End j)) (first_past 58 j (lit< tt)))
+      (λ e le lt. let j = spaces_at s e in shorter s (suc at) (suc j) (omega (arith, spaces_ge e)) (within_at s 58 58 (Ok j)) (first_past 58 j (lit< tt)))
 
   pub member_past : (p : ℕ → Parsed Json) → ((i : ℕ) → Past s (suc i) (p i).read) → (at : ℕ) → Past s (suc at) (member_at p s at).read
   unfolding member_at
@@ -195,7 +192,7 @@ module _ (s : List ℕ) where
   unfolding value_at
   value_past zero at =
       let i = spaces_at s at in
-      shorter s (suc at) (suc i) (omega (arith, spaces_ge at)) (value_at zero s at).read (dispatch_past (λ i. no_value (Deep i)) (λ i. no_value (Deep i)) (λ i. tt) (λ i. tt) i)
+      shorter s (suc at) (suc i) (omega (arith, spaces_ge at)) (value_at zero s at).read (dispatch_past (λ i. no_value (Err (Deep i))) (λ i. no_value (Err (Deep i))) (λ i. tt) (λ i. tt) i)
   value_past (suc l) at =
       let i = spaces_at s at in
       let p = value_at l s in

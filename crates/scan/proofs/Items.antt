@@ -1,37 +1,37 @@
 -- Laws of `run`: what one turn of a loop does. Assumes nothing.
+use Rattle.std.specs.Prelude.{Err}
+use Rattle.model.specs.declared.ReadError.TheVariants.{Stop}
+use Rattle.std.specs.declared.ops.ControlFlow.TheVariants.{Continue, Break}
+use Rattle.model.specs.Scan.{Read, Next}
 use mathlib.Core.Path.{◌≡◌, refl}
 use mathlib.Core.List.{List, [], ◌∷◌, ◌++◌}
-use Rattle.model.specs.declared.Next.{Next}
 use Prim.Native.Nat.{ℕ, suc, ◌+◌, ◌-◌, ◌<◌, ◌≤◌}
 use native.Mathlib.Omega.{arith}
-use Rattle.model.specs.declared.Read.{Read}
-use Rattle.model.specs.declared.Read.TheVariants.{Stop}
-use Rattle.model.specs.declared.Next.TheVariants.{More, Done}
 use Rattle.model.specs.Scan.{Turn, run}
 
 module _ {A : Type 0} (f : ℕ → Turn A) (n k i : ℕ) where
   left : k < n → n - k ≡ suc (n - (k + 1))
   left h = omega arith
 
-  pub turn : {e : ℕ} → k < n → (f i).next ≡ More e → (run f (n - k) i).read ≡ (run f (n - (k + 1)) e).read
+  pub turn : {e : ℕ} → k < n → (f i).next ≡ Continue e → (run f (n - k) i).read ≡ (run f (n - (k + 1)) e).read
   unfolding run
   turn h e = rw (left h, run, e)
 
-  pub done : {r : Read} → k < n → (f i).next ≡ Done r → (run f (n - k) i).read ≡ r
+  pub done : {r : Read} → k < n → (f i).next ≡ Break r → (run f (n - k) i).read ≡ r
   unfolding run
   done h e = rw (left h, run, e)
 
-  pub spent : n ≤ k → (run f (n - k) i).read ≡ Stop i
+  pub spent : n ≤ k → (run f (n - k) i).read ≡ Err (Stop i)
   unfolding run
   spent h = let z : n - k ≡ 0 = omega arith in rw z
 
 -- what the turns add
 module _ {A : Type 0} (f : ℕ → Turn A) (n k i : ℕ) where
-  pub turn_tree : {e : ℕ} → k < n → (f i).next ≡ More e → (run f (n - k) i).tree ≡ (f i).adds ++ (run f (n - (k + 1)) e).tree
+  pub turn_tree : {e : ℕ} → k < n → (f i).next ≡ Continue e → (run f (n - k) i).tree ≡ (f i).adds ++ (run f (n - (k + 1)) e).tree
   unfolding run
   turn_tree h e = rw (left f n k i h, run, e)
 
-  pub done_tree : {r : Read} → k < n → (f i).next ≡ Done r → (run f (n - k) i).tree ≡ (f i).adds
+  pub done_tree : {r : Read} → k < n → (f i).next ≡ Break r → (run f (n - k) i).tree ≡ (f i).adds
   unfolding run
   done_tree h e = rw (left f n k i h, run, e)
 
@@ -46,5 +46,5 @@ module _ (f : ℕ → Turn ℕ) (x : ℕ → List ℕ) (adds : (i : ℕ) → (f 
   run_head n = go (f i).next refl
     where
       go : (q : Next) → (f i).next ≡ q → (rest : List ℕ) × ((run f (suc n) i).tree ≡ i ∷ rest)
-      go (More e) h = (x i ++ (run f n e).tree, rw (run, h, adds i))
-      go (Done r) h = (x i, rw (run, h, adds i))
+      go (Continue e) h = (x i ++ (run f n e).tree, rw (run, h, adds i))
+      go (Break r) h = (x i, rw (run, h, adds i))

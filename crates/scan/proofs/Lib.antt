@@ -6,5 +6,6 @@ pub mod Ends
 pub mod Same
 pub mod Plain
 pub mod Past
+pub mod Characters
 pub mod Enough
 mod Examples

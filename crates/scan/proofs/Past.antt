@@ -1,4 +1,9 @@
 -- Reading goes on: what a reader reads ends past where it began, and within the text. Assumes nothing.
+use Rattle.std.specs.Prelude.{Ok, Err}
+use Rattle.model.specs.declared.ReadError.TheVariants.{Stop, Deep}
+use Rattle.std.specs.declared.ops.ControlFlow.TheVariants.{Continue, Break}
+use Rattle.model.specs.Scan.{Read, Next}
+use Rattle.scan.specs.Units.{Hex}
 use mathlib.Core.Path.{◌≡◌, refl, ap, subst, ◌∙◌}
 use mathlib.Core.List.{List}
 use mathlib.Core.Bool.{Bool, true, false}
@@ -7,12 +12,6 @@ use native.Mathlib.Omega.{arith}
 use lib.ListN.{length}
 use lib.Dec.{ltb, eqb, lit<}
 use borrow.Author.Tests.{ltb-true, ltb-false, eqb-true, eqb-false}
-use Rattle.model.specs.declared.Read.{Read}
-use Rattle.model.specs.declared.Read.TheVariants.{End, Stop, Deep}
-use Rattle.model.specs.declared.Next.{Next}
-use Rattle.model.specs.declared.Next.TheVariants.{More, Done}
-use Rattle.scan.specs.declared.Hex.{Hex}
-use Rattle.scan.specs.declared.Hex.TheVariants.{Unit16, Bad}
 use Rattle.scan.specs.declared.Half.{Half}
 use Rattle.scan.specs.declared.Half.TheVariants.{Whole, High, Refused}
 use Rattle.model.specs.Scan.{byte, within_at}
@@ -30,64 +29,62 @@ by_test P false f g = g refl
 
 -- an end, if there is one, lies from a on and within the text
 abbrev pub Past : List ℕ → ℕ → Read → Type 0
-Past s a (End e) = (a ≤ e) × (e ≤ length s)
-Past s a (Stop e) = Unit
-Past s a (Deep e) = Unit
+Past s a (Ok e) = (a ≤ e) × (e ≤ length s)
+Past s a (Err e) = Unit
 
 abbrev pub PastNext : List ℕ → ℕ → Next → Type 0
-PastNext s a (More e) = (a ≤ e) × (e ≤ length s)
-PastNext s a (Done r) = Past s a r
+PastNext s a (Continue e) = (a ≤ e) × (e ≤ length s)
+PastNext s a (Break r) = Past s a r
 
 module _ (s : List ℕ) where
-  pub within_past : (low high a : ℕ) → high < 256 → (r : Read) → ((e : ℕ) → r ≡ End e → a ≤ e) → Past s (suc a) (within_at s low high r)
+  pub within_past : (low high a : ℕ) → high < 256 → (r : Read) → ((e : ℕ) → r ≡ Ok e → a ≤ e) → Past s (suc a) (within_at s low high r)
   unfolding within_at
-  within_past low high a hi (End e) h =
+  within_past low high a hi (Ok e) h =
       by_test (Past s (suc a)) (ltb (byte s e) low) (λ t. tt) (λ t. by_test (Past s (suc a)) (ltb high (byte s e)) (λ u. tt) (λ u.
       let i : e < length s = inside s e (λ q. omega (arith, ltb-false high (byte s e) u, q)) in
       omega (arith, h e refl)))
-  within_past low high a hi (Stop e) h = tt
-  within_past low high a hi (Deep e) h = tt
+  within_past low high a hi (Err e) h = tt
 
   -- hexadecimal digits
   abbrev PastHex : ℕ → Hex → Type 0
-  PastHex a (Unit16 e v) = (a ≤ e) × (e ≤ length s)
-  PastHex a (Bad e) = Unit
+  PastHex a (Ok (e, v)) = (a ≤ e) × (e ≤ length s)
+  PastHex a (Err e) = Unit
 
-  hex_past : (a : ℕ) (h : Hex) → ((e v : ℕ) → h ≡ Unit16 e v → a ≤ e) → PastHex (suc a) (hex_step s h)
+  hex_past : (a : ℕ) (h : Hex) → ((e v : ℕ) → h ≡ Ok (e, v) → a ≤ e) → PastHex (suc a) (hex_step s h)
   unfolding hex_step hex_add hex_of
-  hex_past a (Unit16 e v) h =
+  hex_past a (Ok (e, v)) h =
       by_test (PastHex (suc a)) (eqb (hex_of (byte s e)) 16) (λ t. tt) (λ t.
       let i : e < length s = inside s e (λ q. eqb-false (hex_of (byte s e)) 16 t (ap hex_of q)) in
       omega (arith, h e v refl))
-  hex_past a (Bad e) h = tt
+  hex_past a (Err e) h = tt
 
   -- an end of a reading that is past a is at least a
-  pub from_past : (a : ℕ) (r : Read) → Past s a r → (e : ℕ) → r ≡ End e → a ≤ e
+  pub from_past : (a : ℕ) (r : Read) → Past s a r → (e : ℕ) → r ≡ Ok e → a ≤ e
   from_past a r h e q = (subst (Past s a) q h).0
 
-  from_hex : (a : ℕ) (r : Hex) → PastHex a r → (e v : ℕ) → r ≡ Unit16 e v → a ≤ e
+  from_hex : (a : ℕ) (r : Hex) → PastHex a r → (e v : ℕ) → r ≡ Ok (e, v) → a ≤ e
   from_hex a r h e v q = (subst (PastHex a) q h).0
 
   weaker : (a b : ℕ) → a ≤ b → (h : Hex) → PastHex b h → PastHex a h
-  weaker a b le (Unit16 e v) h = omega arith
-  weaker a b le (Bad e) h = tt
+  weaker a b le (Ok (e, v)) h = omega arith
+  weaker a b le (Err e) h = tt
 
   outside_past : (a low high : ℕ) (h : Hex) → PastHex a h → PastHex a (outside low high h)
   unfolding outside
-  outside_past a low high (Unit16 e v) p = by_test (PastHex a) (ltb v low) (λ t. p) (λ t. by_test (PastHex a) (ltb high v) (λ u. p) (λ u. tt))
-  outside_past a low high (Bad e) p = tt
+  outside_past a low high (Ok (e, v)) p = by_test (PastHex a) (ltb v low) (λ t. p) (λ t. by_test (PastHex a) (ltb high v) (λ u. p) (λ u. tt))
+  outside_past a low high (Err e) p = tt
 
   inside_past : (a low high : ℕ) (h : Hex) → PastHex a h → PastHex a (within low high h)
   unfolding within
-  inside_past a low high (Unit16 e v) p = by_test (PastHex a) (ltb v low) (λ t. tt) (λ t. by_test (PastHex a) (ltb high v) (λ u. tt) (λ u. p))
-  inside_past a low high (Bad e) p = tt
+  inside_past a low high (Ok (e, v)) p = by_test (PastHex a) (ltb v low) (λ t. tt) (λ t. by_test (PastHex a) (ltb high v) (λ u. tt) (λ u. p))
+  inside_past a low high (Err e) p = tt
 
   -- one digit more
   step_past : (a : ℕ) (h : Hex) → PastHex a h → PastHex (suc a) (hex_step s h)
   step_past a h p = hex_past a h (from_hex a h p)
 
-  first_digit : (a : ℕ) → PastHex (suc a) (hex_step s (Unit16 a 0))
-  first_digit a = hex_past a (Unit16 a 0) (λ e v q. let z : e ≡ a = cc in omega arith)
+  first_digit : (a : ℕ) → PastHex (suc a) (hex_step s (Ok (a, 0)))
+  first_digit a = hex_past a (Ok (a, 0)) (λ e v q. let z : ◌≡◌ {A = ℕ × ℕ} (a, 0) (e, v) = cc in omega (arith, ap (λ (p : ℕ × ℕ). p.0) z))
 
   hex4_far : (a : ℕ) → PastHex (suc (suc (suc (suc a)))) (hex_at s a)
   hex4_far a =
@@ -101,16 +98,16 @@ module _ (s : List ℕ) where
       weaker a (suc (suc (suc (suc a)))) (omega arith) (low_hex_at s a)
       (step_past (suc (suc (suc a))) _ (step_past (suc (suc a)) _ (inside_past (suc (suc a)) 220 223 _ (step_past (suc a) _ (inside_past (suc a) 13 13 _ (first_digit a))))))
 
-  low_past : (a : ℕ) (r : Read) → ((e : ℕ) → r ≡ End e → a ≤ e) → PastHex a (low_from s r)
+  low_past : (a : ℕ) (r : Read) → ((e : ℕ) → r ≡ Ok e → a ≤ e) → PastHex a (low_from s r)
   unfolding low_from
-  low_past a (End e) h = weaker a e (h e refl) (low_hex_at s e) (low4_past e)
-  low_past a (Stop e) h = tt
-  low_past a (Deep e) h = tt
+  low_past a (Ok e) h = weaker a e (h e refl) (low_hex_at s e) (low4_past e)
+  low_past a (Err (Stop e)) h = tt
+  low_past a (Err (Deep e)) h = tt
 
   pair_past : (a : ℕ) (h : Hex) → PastHex a h → PastNext s a (pair_by h)
   unfolding pair_by
-  pair_past a (Unit16 e w) h = h
-  pair_past a (Bad e) h = tt
+  pair_past a (Ok (e, w)) h = h
+  pair_past a (Err e) h = tt
 
   -- a choice by an enum
   by_half : {A : Type 0} (P : A → Type 0) (b : Half) {x y z : A} → P x → P y → P z → P (elim b [ Whole ↦ x | High ↦ y | Refused ↦ z ])
@@ -120,27 +117,26 @@ module _ (s : List ℕ) where
 
   low_at_past : (a e : ℕ) → a ≤ e → PastHex a (low_at s e)
   low_at_past a e le =
-      let x = within_at s 92 92 (End e) in
-      let p1 = within_past 92 92 a (lit< tt) (End e) (λ d q. let z : d ≡ e = cc in omega arith) in
+      let x = within_at s 92 92 (Ok e) in
+      let p1 = within_past 92 92 a (lit< tt) (Ok e) (λ d q. let z : d ≡ e = cc in omega arith) in
       let p2 = within_past 117 117 (suc a) (lit< tt) x (from_past (suc a) x p1) in
       weaker a (suc (suc a)) (omega arith) (low_at s e) (low_past (suc (suc a)) (within_at s 117 117 x) (from_past (suc (suc a)) (within_at s 117 117 x) p2))
 
   unit_past : (a : ℕ) (h : Hex) → PastHex a h → PastNext s a (unit_by s h)
   unfolding unit_by
-  unit_past a (Unit16 e v) h = by_half (PastNext s a) (half_of v) h (pair_past a (low_at s e) (low_at_past a e h.0)) tt
-  unit_past a (Bad e) h = tt
+  unit_past a (Ok (e, v)) h = by_half (PastNext s a) (half_of v) h (pair_past a (low_at s e) (low_at_past a e h.0)) tt
+  unit_past a (Err e) h = tt
 
   -- a \u escape is four digits long at least
-  pub unit_far : (a e : ℕ) → going (escaped_at s a).read ≡ More e → a + 4 ≤ e
+  pub unit_far : (a e : ℕ) → going (escaped_at s a).read ≡ Continue e → a + 4 ≤ e
   unit_far a e h =
       let p = subst (PastNext s (suc (suc (suc (suc a))))) (escape_same s a ∙ h) (unit_past (suc (suc (suc (suc a)))) (hex_at s a) (hex4_far a)) in
       omega (arith, p.0)
 
   pub later : (a b : ℕ) → a ≤ b → (n : Next) → PastNext s b n → PastNext s a n
-  later a b le (More e) h = omega arith
-  later a b le (Done (End e)) h = omega arith
-  later a b le (Done (Stop e)) h = tt
-  later a b le (Done (Deep e)) h = tt
+  later a b le (Continue e) h = omega arith
+  later a b le (Break (Ok e)) h = omega arith
+  later a b le (Break (Err e)) h = tt
 
   escape_past : (at : ℕ) → PastNext s (suc at) (escape_by s at (byte s at))
   unfolding escape_by short_of
@@ -153,9 +149,8 @@ module _ (s : List ℕ) where
 
   going_past : (a : ℕ) (r : Read) → Past s a r → PastNext s a (going r)
   unfolding going
-  going_past a (End e) h = h
-  going_past a (Stop e) h = tt
-  going_past a (Deep e) h = tt
+  going_past a (Ok e) h = h
+  going_past a (Err e) h = tt
 
   -- the second byte of a character is at most 191
   second_small : (b : ℕ) → second_high b < 256
@@ -163,17 +158,16 @@ module _ (s : List ℕ) where
   second_small b = by_test (λ n. n < 256) (eqb b 237) (λ t. lit< tt) (λ t. by_test (λ n. n < 256) (eqb b 244) (λ u. lit< tt) (λ u. lit< tt))
 
   pub shorter : (a b : ℕ) → a ≤ b → (r : Read) → Past s b r → Past s a r
-  shorter a b le (End e) h = omega arith
-  shorter a b le (Stop e) h = tt
-  shorter a b le (Deep e) h = tt
+  shorter a b le (Ok e) h = omega arith
+  shorter a b le (Err e) h = tt
 
   wide_past : (at b : ℕ) → Past s (suc at) (wide_by s at b)
   unfolding wide_by
   wide_past at b =
       let P = Past s (suc at) in
-      let x = within_at s (second_low b) (second_high b) (End (at + 1)) in
+      let x = within_at s (second_low b) (second_high b) (Ok (at + 1)) in
       let y = within_at s 128 191 x in
-      let p1 = within_past (second_low b) (second_high b) (suc at) (second_small b) (End (at + 1)) (λ d q. let z : d ≡ at + 1 = cc in omega arith) in
+      let p1 = within_past (second_low b) (second_high b) (suc at) (second_small b) (Ok (at + 1)) (λ d q. let z : d ≡ at + 1 = cc in omega arith) in
       let p2 = within_past 128 191 (suc (suc at)) (lit< tt) x (from_past (suc (suc at)) x p1) in
       let p3 = within_past 128 191 (suc (suc (suc at))) (lit< tt) y (from_past (suc (suc (suc at))) y p2) in
       by_test P (ltb b 194) (λ t. tt) (λ t. by_test P (ltb 244 b) (λ t. tt) (λ t.

@@ -1,4 +1,7 @@
 -- A plain byte is a character by itself, a quote is the last one, and a name with its colon is the colon after a string. Assumes nothing.
+use Rattle.std.specs.Prelude.{Ok, Err}
+use Rattle.std.specs.declared.ops.ControlFlow.TheVariants.{Continue, Break}
+use Rattle.model.specs.Scan.{Read}
 use mathlib.Core.Path.{◌≡◌, refl}
 use mathlib.Core.List.{List}
 use mathlib.Core.Bool.{true, not, ◌&&◌}
@@ -6,9 +9,6 @@ use Prim.Native.Nat.{ℕ, ◌+◌, ◌<◌, ◌≤◌}
 use lib.ListN.{length}
 use lib.Dec.{ltb, leb, eqb}
 use borrow.Author.Tests.{ltb-true, leb-true, eqb-false, not-true, ne_eqb, eq-eqb, le-ltb}
-use Rattle.model.specs.declared.Read.{Read}
-use Rattle.model.specs.declared.Read.TheVariants.{End, Stop, Deep}
-use Rattle.model.specs.declared.Next.TheVariants.{More, Done}
 use Rattle.model.specs.Scan.{byte, spaces_at, and_then, then_read}
 use Rattle.model.specs.Strings.{char_by, string_at}
 use Rattle.model.specs.Json.{key_at}
@@ -33,14 +33,14 @@ plain_is b e =
     apart : (n : ℕ) → not (eqb b n) ≡ true → b ≡ n → ⊥
     apart n h = eqb-false b n (not-true (eqb b n) h)
 
-pub plain_next : (s : List ℕ) (at b : ℕ) → is_plain b ≡ true → char_by s at b ≡ More (at + 1)
+pub plain_next : (s : List ℕ) (at b : ℕ) → is_plain b ≡ true → char_by s at b ≡ Continue (at + 1)
 unfolding char_by
 plain_next s at b e =
     let p = plain_is b e in
     rw (char_by, ne_eqb _ _ p.2, ne_eqb _ _ p.3, le-ltb _ _ p.0, ascii_goes s at b p.1)
 
 -- a quote ends the characters
-pub quote_ends : (s : List ℕ) (at b : ℕ) → b ≡ 34 → char_by s at b ≡ Done (End (at + 1))
+pub quote_ends : (s : List ℕ) (at b : ℕ) → b ≡ 34 → char_by s at b ≡ Break (Ok (at + 1))
 unfolding char_by
 quote_ends s at b e = rw (char_by, eq-eqb _ _ e)
 
@@ -49,6 +49,5 @@ unfolding colon_at key_at then_read and_then
 colon_key s at = go (string_at s (spaces_at s at)).read refl
   where
     go : (r : Read) → (string_at s (spaces_at s at)).read ≡ r → colon_at s (string_at s (spaces_at s at)).read ≡ (key_at s at).read
-    go (End e) h = rw (colon_at, key_at, h)
-    go (Stop e) h = rw (colon_at, key_at, h)
-    go (Deep e) h = rw (colon_at, key_at, h)
+    go (Ok e) h = rw (colon_at, key_at, h)
+    go (Err e) h = rw (colon_at, key_at, h)

@@ -1,4 +1,9 @@
 -- The code's way with escapes and with characters of several bytes is that of the definitions. Assumes nothing.
+use Rattle.std.specs.Prelude.{Ok, Err}
+use Rattle.model.specs.declared.ReadError.TheVariants.{Stop, Deep}
+use Rattle.std.specs.declared.ops.ControlFlow.TheVariants.{Continue}
+use Rattle.model.specs.Scan.{Read}
+use Rattle.scan.specs.Units.{Hex}
 use mathlib.Core.Path.{◌≡◌, refl, sym, ap, subst, ◌∙◌}
 use mathlib.Core.List.{List, []}
 use mathlib.Core.Logic.{◌⊎◌, inl, inr}
@@ -7,11 +12,6 @@ use Prim.Native.Nat.{ℕ, ◌+◌, ◌*◌, ◌%◌, ◌<◌, ◌≤◌}
 use native.Mathlib.Omega.{arith}
 use lib.Dec.{ltb, eqb}
 use borrow.Author.Tests.{ltb-true, ltb-false, eqb-false, eqb-true, lt-ltb, le-ltb, ne_eqb}
-use Rattle.model.specs.declared.Read.{Read}
-use Rattle.model.specs.declared.Read.TheVariants.{End, Stop, Deep}
-use Rattle.model.specs.declared.Next.TheVariants.{More}
-use Rattle.scan.specs.declared.Hex.{Hex}
-use Rattle.scan.specs.declared.Hex.TheVariants.{Unit16, Bad}
 use Rattle.scan.specs.declared.Half.TheVariants.{Whole, High}
 use Rattle.model.specs.Scan.{byte, Parsed, within_at}
 use Rattle.model.specs.Strings.{Range, ◌to◌, in_range, is_first_half, ranges_at, form_at, plain_by, hex_of, stopped_at, digit_by, digit_from, digit_at, tested_from, tested, no_digits, unit_at, second_at, second_from, paired, escaped_from, escaped_at, going}
@@ -25,18 +25,18 @@ use Rattle.model.proofs.TextUtf8.{hex_digit_lem, Number, First, unit_is, not_ran
 -- ── digits ──
 -- what the digits read so far are
 abbrev pub parsed : Hex → Parsed ℕ
-parsed (Unit16 e v) = record { read = End e; tree = v }
-parsed (Bad e) = stopped_at e
+parsed (Ok (e, v)) = record { read = Ok e; tree = v }
+parsed (Err e) = stopped_at e
 
 abbrev BelowHex : ℕ → Hex → Type 0
-BelowHex n (Unit16 e v) = v < n
-BelowHex n (Bad e) = Unit
+BelowHex n (Ok (e, v)) = v < n
+BelowHex n (Err e) = Unit
 
 -- a test of the number so far, that it lies in a range or that it does not
 outside_same : (low high : ℕ) (h : Hex) → parsed (outside low high h) ≡ tested (λ (v : ℕ). not (in_range (low to high) v)) (parsed h)
 unfolding outside tested tested_from
-outside_same low high (Bad e) = refl
-outside_same low high (Unit16 e v) =
+outside_same low high (Err e) = refl
+outside_same low high (Ok (e, v)) =
     let f : ℕ → Bool = λ v. not (in_range (low to high) v) in
     split (ltb v low)
     (λ t. rw (outside, t) (sym (test_holds f e v (ap not (under_range (low to high) v (ltb-true v low t))))))
@@ -46,8 +46,8 @@ outside_same low high (Unit16 e v) =
 
 inside_same : (low high : ℕ) (h : Hex) → parsed (inside low high h) ≡ tested (in_range (low to high)) (parsed h)
 unfolding inside tested tested_from
-inside_same low high (Bad e) = refl
-inside_same low high (Unit16 e v) =
+inside_same low high (Err e) = refl
+inside_same low high (Ok (e, v)) =
     let f : ℕ → Bool = in_range (low to high) in
     split (ltb v low)
     (λ t. rw (inside, t) (sym (test_fails f e v (under_range (low to high) v (ltb-true v low t)))))
@@ -57,13 +57,13 @@ inside_same low high (Unit16 e v) =
 
 outside_below : (n low high : ℕ) (h : Hex) → BelowHex n h → BelowHex n (outside low high h)
 unfolding outside
-outside_below n low high (Bad e) b = tt
-outside_below n low high (Unit16 e v) b = split (ltb v low) (λ t. rw (outside, t) b) (λ t. split (ltb high v) (λ u. rw (outside, t, u) b) (λ u. rw (outside, t, u) tt))
+outside_below n low high (Err e) b = tt
+outside_below n low high (Ok (e, v)) b = split (ltb v low) (λ t. rw (outside, t) b) (λ t. split (ltb high v) (λ u. rw (outside, t, u) b) (λ u. rw (outside, t, u) tt))
 
 inside_below : (n low high : ℕ) (h : Hex) → BelowHex n h → BelowHex n (inside low high h)
 unfolding inside
-inside_below n low high (Bad e) b = tt
-inside_below n low high (Unit16 e v) b = split (ltb v low) (λ t. rw (inside, t) tt) (λ t. split (ltb high v) (λ u. rw (inside, t, u) tt) (λ u. rw (inside, t, u) b))
+inside_below n low high (Err e) b = tt
+inside_below n low high (Ok (e, v)) b = split (ltb v low) (λ t. rw (inside, t) tt) (λ t. split (ltb high v) (λ u. rw (inside, t, u) tt) (λ u. rw (inside, t, u) b))
 
 -- one number is a range of its own
 only : (n v : ℕ) → in_range (n to n) v ≡ eqb v n
@@ -77,23 +77,22 @@ unfolding tested tested_from
 tested_by f g h p = go p.read
   where
     go : (r : Read) → tested_from f p.tree r ≡ tested_from g p.tree r
-    go (End e) = rw (tested_from, h p.tree)
-    go (Stop e) = refl
-    go (Deep e) = refl
+    go (Ok e) = rw (tested_from, h p.tree)
+    go (Err e) = refl
 
 module _ (s : List ℕ) where
   -- sixteen bits hold four digits
   step_same : (h : Hex) → BelowHex 4096 h → parsed (hex_step s h) ≡ digit_at s (parsed h)
   unfolding hex_step hex_add digit_at digit_from digit_by
-  step_same (Bad e) b = refl
-  step_same (Unit16 e v) b =
+  step_same (Err e) b = refl
+  step_same (Ok (e, v)) b =
       let z : v % 4096 ≡ v = omega arith in
       split (eqb (hex_of (byte s e)) 16) (λ t. rw (hex_add, digit_by, t)) (λ t. rw (hex_add, digit_by, t, z))
 
   step_below : (n : ℕ) (h : Hex) → BelowHex n h → BelowHex (n * 16) (hex_step s h)
   unfolding hex_step hex_add
-  step_below n (Bad e) b = tt
-  step_below n (Unit16 e v) b =
+  step_below n (Err e) b = tt
+  step_below n (Ok (e, v)) b =
       let d : ℕ = hex_of (byte s e) in
       split (eqb d 16) (λ t. rw (hex_add, t) tt) (λ t. rw (hex_add, t) (omega (arith, hex_digit_lem (byte s e), eqb-false d 16 t)))
 
@@ -101,7 +100,7 @@ module _ (s : List ℕ) where
   pub unit_same : (at : ℕ) → parsed (hex_at s at) ≡ unit_at s at
   unit_same at =
       let f : ℕ → Bool = λ v. not (in_range (220 to 223) v) in
-      let h0 : Hex = Unit16 at 0 in
+      let h0 : Hex = Ok (at, 0) in
       let h1 : Hex = hex_step s h0 in
       let h2 : Hex = hex_step s h1 in
       let h3 : Hex = outside 220 223 h2 in
@@ -118,12 +117,12 @@ module _ (s : List ℕ) where
       outside_same 0 0 h5 ∙ tested_by (λ (v : ℕ). not (in_range (0 to 0) v)) (λ (v : ℕ). not (eqb v 0)) (λ v. ap not (only 0 v)) (parsed h5) ∙ ap (tested (λ (v : ℕ). not (eqb v 0))) q5
     where
       below : (h : Hex) (n : ℕ) → n ≤ 4096 → BelowHex n h → BelowHex 4096 h
-      below (Unit16 e v) n l b = omega arith
-      below (Bad e) n l b = tt
+      below (Ok (e, v)) n l b = omega arith
+      below (Err e) n l b = tt
 
   second_same : (at : ℕ) → parsed (low_hex_at s at) ≡ second_at s at
   second_same at =
-      let h0 : Hex = Unit16 at 0 in
+      let h0 : Hex = Ok (at, 0) in
       let h1 : Hex = hex_step s h0 in
       let h2 : Hex = inside 13 13 h1 in
       let h3 : Hex = hex_step s h2 in
@@ -141,17 +140,17 @@ module _ (s : List ℕ) where
       step_same h5 b5 ∙ ap (digit_at s) (step_same h4 (below h4 256 (omega arith) b4) ∙ ap (digit_at s) q4)
     where
       below : (h : Hex) (n : ℕ) → n ≤ 4096 → BelowHex n h → BelowHex 4096 h
-      below (Unit16 e v) n l b = omega arith
-      below (Bad e) n l b = tt
+      below (Ok (e, v)) n l b = omega arith
+      below (Err e) n l b = tt
 
   low_same : (r : Read) → parsed (low_from s r) ≡ second_from s r
   unfolding low_from second_from
-  low_same (End e) = second_same e
-  low_same (Stop e) = refl
-  low_same (Deep e) = refl
+  low_same (Ok e) = second_same e
+  low_same (Err (Stop e)) = refl
+  low_same (Err (Deep e)) = refl
 
-  pub second_half_same : (e : ℕ) → parsed (low_at s e) ≡ second_from s (within_at s 117 117 (within_at s 92 92 (End e)))
-  second_half_same e = low_same (within_at s 117 117 (within_at s 92 92 (End e)))
+  pub second_half_same : (e : ℕ) → parsed (low_at s e) ≡ second_from s (within_at s 117 117 (within_at s 92 92 (Ok e)))
+  second_half_same e = low_same (within_at s 117 117 (within_at s 92 92 (Ok e)))
 
   -- ── a \u escape ──
   pub high_half : (v : ℕ) → is_first_half v ≡ true → half_of v ≡ High
@@ -173,13 +172,13 @@ module _ (s : List ℕ) where
 
   pair_going : (v : ℕ) (h : Hex) → pair_by h ≡ going (paired v (parsed h)).read
   unfolding pair_by going paired
-  pair_going v (Unit16 e w) = refl
-  pair_going v (Bad e) = refl
+  pair_going v (Ok (e, w)) = refl
+  pair_going v (Err e) = refl
 
   unit_going : (h : Hex) → Number First (parsed h) → unit_by s h ≡ going (escaped_from s (parsed h)).read
   unfolding unit_by escaped_from going in_range
-  unit_going (Bad e) f = refl
-  unit_going (Unit16 e v) f = split (is_first_half v)
+  unit_going (Err e) f = refl
+  unit_going (Ok (e, v)) f = split (is_first_half v)
       (λ t. rw (unit_by, high_half v t, escaped_from, t) (pair_going v (low_at s e) ∙ ap (λ p. going (paired v p).read) (second_half_same e)))
       (λ t. rw (unit_by, whole_unit v t f, escaped_from, t))
 
@@ -195,7 +194,7 @@ module _ (s : List ℕ) where
   unfolding second_high
   high_bound b m n = rw (second_high, ne_eqb b 237 m, ne_eqb b 244 n)
 
-  wide_lead : (at : ℕ) {b : ℕ} {xs : List Range} → 128 ≤ b → Lead b xs → wide_by s at b ≡ ranges_at s xs (End (at + 1))
+  wide_lead : (at : ℕ) {b : ℕ} {xs : List Range} → 128 ≤ b → Lead b xs → wide_by s at b ≡ ranges_at s xs (Ok (at + 1))
   unfolding wide_by second_low second_high ranges_at
   wide_lead at k (one h) = absurd (omega arith)
   wide_lead at {b} k (two l h) = rw (wide_by, le-ltb b 194 l, le-ltb 244 b (omega arith), lt-ltb b 224 (omega arith), low_bound b (λ z. omega arith) (λ z. omega arith), high_bound b (λ z. omega arith) (λ z. omega arith))
@@ -217,10 +216,10 @@ module _ (s : List ℕ) where
       let x = lead_at b (ltb-false b 194 t) (ltb-false 244 b u) in
       wide_lead at k x.1 ∙ rw (rest_of_lem x.1)))
 
-  pub ascii_same : (at b : ℕ) → b < 128 → plain_by s at b ≡ End (at + 1)
+  pub ascii_same : (at b : ℕ) → b < 128 → plain_by s at b ≡ Ok (at + 1)
   unfolding form_at ranges_at
   ascii_same at b h = let l : Lead b [] = one (omega arith) in rw (rest_of_lem l)
 
-  pub ascii_goes : (at b : ℕ) → b < 128 → going (plain_by s at b) ≡ More (at + 1)
+  pub ascii_goes : (at b : ℕ) → b < 128 → going (plain_by s at b) ≡ Continue (at + 1)
   unfolding going
   ascii_goes at b h = ap going (ascii_same at b h)

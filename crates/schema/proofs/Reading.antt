@@ -1,8 +1,8 @@
 -- A text that is a schema, and one that is none. Assumes nothing.
+use Rattle.std.specs.Prelude.{Some, None}
 use mathlib.Core.Path.{◌≡◌, refl, sym, ap, ◌∙◌}
 use mathlib.Core.List.{List}
 use mathlib.Core.Bool.{Bool, true, false}
-use mathlib.Core.Option.{none, some}
 use Prim.Native.Nat.{ℕ, ◌<◌, ◌≤◌}
 use borrow.Author.Tests.{le-leb, lt-leb}
 use lib.ListN.{length}
@@ -21,12 +21,12 @@ some_schema : (j : Json) → is_some (schema_of j) ≡ schema_fits j
 unfolding schema_of
 some_schema j = split (schema_fits j) (λ e. rw (schema_of, e)) (λ e. rw (schema_of, e))
 
-taken : (j : Json) → schema_fits j ≡ true → schema_of j ≡ some (database_of j)
+taken : (j : Json) → schema_fits j ≡ true → schema_of j ≡ Some (database_of j)
 unfolding schema_of
 taken j h = rw (schema_of, h)
 
 module _ (s : List ℕ) where
-  refused : read_schema s ≡ none → EntriesRead s false blanks
+  refused : read_schema s ≡ None → EntriesRead s false blanks
   unfolding FewColumns
   refused h =
       record {
@@ -59,7 +59,7 @@ module _ (s : List ℕ) where
       read_good {r} {cells} l k =
           record {
             accepted = k.fits ∙ sym (ap is_some whole ∙ some_schema (tree_at s 0));
-            database = λ h. whole ∙ taken (tree_at s 0) (sym k.fits ∙ h) ∙ ap some (sym (k.database h));
+            database = λ h. whole ∙ taken (tree_at s 0) (sym k.fits ∙ h) ∙ ap Some (sym (k.database h));
             size = l;
             tables = k.tables;
             columns = k.columns;

@@ -1,8 +1,8 @@
 -- A schema's text read into entries, and the catalog that they make once they are written anew. Assumes nothing.
+use Rattle.std.specs.Prelude.{Option, Some, None}
 use mathlib.Core.Path.{◌≡◌, refl, sym, ap, subst, ◌∙◌}
 use mathlib.Core.Bool.{Bool, true, false}
 use mathlib.Core.List.{List}
-use mathlib.Core.Option.{Option, none, some}
 use Prim.Native.Nat.{ℕ}
 use lib.ListN.{length}
 use Rattle.model.specs.Base.{is_some}
@@ -17,9 +17,9 @@ use Rattle.catalog.specs.Tidied.{Readable}
 use Rattle.schema.specs.Schema.{EntriesRead, SchemaRead}
 use Rattle.schema.proofs.Members.{blanks}
 
-is_none : {A : Type 0} (o : Option A) → is_some o ≡ false → o ≡ none
-is_none none h = refl
-is_none (some a) h = absurd (clash true refl h)
+is_none : {A : Type 0} (o : Option A) → is_some o ≡ false → o ≡ None
+is_none None h = refl
+is_none (Some a) h = absurd (clash true refl h)
 
 module _ (s : List ℕ) (cells : List (List ℕ)) (r : Bool) (x : EntriesRead s r cells) where
   pub read_refused : r ≡ false → SchemaRead s false blanks
@@ -45,7 +45,7 @@ module _ (s : List ℕ) (cells : List (List ℕ)) (r : Bool) (x : EntriesRead s 
       read_tidied = record {
         refused = λ q. absurd (clash true refl q);
         blank = λ q. absurd (clash true refl q);
-        database = λ _. x.database e ∙ ap some (sym same);
+        database = λ _. x.database e ∙ ap Some (sym same);
         accepted = λ _. record {
           size = ap length t ∙ catalog_length (database_from cells) sound;
           same = ap catalog_of same ∙ sym t;

@@ -1,6 +1,5 @@
 -- A schema's text as the entries of a catalog. Assumes nothing: these are definitions.
-use Rattle.std.specs.Prelude.{ℕ, ◌≤◌, ◌<◌, ◌≡◌, Bool, true, false, ◌||◌, List, [], ◌∷◌, eqb, length, get_or, replicate}
-use Rattle.std.proofs.Math.Option.{none, some}
+use Rattle.std.specs.Prelude.{ℕ, ◌≤◌, ◌<◌, ◌≡◌, Bool, true, false, ◌||◌, List, [], ◌∷◌, eqb, length, get_or, replicate, Some, None}
 use Rattle.model.specs.Base.{every, is_some}
 use Rattle.model.specs.Json.{Json}
 use Rattle.model.specs.Catalog.{table_count, column_count, database_from, blank_entry}
@@ -30,14 +29,14 @@ pub record Filled (j : Json) (r : Bool) (entries : List (List ℕ)) : Type 0 whe
 -- what was read of a schema's text: whether it is accepted, and its entries, which have room for what they say even where it is not, and are else free there
 pub record EntriesRead (s : List ℕ) (r : Bool) (entries : List (List ℕ)) : Type 0 where
   pub accepted : r ≡ is_some (read_schema s)
-  pub database : r ≡ true → read_schema s ≡ some (database_from entries)
+  pub database : r ≡ true → read_schema s ≡ Some (database_from entries)
   pub size : length entries ≡ entry_count
   pub tables : table_count entries ≤ most_tables
   pub columns : (t : ℕ) → t < most_tables → column_count entries t ≤ most_columns
 
 -- and its catalog, all 0 where it is not
 pub record SchemaRead (s : List ℕ) (r : Bool) (catalog : List (List ℕ)) : Type 0 where
-  pub refused : r ≡ false → read_schema s ≡ none
+  pub refused : r ≡ false → read_schema s ≡ None
   pub blank : r ≡ false → catalog ≡ replicate entry_count blank_entry
-  pub database : r ≡ true → read_schema s ≡ some (database_from catalog)
+  pub database : r ≡ true → read_schema s ≡ Some (database_from catalog)
   pub accepted : r ≡ true → Accepted catalog

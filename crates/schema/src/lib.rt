@@ -12,7 +12,7 @@ ghost use Rattle.tables.specs.Tables.{TablesRead};
 ghost use Rattle.schema.specs.Schema.{rest_allowed, Filled, EntriesRead, SchemaRead};
 
 use members::Places;
-use model::{ATOM, Atom, Catalog, ENTRIES, ENTRY, Entry, Kind, Read, SCHEMA_TEXT, TABLES};
+use model::{ATOM, Atom, Catalog, ENTRIES, ENTRY, Entry, Kind, SCHEMA_TEXT, TABLES};
 
 // Whether the string in a slot is a version.
 fn version_in(text: &[u8], p: usize) -> bool
@@ -95,9 +95,8 @@ fn read_entries(text: &[u8], cells: &mut Catalog) -> bool
     let mut ends = [0u16; SCHEMA_TEXT];
     let r = json_reader::document(text, &mut ends);
     match r {
-        Read::End(_) => fill(text, &ends, cells),
-        Read::Stop(_) => false,
-        Read::Deep(_) => false,
+        Ok(_) => fill(text, &ends, cells),
+        Err(_) => false,
     }
 }
 

@@ -1,8 +1,8 @@
 -- The names of columns in a select: each known, none twice, and which are shown. Assumes nothing.
+use Rattle.std.specs.Prelude.{Option, Some, None}
 use mathlib.Core.Path.{◌≡◌, refl, sym, ap, ◌∙◌}
 use mathlib.Core.Bool.{Bool, true, false, not, ◌&&◌, ◌||◌}
 use mathlib.Core.List.{List, [], ◌∷◌, map}
-use mathlib.Core.Option.{Option, none, some}
 use Prim.Native.Nat.{ℕ, suc, ◌+◌, ◌≤◌, ◌<◌}
 use native.Mathlib.Omega.{arith}
 use borrow.Author.Tests.{eq-eqb, ne_eqb, eqb-true, eqb-false}
@@ -10,8 +10,6 @@ use lib.Dec.{eqb}
 use lib.ListN.{length, get_or, set, length-set, replicate, get_or-replicate}
 use lib.Seq.{get_or-set_same, get_or-set_other}
 use Rattle.model.specs.declared.Fault.TheVariants.{Fine, Syntax}
-use Rattle.model.specs.declared.Found.{Found}
-use Rattle.model.specs.declared.Found.TheVariants.{At, Nothing}
 use Rattle.model.specs.Octets.{eq_bytes}
 use Rattle.model.specs.Base.{any, all, member, distinct, is_some, ascii}
 use Rattle.model.specs.Json.{Json, null, bool, num, str, arr, obj}
@@ -26,7 +24,6 @@ use Rattle.model.specs.Catalog.{entry_name, column_from}
 use Rattle.model.proofs.Tests.{split, clash, bytes_same}
 use Rattle.nav.proofs.FirstByte.{items_in_lem}
 use Rattle.nav.proofs.Walk.{walk_rest, walk_end}
-use Rattle.catalog.specs.Entries.{found_at}
 use Rattle.conditions.specs.Lookup.{column_in}
 use Rattle.request_rows.specs.Assigned.{slotted}
 use Rattle.selection.specs.declared.Columns.{Columns}
@@ -39,8 +36,8 @@ all_fair cs show (j ∷ js) = fair_name cs show j && all_fair cs (with_name show
 
 -- whether all values of an array are strings; of no array all are
 unfoldable all_names : Option Json → Bool
-all_names none = true
-all_names (some j) = is_some (names_in (items_in j))
+all_names None = true
+all_names (Some j) = is_some (names_in (items_in j))
 
 -- ── strings of a list of values ──
 bytes_flip : (v w : List ℕ) → eq_bytes v w ≡ eq_bytes w v
@@ -50,7 +47,7 @@ bytes_flip v w =
     (λ e. split (eq_bytes w v) (λ f. let q : w ≡ v = bytes_same w v f in rw q) (λ f. e ∙ sym f))
 
 -- a string is a word where it is the same
-word_is : (j : Json) (t w : List ℕ) → string_in j ≡ some t → is_word w j ≡ eq_bytes w t
+word_is : (j : Json) (t w : List ℕ) → string_in j ≡ Some t → is_word w j ≡ eq_bytes w t
 unfolding is_word
 word_is null t w e = cc
 word_is (bool b) t w e = cc
@@ -60,13 +57,13 @@ word_is (arr xs) t w e = cc
 word_is (obj ms) t w e = cc
 
 -- the two sides of a value that is a string or not
-names_cons : (j : Json) (js : List Json) (t : List ℕ) → string_in j ≡ some t → {o : Option (List (List ℕ))} → names_in js ≡ o → names_in (j ∷ js) ≡ elim o [ none ↦ none | some l ↦ some (t ∷ l) ]
+names_cons : (j : Json) (js : List Json) (t : List ℕ) → string_in j ≡ Some t → {o : Option (List (List ℕ))} → names_in js ≡ o → names_in (j ∷ js) ≡ elim o [ None ↦ None | Some l ↦ Some (t ∷ l) ]
 names_cons j js t e f =
-    ap (λ (x : Option (List ℕ)). elim x [ none ↦ none | some w ↦ elim (names_in js) [ none ↦ none | some l ↦ some (w ∷ l) ] ]) e
-    ∙ ap (λ (x : Option (List (List ℕ))). elim x [ none ↦ none | some l ↦ some (t ∷ l) ]) f
+    ap (λ (x : Option (List ℕ)). elim x [ None ↦ None | Some w ↦ elim (names_in js) [ None ↦ None | Some l ↦ Some (w ∷ l) ] ]) e
+    ∙ ap (λ (x : Option (List (List ℕ))). elim x [ None ↦ None | Some l ↦ Some (t ∷ l) ]) f
 
-names_not : (j : Json) (js : List Json) → string_in j ≡ none → names_in (j ∷ js) ≡ none
-names_not j js e = ap (λ (x : Option (List ℕ)). elim x [ none ↦ none | some w ↦ elim (names_in js) [ none ↦ none | some l ↦ some (w ∷ l) ] ]) e
+names_not : (j : Json) (js : List Json) → string_in j ≡ None → names_in (j ∷ js) ≡ None
+names_not j js e = ap (λ (x : Option (List ℕ)). elim x [ None ↦ None | Some w ↦ elim (names_in js) [ None ↦ None | Some l ↦ Some (w ∷ l) ] ]) e
 
 -- ── each known, none twice ──
 abbrev known_name : List Column → List ℕ → Bool
@@ -105,14 +102,14 @@ module _ (cs : List Column) where
 
   -- what is read of a list of values: names, or that one is none
   data Listed (js : List Json) : Type 0 where
-    are : (l : List (List ℕ)) → names_in js ≡ some l → ((w : List ℕ) → any (is_word w) js ≡ member w l) → ((show : List ℕ → Bool) → all_fair cs show js ≡ (all (clear show) l && distinct l)) → Listed js
-    not_all : names_in js ≡ none → ((show : List ℕ → Bool) → all_fair cs show js ≡ false) → Listed js
+    are : (l : List (List ℕ)) → names_in js ≡ Some l → ((w : List ℕ) → any (is_word w) js ≡ member w l) → ((show : List ℕ → Bool) → all_fair cs show js ≡ (all (clear show) l && distinct l)) → Listed js
+    not_all : names_in js ≡ None → ((show : List ℕ → Bool) → all_fair cs show js ≡ false) → Listed js
 
-  fair_is : (show : List ℕ → Bool) (j : Json) {o : Option (List ℕ)} → string_in j ≡ o → fair_name cs show j ≡ elim o [ none ↦ false | some w ↦ clear show w ]
+  fair_is : (show : List ℕ → Bool) (j : Json) {o : Option (List ℕ)} → string_in j ≡ o → fair_name cs show j ≡ elim o [ None ↦ false | Some w ↦ clear show w ]
   unfolding fair_name
-  fair_is show j e = ap (λ (x : Option (List ℕ)). elim x [ none ↦ false | some w ↦ clear show w ]) e
+  fair_is show j e = ap (λ (x : Option (List ℕ)). elim x [ None ↦ false | Some w ↦ clear show w ]) e
 
-  clear_rest : (show : List ℕ → Bool) (j : Json) (t : List ℕ) → string_in j ≡ some t → (l : List (List ℕ)) → all (clear (with_name show j)) l ≡ (all (clear show) l && not (member t l))
+  clear_rest : (show : List ℕ → Bool) (j : Json) (t : List ℕ) → string_in j ≡ Some t → (l : List (List ℕ)) → all (clear (with_name show j)) l ≡ (all (clear show) l && not (member t l))
   unfolding with_name
   clear_rest show j t e [] = refl
   clear_rest show j t e (x ∷ l) =
@@ -126,14 +123,14 @@ module _ (cs : List Column) where
 
   listed_cons : (j : Json) (js : List Json) → (o : Option (List ℕ)) → string_in j ≡ o → Listed js → Listed (j ∷ js)
   unfolding all_fair
-  listed_cons j js none e r = not_all (names_not j js e) (λ show. ap (λ (b : Bool). b && all_fair cs (with_name show j) js) (fair_is show j e))
-  listed_cons j js (some t) e (are l f m a) =
+  listed_cons j js None e r = not_all (names_not j js e) (λ show. ap (λ (b : Bool). b && all_fair cs (with_name show j) js) (fair_is show j e))
+  listed_cons j js (Some t) e (are l f m a) =
       are (t ∷ l) (names_cons j js t e f) (λ w. λ i. word_is j t w e i || m w i)
       (λ show.
       (λ i. fair_is show j e i && a (with_name show j) i)
       ∙ ap (λ (b : Bool). clear show t && (b && distinct l)) (clear_rest show j t e l)
       ∙ and_apart (clear show t) (all (clear show) l) (not (member t l)) (distinct l))
-  listed_cons j js (some t) e (not_all f a) =
+  listed_cons j js (Some t) e (not_all f a) =
       not_all (names_cons j js t e f) (λ show. ap (λ (b : Bool). fair_name cs show j && b) (a (with_name show j)) ∙ and_false (fair_name cs show j))
 
   listed : (js : List Json) → Listed js
@@ -160,67 +157,65 @@ includes_is js w h = go (listed [] js)
 
 -- ── one name ──
 module _ (cs : List Column) (j : Json) (show : List ℕ → Bool) where
-  word_string : (w : List ℕ) → is_word w j ≡ true → string_in j ≡ some w
+  word_string : (w : List ℕ) → is_word w j ≡ true → string_in j ≡ Some w
   unfolding is_word
   word_string w h = go j h
     where
-      go : (k : Json) → is_word w k ≡ true → string_in k ≡ some w
+      go : (k : Json) → is_word w k ≡ true → string_in k ≡ Some w
       go null e = cc
       go (bool b) e = cc
       go (num n) e = cc
-      go (str s) e = ap some (bytes_same s w e)
+      go (str s) e = ap Some (bytes_same s w e)
       go (arr xs) e = cc
       go (obj ms) e = cc
 
   pub fair_id : {b : Bool} → b ≡ show (ascii "_uuid") → is_word (ascii "_uuid") j ≡ true → not b ≡ fair_name cs show j
   fair_id e h = ap not e ∙ sym (fair_is cs show j (word_string (ascii "_uuid") h))
 
-  string_not : (t : List ℕ) → string_in j ≡ some t → is_word (ascii "_uuid") j ≡ false → eq_bytes t (ascii "_uuid") ≡ false
+  string_not : (t : List ℕ) → string_in j ≡ Some t → is_word (ascii "_uuid") j ≡ false → eq_bytes t (ascii "_uuid") ≡ false
   string_not t e h = bytes_flip t (ascii "_uuid") ∙ sym (word_is j t (ascii "_uuid") e) ∙ h
 
   -- no column, and none of that name
-  found_not : (o : Option ℕ) → found_at o ≡ Nothing → is_some o ≡ false
-  unfolding found_at
-  found_not none e = refl
-  found_not (some i) e = cc
+  found_not : (o : Option ℕ) → o ≡ None → is_some o ≡ false
+  found_not None e = refl
+  found_not (Some i) e = cc
 
-  pub fair_unknown : is_word (ascii "_uuid") j ≡ false → {f : Found} → f ≡ found_at (column_in cs j) → f ≡ Nothing → false ≡ fair_name cs show j
+  pub fair_unknown : is_word (ascii "_uuid") j ≡ false → {f : Option ℕ} → f ≡ (column_in cs j) → f ≡ None → false ≡ fair_name cs show j
   fair_unknown h {f} e n = go (string_in j) refl
     where
       go : (o : Option (List ℕ)) → string_in j ≡ o → false ≡ fair_name cs show j
-      go none d = sym (fair_is cs show j d)
-      go (some t) d =
-          let u : found_at (column_named cs t) ≡ Nothing = sym (ap (λ (x : Option (List ℕ)). found_at (elim x [ none ↦ none | some w ↦ column_named cs w ])) d) ∙ sym e ∙ n in
+      go None d = sym (fair_is cs show j d)
+      go (Some t) d =
+          let u : (column_named cs t) ≡ None = sym (ap (λ (x : Option (List ℕ)). (elim x [ None ↦ None | Some w ↦ column_named cs w ])) d) ∙ sym e ∙ n in
           sym (fair_is cs show j d ∙ (λ i. (string_not t d h i || found_not (column_named cs t) u i) && not (show t)))
 
 -- the place of a name, and the name there
-place_name : (w : List ℕ) (cells : List (List ℕ)) (k : ℕ) → column_named (map column_from cells) w ≡ some k → (k < length cells) × (entry_name (get_or cells k []) ≡ w)
+place_name : (w : List ℕ) (cells : List (List ℕ)) (k : ℕ) → column_named (map column_from cells) w ≡ Some k → (k < length cells) × (entry_name (get_or cells k []) ≡ w)
 place_name w [] k e = let z : ◌≡◌ {A = ℕ} 0 1 = cc in absurd (omega arith)
 place_name w (x ∷ cells) k e = go (place_name w cells) (eq_bytes w (entry_name x)) refl (column_named (map column_from cells) w) refl e
   where
-    go : ((i : ℕ) → column_named (map column_from cells) w ≡ some i → (i < length cells) × (entry_name (get_or cells i []) ≡ w)) → (b : Bool) → eq_bytes w (entry_name x) ≡ b → (o : Option ℕ) → column_named (map column_from cells) w ≡ o
-        → elim b [ true ↦ some 0 | false ↦ elim o [ none ↦ none | some i ↦ some (suc i) ] ] ≡ some k → (k < suc (length cells)) × (entry_name (get_or (x ∷ cells) k []) ≡ w)
+    go : ((i : ℕ) → column_named (map column_from cells) w ≡ Some i → (i < length cells) × (entry_name (get_or cells i []) ≡ w)) → (b : Bool) → eq_bytes w (entry_name x) ≡ b → (o : Option ℕ) → column_named (map column_from cells) w ≡ o
+        → elim b [ true ↦ Some 0 | false ↦ elim o [ None ↦ None | Some i ↦ Some (suc i) ] ] ≡ Some k → (k < suc (length cells)) × (entry_name (get_or (x ∷ cells) k []) ≡ w)
     go rec true p o q r = let z : 0 ≡ k = cc in rw (← z) (omega arith, sym (bytes_same w (entry_name x) p))
-    go rec false p none q r = let z : ◌≡◌ {A = ℕ} 0 1 = cc in absurd (omega arith)
-    go rec false p (some i) q r =
+    go rec false p None q r = let z : ◌≡◌ {A = ℕ} 0 1 = cc in absurd (omega arith)
+    go rec false p (Some i) q r =
         let z : suc i ≡ k = cc in
         let d = rec i q in
         rw (← z) (omega (arith, d.0), d.1)
 
 module _ (cells : List (List ℕ)) (j : Json) where
-  found_at_lem : (o : Option ℕ) (k : ℕ) → found_at o ≡ At k → o ≡ some k
-  unfolding found_at
-  found_at_lem none k e = cc
-  found_at_lem (some i) k e = let z : i ≡ k = cc in rw z
+  found_at_lem : (o : Option ℕ) (k : ℕ) → o ≡ Some k → o ≡ Some k
+  found_at_lem None k e = cc
+  found_at_lem (Some i) k e = let z : i ≡ k = cc in rw z
 
-  module _ {f : Found} (e : f ≡ found_at (column_in (map column_from cells) j)) {k : ℕ} (a : f ≡ At k) where
+  module _ {f : Option ℕ} (e : f ≡ (column_in (map column_from cells) j)) {k : ℕ} (a : f ≡ Some k) where
     -- the string of a value that names a column
-    named_by : (w : List ℕ) × (string_in j ≡ some w) × (column_named (map column_from cells) w ≡ some k)
+    named_by : (w : List ℕ) × (string_in j ≡ Some w) × (column_named (map column_from cells) w ≡ Some k)
     named_by = go (string_in j) refl
       where
-        go : (o : Option (List ℕ)) → string_in j ≡ o → (w : List ℕ) × (string_in j ≡ some w) × (column_named (map column_from cells) w ≡ some k)
-        go none d = let z : ◌≡◌ {A = ℕ} 0 1 = cc (found_at_lem none k (sym (ap (λ (x : Option (List ℕ)). found_at (elim x [ none ↦ none | some w ↦ column_named (map column_from cells) w ])) d) ∙ sym e ∙ a)) in absurd (omega arith)
-        go (some t) d = (t, d, found_at_lem (column_named (map column_from cells) t) k (sym (ap (λ (x : Option (List ℕ)). found_at (elim x [ none ↦ none | some w ↦ column_named (map column_from cells) w ])) d) ∙ sym e ∙ a))
+        go : (o : Option (List ℕ)) → string_in j ≡ o → (w : List ℕ) × (string_in j ≡ Some w) × (column_named (map column_from cells) w ≡ Some k)
+        go None d = let z : ◌≡◌ {A = ℕ} 0 1 = cc (found_at_lem None k (sym (ap (λ (x : Option (List ℕ)). (elim x [ None ↦ None | Some w ↦ column_named (map column_from cells) w ])) d) ∙ sym e ∙ a)) in absurd (omega arith)
+        go (Some t) d = (t, d, found_at_lem (column_named (map column_from cells) t) k (sym (ap (λ (x : Option (List ℕ)). (elim x [ None ↦ None | Some w ↦ column_named (map column_from cells) w ])) d) ∙ sym e ∙ a))
 
     pub named_small : k < length cells
     named_small = (place_name named_by.0 cells k named_by.2).0
@@ -296,24 +291,24 @@ module _ (s : List ℕ) (cells : List (List ℕ)) where
   cs = map column_from cells
 
   -- the names before g are shown, and all are fair where the rest is
-  pub record Naming (all g : Found) (flags : List Bool) : Type 0 where
+  pub record Naming (all g : Option ℕ) (flags : List Bool) : Type 0 where
     pub show : List ℕ → Bool
     pub flagged : Flagged show cells flags
     pub fair : all_fair cs nothing (items_from s all) ≡ all_fair cs show (items_from s g)
     pub shown : (w : List ℕ) → among (items_from s all) w ≡ (show w || among (items_from s g) w)
 
-  pub naming_none : length cells ≤ 6 → (f : Found) → Naming f f (replicate 7 false)
+  pub naming_none : length cells ≤ 6 → (f : Option ℕ) → Naming f f (replicate 7 false)
   naming_none h f = record { show = nothing; flagged = flagged_all false cells h; fair = refl; shown = λ w. refl }
 
-  module _ {f g : Found} {flags : List Bool} (so : Naming f g flags) where
-    pub naming_end : g ≡ Nothing → ColumnsRead (shown_fault cs (names_in (items_from s f))) (among (items_from s f)) cells (record { fault = Fine; flags = flags })
+  module _ {f g : Option ℕ} {flags : List Bool} (so : Naming f g flags) where
+    pub naming_end : g ≡ None → ColumnsRead (shown_fault cs (names_in (items_from s f))) (among (items_from s f)) cells (record { fault = Fine; flags = flags })
     unfolding all_fair among
     naming_end h = record {
       fault = sym (fault_is cs (items_from s f) ∙ ap (λ (b : Bool). check b Syntax Fine) (so.fair ∙ ap (all_fair cs so.show) (walk_end s h)));
       flags = λ y. flagged_as (λ w. sym (so.shown w ∙ ap (λ (l : List Json). so.show w || any (is_word w) l) (walk_end s h) ∙ or_none (so.show w))) so.flagged;
     }
 
-    module _ {p : ℕ} (h : g ≡ At p) {ok : Bool} (e : ok ≡ fair_name cs so.show (tree_at s p)) where
+    module _ {p : ℕ} (h : g ≡ Some p) {ok : Bool} (e : ok ≡ fair_name cs so.show (tree_at s p)) where
       here : all_fair cs nothing (items_from s f) ≡ (ok && all_fair cs (with_name so.show (tree_at s p)) (items_from s (next_item s p)))
       unfolding all_fair
       here = so.fair ∙ ap (all_fair cs so.show) (walk_rest s h) ∙ ap (λ (b : Bool). b && all_fair cs (with_name so.show (tree_at s p)) (items_from s (next_item s p))) (sym e)
@@ -334,7 +329,7 @@ module _ (s : List ℕ) (cells : List (List ℕ)) where
       }
 
 -- ── the slot ──
-array_some : (j : Json) → is_array (kind_of j) ≡ true → array_in j ≡ some (items_in j)
+array_some : (j : Json) → is_array (kind_of j) ≡ true → array_in j ≡ Some (items_in j)
 unfolding kind_of items_in
 array_some null e = cc
 array_some (bool b) e = cc
@@ -343,7 +338,7 @@ array_some (str t) e = cc
 array_some (arr xs) e = refl
 array_some (obj ms) e = cc
 
-array_none : (j : Json) → is_array (kind_of j) ≡ false → array_in j ≡ none
+array_none : (j : Json) → is_array (kind_of j) ≡ false → array_in j ≡ None
 unfolding kind_of items_in
 array_none null e = refl
 array_none (bool b) e = refl
@@ -364,21 +359,21 @@ no_items (obj ms) e = refl
 -- columns without a fault are all names
 names_fine : (cs : List Column) (o : Option Json) → is_fine (columns_fault cs o) ≡ true → all_names o ≡ true
 unfolding all_names
-names_fine cs none h = refl
-names_fine cs (some j) h = split (is_array (kind_of j))
-    (λ k. go (names_in (items_in j)) refl (sym (ap (λ (x : Option (List Json)). is_fine (elim x [ none ↦ Syntax | some l ↦ shown_fault cs (names_in l) ])) (array_some j k)) ∙ h))
+names_fine cs None h = refl
+names_fine cs (Some j) h = split (is_array (kind_of j))
+    (λ k. go (names_in (items_in j)) refl (sym (ap (λ (x : Option (List Json)). is_fine (elim x [ None ↦ Syntax | Some l ↦ shown_fault cs (names_in l) ])) (array_some j k)) ∙ h))
     (λ k. ap (λ (l : List Json). is_some (names_in l)) (no_items j k))
   where
     go : (x : Option (List (List ℕ))) → names_in (items_in j) ≡ x → is_fine (shown_fault cs (names_in (items_in j))) ≡ true → is_some (names_in (items_in j)) ≡ true
-    go none e f = absurd (clash false (sym (ap (λ (y : Option (List (List ℕ))). is_fine (shown_fault cs y)) e) ∙ f) refl)
-    go (some l) e f = ap is_some e
+    go None e f = absurd (clash false (sym (ap (λ (y : Option (List (List ℕ))). is_fine (shown_fault cs y)) e) ∙ f) refl)
+    go (Some l) e f = ap is_some e
 
 module _ (s : List ℕ) {p : ℕ} where
-  slot_none : p ≡ 0 → slotted s p ≡ none
+  slot_none : p ≡ 0 → slotted s p ≡ None
   unfolding slotted
   slot_none h = rw (slotted, eq-eqb p 0 h)
 
-  slot_some : (p ≡ 0 → ⊥) → slotted s p ≡ some (tree_at s p)
+  slot_some : (p ≡ 0 → ⊥) → slotted s p ≡ Some (tree_at s p)
   unfolding slotted
   slot_some h = rw (slotted, ne_eqb p 0 h)
 
@@ -392,11 +387,11 @@ module _ (s : List ℕ) {p : ℕ} where
     unfolding all_names
     names_here = sym (ap all_names (slot_some h)) ∙ a
 
-    shows_is : (w : List ℕ) → shows (some (tree_at s p)) w ≡ among (items_in (tree_at s p)) w
+    shows_is : (w : List ℕ) → shows (Some (tree_at s p)) w ≡ among (items_in (tree_at s p)) w
     unfolding among
     shows_is w = split (is_array (kind_of (tree_at s p)))
-        (λ k. ap (λ (o : Option (List Json)). elim o [ none ↦ false | some l ↦ member w (names_or (names_in l)) ]) (array_some (tree_at s p) k) ∙ sym (includes_is (items_in (tree_at s p)) w names_here))
-        (λ k. ap (λ (o : Option (List Json)). elim o [ none ↦ false | some l ↦ member w (names_or (names_in l)) ]) (array_none (tree_at s p) k) ∙ sym (ap (any (is_word w)) (no_items (tree_at s p) k)))
+        (λ k. ap (λ (o : Option (List Json)). elim o [ None ↦ false | Some l ↦ member w (names_or (names_in l)) ]) (array_some (tree_at s p) k) ∙ sym (includes_is (items_in (tree_at s p)) w names_here))
+        (λ k. ap (λ (o : Option (List Json)). elim o [ None ↦ false | Some l ↦ member w (names_or (names_in l)) ]) (array_none (tree_at s p) k) ∙ sym (ap (any (is_word w)) (no_items (tree_at s p) k)))
 
     shown_some : (w : List ℕ) → among (items_in (tree_at s p)) w ≡ shows (slotted s p) w
     shown_some w = sym (ap (λ (o : Option Json). shows o w) (slot_some h) ∙ shows_is w)
@@ -410,10 +405,10 @@ module _ (s : List ℕ) {p : ℕ} where
     }
 
     module _ (h : p ≡ 0 → ⊥) {b : Bool} (e : b ≡ is_array (kind_of (tree_at s p))) where
-      fault_by : {o : Option (List Json)} → array_in (tree_at s p) ≡ o → columns_fault (map column_from cells) (slotted s p) ≡ elim o [ none ↦ Syntax | some l ↦ shown_fault (map column_from cells) (names_in l) ]
-      fault_by k = ap (columns_fault (map column_from cells)) (slot_some h) ∙ ap (λ (o : Option (List Json)). elim o [ none ↦ Syntax | some l ↦ shown_fault (map column_from cells) (names_in l) ]) k
+      fault_by : {o : Option (List Json)} → array_in (tree_at s p) ≡ o → columns_fault (map column_from cells) (slotted s p) ≡ elim o [ None ↦ Syntax | Some l ↦ shown_fault (map column_from cells) (names_in l) ]
+      fault_by k = ap (columns_fault (map column_from cells)) (slot_some h) ∙ ap (λ (o : Option (List Json)). elim o [ None ↦ Syntax | Some l ↦ shown_fault (map column_from cells) (names_in l) ]) k
 
-      pub columns_array : slot_well s p ≡ true → b ≡ true → {f : Found} → f ≡ first_of s 91 93 p → {r : Columns} → ColumnsRead (shown_fault (map column_from cells) (names_in (items_from s f))) (among (items_from s f)) cells r
+      pub columns_array : slot_well s p ≡ true → b ≡ true → {f : Option ℕ} → f ≡ first_of s 91 93 p → {r : Columns} → ColumnsRead (shown_fault (map column_from cells) (names_in (items_from s f))) (among (items_from s f)) cells r
           → ColumnsRead (columns_fault (map column_from cells) (slotted s p)) (shows (slotted s p)) cells r
       columns_array w k {f} ef {r} q =
           let items : items_from s f ≡ items_in (tree_at s p) = ap (items_from s) ef ∙ sym (items_in_lem s p (slot_well_lem h w)).0 in

@@ -1,6 +1,5 @@
 -- The columns that a select names. Assumes nothing: these are definitions.
-use Rattle.std.specs.Prelude.{ℕ, ◌+◌, ◌<◌, ◌≡◌, Bool, true, false, not, ◌&&◌, ◌||◌, List, [], eqb, length, get_or}
-use Rattle.std.proofs.Math.Option.{none, some}
+use Rattle.std.specs.Prelude.{ℕ, ◌+◌, ◌<◌, ◌≡◌, Bool, true, false, not, ◌&&◌, ◌||◌, List, [], eqb, length, get_or, Some, None}
 use Rattle.model.specs.Octets.{eq_bytes}
 use Rattle.model.specs.Base.{any, is_some, ascii}
 use Rattle.model.specs.Json.{Json}
@@ -23,7 +22,7 @@ among js w = any (is_word w) js
 
 -- a value names "_uuid" or a column, and is not shown yet: "each a column of the table or "_uuid", none twice"
 unfoldable pub fair_name : List Column → (List ℕ → Bool) → Json → Bool
-fair_name cs show j = elim (string_in j) [ none ↦ false | some w ↦ (eq_bytes w (ascii "_uuid") || is_some (column_named cs w)) && not (show w) ]
+fair_name cs show j = elim (string_in j) [ None ↦ false | Some w ↦ (eq_bytes w (ascii "_uuid") || is_some (column_named cs w)) && not (show w) ]
 
 -- what is shown with one name more
 unfoldable pub with_name : (List ℕ → Bool) → Json → List ℕ → Bool

@@ -18,7 +18,7 @@ ghost use Rattle.selection.specs.Most.{picked_most, rows_most, result_most};
 ghost use Rattle.selection.specs.Picks.{same_from, same_by, repeated, picked_from, Selected};
 ghost use Rattle.selection.specs.Shown.{slot_well, among, fair_name, with_name, Flagged, ColumnsRead};
 
-use model::{Catalog, Entry, Fault, Found, Kind, ROWS, Row};
+use model::{Catalog, Entry, Fault, Kind, ROWS, Row};
 use projection::SHOWN;
 
 // What the columns of a select come to: how they are judged, and flags of what is shown, "_uuid" and each column. After a fault
@@ -34,14 +34,13 @@ fn is_fair(text: &[u8], at: usize, columns: &[Entry], flags: &[bool; SHOWN]) -> 
     requires { length columns.now ≤ most_columns }
     ensures { (show : List ℕ → Bool) → Flagged show columns.now flags.now → result ≡ fair_name (map column_from columns.now) show (tree_at text.now at) }
 {
-    let id = text::is_word(text, at, b"_uuid");
-    if id {
+    if text::is_word(text, at, b"_uuid") {
         return !flags[0];
     }
     let f = conditions::lookup::column_at(text, at, columns);
     match f {
-        Found::At(c) => !flags[c + 1],
-        Found::Nothing => false,
+        Some(c) => !flags[c + 1],
+        None => false,
     }
 }
 
@@ -53,44 +52,36 @@ fn with_name(text: &[u8], at: usize, columns: &[Entry], flags: [bool; SHOWN]) ->
     let mut more = flags;
     let id = text::is_word(text, at, b"_uuid");
     more[0] = id | flags[0];
-    let mut c = 0;
-    while c < columns.len() {
-        let same = text::is_word(text, at, catalog::name_of(&columns[c]));
+    for (c, column) in columns.iter().enumerate() {
+        let same = text::is_word(text, at, catalog::name_of(column));
         more[c + 1] = same | flags[c + 1];
-        c += 1;
     }
     more
 }
 
 // What the names from f on come to.
-fn names_at(text: &[u8], ends: &[u16], columns: &[Entry], f: Found) -> Columns
+fn names_at(text: &[u8], ends: &[u16], columns: &[Entry], f: Option<usize>) -> Columns
     requires says { Says text.now ends.now }
     requires columns_len_bound { length columns.now ≤ most_columns }
     ensures { ColumnsRead (shown_fault (map column_from columns.now) (names_in (items_from text.now f))) (among (items_from text.now f)) columns.now result }
 {
     let mut flags = [false; SHOWN];
     let mut g = f;
-    loop {
-        match g {
-            Found::At(p) => {
-                let ok = is_fair(text, p, columns, &flags);
-                if !ok {
-                    return Columns {
-                        fault: Fault::Syntax,
-                        flags: flags,
-                    };
-                }
-                let more = with_name(text, p, columns, flags);
-                flags = more;
-                g = nav::next_item(text, ends, p);
-            }
-            Found::Nothing => {
-                return Columns {
-                    fault: Fault::Fine,
-                    flags: flags,
-                };
-            }
+    while let Some(p) = g {
+        let ok = is_fair(text, p, columns, &flags);
+        if !ok {
+            return Columns {
+                fault: Fault::Syntax,
+                flags: flags,
+            };
         }
+        let more = with_name(text, p, columns, flags);
+        flags = more;
+        g = nav::next_item(text, ends, p);
+    }
+    Columns {
+        fault: Fault::Fine,
+        flags: flags,
     }
 }
 
@@ -124,11 +115,7 @@ fn differ(show: bool, x: &Row, y: &Row, c: usize) -> bool
     requires { c < most_columns }
     ensures { result ≡ not (not show || same_value (value_in c x.now) (value_in c y.now)) }
 {
-    if show {
-        let same = rows::same_column(x, y, c);
-        return !same;
-    }
-    false
+    show && !rows::same_column(x, y, c)
 }
 
 // Whether two rows have the same values for the first k columns, of those that are shown.
@@ -136,30 +123,21 @@ fn same_columns(x: &Row, y: &Row, flags: &[bool; SHOWN], k: usize) -> bool
     requires { k ≤ most_columns }
     ensures { result ≡ same_from flags.now x.now y.now 0 k }
 {
-    let mut c = 0;
-    while c < k {
-        let d = differ(flags[c + 1], x, y, c);
-        if d {
+    for c in 0..k {
+        if differ(flags[c + 1], x, y, c) {
             return false;
         }
-        c += 1;
     }
     true
 }
 
 // Whether two rows show the same.
+#[tactic(auto, unfolding(crate::specs::Picks::same_by))]
 fn same_shown(x: &Row, y: &Row, flags: &[bool; SHOWN], k: usize) -> bool
     requires { k ≤ most_columns }
     ensures { result ≡ same_by flags.now k x.now y.now }
 {
-    if flags[0] {
-        let same = rows::same_id(x, y);
-        if same {
-            return same_columns(x, y, flags, k);
-        }
-        return false;
-    }
-    same_columns(x, y, flags, k)
+    (!flags[0] || rows::same_id(x, y)) && same_columns(x, y, flags, k)
 }
 
 // The same, of a row y that is marked.
@@ -167,10 +145,7 @@ fn same_marked(mark: bool, x: &Row, y: &Row, flags: &[bool; SHOWN], k: usize) ->
     requires { k ≤ most_columns }
     ensures { result ≡ (mark && same_by flags.now k x.now y.now) }
 {
-    if mark {
-        return same_shown(x, y, flags, k);
-    }
-    false
+    mark && same_shown(x, y, flags, k)
 }
 
 // Whether a marked row before the one at i shows the same.
@@ -178,11 +153,8 @@ fn repeats(rows: &[Row], marks: &[bool; ROWS], i: usize, flags: &[bool; SHOWN], 
     requires { (i < length rows.now) × (i < most_rows) × (k ≤ most_columns) }
     ensures { result ≡ repeated flags.now k marks.now rows.now (get_or rows.now i []) i }
 {
-    let mut j = i;
-    while 0 < j {
-        j -= 1;
-        let same = same_marked(marks[j], &rows[i], &rows[j], flags, k);
-        if same {
+    for j in (0..i).rev() {
+        if same_marked(marks[j], &rows[i], &rows[j], flags, k) {
             return true;
         }
     }
@@ -203,11 +175,11 @@ fn put_picked(
     requires { (at + picked_most < 2 ^ 64) × (table < most_tables) × (column_count schema.now table ≤ most_columns) }
     ensures { Put picked_most out.old at (shown_text pick first (row_shown schema.now table row.now flags.now)) result out.new }
 {
-    if pick {
-        let r = json_writer::put_comma(out, at, first);
-        return projection::put_row(out, r, schema, table, row, flags);
+    if !pick {
+        return at;
     }
-    at
+    let r = json_writer::put_comma(out, at, first);
+    projection::put_row(out, r, schema, table, row, flags)
 }
 
 // The objects of the rows that are answered.
@@ -228,13 +200,11 @@ fn put_rows(
     let k = columns.len();
     let mut first = true;
     let mut r = at;
-    let mut i = 0;
-    while i < rows.len() {
+    for (i, row) in rows.iter().enumerate() {
         let again = repeats(rows, marks, i, flags, k);
         let pick = marks[i] & !again;
-        r = put_picked(out, r, pick, first, schema, table, &rows[i], flags);
+        r = put_picked(out, r, pick, first, schema, table, row, flags);
         first = !pick & first;
-        i += 1;
     }
     r
 }

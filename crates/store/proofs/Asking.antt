@@ -1,11 +1,10 @@
 -- A request's refusals before it is run. Assumes nothing.
+use Rattle.std.specs.Prelude.{Option, Some, None}
 use mathlib.Core.Path.{◌≡◌, refl, sym, ap, ◌∙◌}
 use mathlib.Core.Bool.{Bool, true, false}
 use mathlib.Core.List.{List, []}
-use mathlib.Core.Option.{Option, none, some}
 use Prim.Native.Nat.{ℕ}
 use lib.ListN.{length, get_or}
-use Rattle.model.specs.declared.Found.TheVariants.{Nothing}
 use Rattle.model.specs.declared.Status.TheVariants.{Accepted, BadRequest, OtherDatabase, BadFreshIds}
 use Rattle.model.specs.Octets.{eq_bytes}
 use Rattle.model.specs.Base.{is_some}
@@ -28,9 +27,9 @@ use Rattle.request.specs.Reading.{RequestRead}
 use Rattle.fresh.specs.Fresh.{fresh_good}
 use Rattle.store.specs.Replying.{transact_on, concluded_of, reply_on, Asked}
 
-is_none : {A : Type 0} (o : Option A) → is_some o ≡ false → o ≡ none
-is_none none h = refl
-is_none (some a) h = absurd (clash true refl h)
+is_none : {A : Type 0} (o : Option A) → is_some o ≡ false → o ≡ None
+is_none None h = refl
+is_none (Some a) h = absurd (clash true refl h)
 
 word_is : (w : List ℕ) (j : Json) → is_text (kind_of j) ≡ true → is_word w j ≡ eq_bytes (text_in j) w
 unfolding kind_of is_word text_in
@@ -49,7 +48,7 @@ module _ (cells : List (List ℕ)) (n : ℕ) (before : List (List (List ℕ))) (
   unfolding reply_on
   bad h number room = ap (reply_to (database_from cells) number rows (fresh_ids fresh) room) (is_none (read_request request) (sym read.accepted ∙ h))
 
-  pub asked_bad : q.fits ≡ false → Asked cells n before request fresh ends q.count (record { runs = false; status = BadRequest; ops = Nothing })
+  pub asked_bad : q.fits ≡ false → Asked cells n before request fresh ends q.count (record { runs = false; status = BadRequest; ops = None })
   asked_bad h = record {
     refuses = λ t. refl;
     refused = λ t. bad h;
@@ -72,7 +71,7 @@ module _ (cells : List (List ℕ)) (n : ℕ) (before : List (List (List ℕ))) (
     same_name : {b : Bool} → is_word (entry_name (get_or cells 0 [])) (tree_at request q.name) ≡ b → eq_bytes (text_in (tree_at request q.name)) (entry_name (get_or cells 0 [])) ≡ b
     same_name e = sym (word_is (entry_name (get_or cells 0 [])) (tree_at request q.name) (read.named h)) ∙ e
 
-    pub asked_other : is_word (entry_name (get_or cells 0 [])) (tree_at request q.name) ≡ false → Asked cells n before request fresh ends q.count (record { runs = false; status = OtherDatabase; ops = Nothing })
+    pub asked_other : is_word (entry_name (get_or cells 0 [])) (tree_at request q.name) ≡ false → Asked cells n before request fresh ends q.count (record { runs = false; status = OtherDatabase; ops = None })
     asked_other w = record {
       refuses = λ t. refl;
       refused = λ t number room. reads number room ∙ other number room;
@@ -100,7 +99,7 @@ module _ (cells : List (List ℕ)) (n : ℕ) (before : List (List (List ℕ))) (
       unfolding fresh_good
       stale g number room = by_test (λ (r : Reply). r ≡ refused BadFreshIds rows) (ids_good (fresh_ids fresh) rows) (λ t. absurd (clash _ t g)) (λ t. refl)
 
-      pub asked_fresh : fresh_good fresh rows ≡ false → Asked cells n before request fresh ends q.count (record { runs = false; status = BadFreshIds; ops = Nothing })
+      pub asked_fresh : fresh_good fresh rows ≡ false → Asked cells n before request fresh ends q.count (record { runs = false; status = BadFreshIds; ops = None })
       asked_fresh g = record {
         refuses = λ t. refl;
         refused = λ t number room. goes number room ∙ stale g number room;

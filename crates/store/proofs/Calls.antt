@@ -1,8 +1,8 @@
 -- The calls of a store, by the tests that the code makes. Assumes nothing.
+use Rattle.std.specs.Prelude.{Option, Some, None}
 use mathlib.Core.Path.{◌≡◌, refl, sym, ap, ◌∙◌}
 use mathlib.Core.Bool.{Bool, true, false, ◌&&◌}
 use mathlib.Core.List.{List, ◌++◌, append-nil}
-use mathlib.Core.Option.{Option, none, some}
 use Prim.Native.Nat.{ℕ, zero, suc, ◌-◌, ◌≤◌, ◌<◌}
 use native.Mathlib.Omega.{arith}
 use borrow.Author.Tests.{eq-eqb, ne_eqb, le-leb, lt-leb}
@@ -44,11 +44,11 @@ module _ (area schema : List ℕ) (run : ℕ) where
   start_length h = starts (record { status = WrongLength; area = area }) (rw (ne_eqb (length area) store_bytes h, start_as))
 
   module _ (size : length area ≡ store_bytes) where
-    pub start_schema : read_schema schema ≡ none → Starts BadSchema area
+    pub start_schema : read_schema schema ≡ None → Starts BadSchema area
     unfolding store_start
     start_schema h = starts (record { status = BadSchema; area = area }) (rw (eq-eqb (length area) store_bytes size, start_as, h))
 
-    pub start_made : (d : Database) (cells : List (List (List ℕ))) (after : List ℕ) → read_schema schema ≡ some d → after ≡ encode_store (store_in d run 0 0 cells) ++ drop store_bytes area → Starts Accepted after
+    pub start_made : (d : Database) (cells : List (List (List ℕ))) (after : List ℕ) → read_schema schema ≡ Some d → after ≡ encode_store (store_in d run 0 0 cells) ++ drop store_bytes area → Starts Accepted after
     unfolding store_start store_in working
     start_made d cells after h w =
         let made = encode_store (new_store run d) in
@@ -90,15 +90,15 @@ module _ (area out : List ℕ) where
       unfolding picked
       on o e = marked true true (eq-eqb (length area) store_bytes size) (le-leb 9 (length out) long) ∙ ap (mark_on out) e
 
-      pub mark_disordered : store_of area ≡ none → Marks Disordered (replicate (length out) 0)
-      mark_disordered h = marks (mark_on out none) (on none h)
+      pub mark_disordered : store_of area ≡ None → Marks Disordered (replicate (length out) 0)
+      mark_disordered h = marks (mark_on out None) (on None h)
 
       pub mark_made : (cells : List (List ℕ)) (rows : List (List (List ℕ))) → Held area cells rows → (m : Mark) (run number : ℕ) → m ≡ mark_of run number → run ≡ run_in area → number ≡ number_in area
           → (before after : List ℕ) → before ≡ replicate (length out) 0 → Wrote (mark_record m) 9 before after → Marks Accepted after
       unfolding store_in
       mark_made cells rows k m run number p q r before after z w =
           let st = store_in (database_from cells) (run_in area) (number_in area) (row_count area) rows in
-          let y = marks (mark_on out (some st)) (on (some st) k.store) in
+          let y = marks (mark_on out (Some st)) (on (Some st) k.store) in
           let b = encode (mark (run_in area) (number_in area)) in
           let same : encode (mark_record m) ≡ b = ap (λ (x : Mark). encode (mark_record x)) p ∙ (λ i. encode (mark (q i) (r i))) in
           let n : length b ≡ 9 = ap length (sym same) ∙ w.size in

@@ -1,4 +1,5 @@
 -- A transaction's end: the commit, and the answer's text with it. Assumes nothing.
+use Rattle.std.specs.Prelude.{Option}
 use mathlib.Core.Path.{◌≡◌, refl, sym, ap, subst, ◌∙◌}
 use mathlib.Core.Bool.{Bool, true, false}
 use mathlib.Core.List.{List, [], ◌∷◌, ◌++◌}
@@ -9,7 +10,6 @@ use Rattle.model.specs.Limits.{most_operations, fresh_bytes}
 use Rattle.model.specs.Base.{all}
 use Rattle.model.specs.Catalog.{packed_tables, database_from}
 use Rattle.model.specs.Members.{members_in}
-use Rattle.model.specs.declared.Found.{Found}
 use Rattle.model.specs.declared.Fault.{Fault}
 use Rattle.model.specs.declared.Fault.TheVariants.{Fine}
 use Rattle.inner.specs.Positions.{is_nothing, items_from}
@@ -99,18 +99,18 @@ module _ {s : Schema} {n : ℕ} {entry exit : List (List (List ℕ))} {c : Settl
         }
 
 -- ── the operations run by the table of uuid-names ──
-filled_run : (s : Schema) (text : List ℕ) (ops : Found) (fresh names : List ℕ) (rows : List Row) → Filled text ops fresh names → run_whole s text ops names rows ≡ run_on s text ops fresh rows
+filled_run : (s : Schema) (text : List ℕ) (ops : Option ℕ) (fresh names : List ℕ) (rows : List Row) → Filled text ops fresh names → run_whole s text ops names rows ≡ run_on s text ops fresh rows
 unfolding run_whole run_on
 filled_run s text ops fresh names rows t =
     ap (λ (f : Names). run_all s f [] (fresh_ids names) rows (operations_at text ops)) (filled_names t)
     ∙ ap (λ (ids : List ℕ). run_all s (names_of (fresh_ids fresh) (operations_at text ops)) [] ids rows (operations_at text ops)) t.ids
 
-pub filled_all : (s : Schema) (text : List ℕ) (ops : Found) (fresh names : List ℕ) (rows : List Row) → Filled text ops fresh names → {n : ℕ} {entry mid : List (List (List ℕ))} {before answer : List ℕ} {q : Finish}
+pub filled_all : (s : Schema) (text : List ℕ) (ops : Option ℕ) (fresh names : List ℕ) (rows : List Row) → Filled text ops fresh names → {n : ℕ} {entry mid : List (List (List ℕ))} {before answer : List ℕ} {q : Finish}
     → RunAll s (run_whole s text ops names rows) n entry mid before answer q → RunAll s (run_on s text ops fresh rows) n entry mid before answer q
 filled_all s text ops fresh names rows t {n} {entry} {mid} {before} {answer} {q} r = subst (λ (d : model.Ran). RunAll s d n entry mid before answer q) (filled_run s text ops fresh names rows t) r
 
 -- ── the operations leave rows in order ──
-module _ (cells : List (List ℕ)) (ok : Accepted cells) (text : List ℕ) (ops : Found) (fresh : List ℕ) (few : length (items_from text ops) ≤ most_operations) (size : length fresh ≡ fresh_bytes) (bytes : all octet fresh ≡ true) where
+module _ (cells : List (List ℕ)) (ok : Accepted cells) (text : List ℕ) (ops : Option ℕ) (fresh : List ℕ) (few : length (items_from text ops) ≤ most_operations) (size : length fresh ≡ fresh_bytes) (bytes : all octet fresh ≡ true) where
   run_sorted : (rows : List Row) → Sure (packed_tables cells) text ops fresh rows → is_fine (run_on (packed_tables cells) text ops fresh rows).fault ≡ true → Sorted (run_on (packed_tables cells) text ops fresh rows).rows
   unfolding run_on operations_at
   run_sorted rows sure f =
@@ -124,7 +124,7 @@ module _ (cells : List (List ℕ)) (ok : Accepted cells) (text : List ℕ) (ops 
       sorted_ordered (packed_tables cells) q.count mid h (subst Sorted (sym (ran.rows f)) (run_sorted (working (packed_tables cells) n entry) sure (ap is_fine (sym ran.fault) ∙ f)))
 
 -- ── the whole transaction ──
-module _ (s : Schema) (text : List ℕ) (ops : Found) (fresh : List ℕ) (rows : List Row) where
+module _ (s : Schema) (text : List ℕ) (ops : Option ℕ) (fresh : List ℕ) (rows : List Row) where
   abbrev whole : model.Ran
   whole = run_on s text ops fresh rows
 
@@ -151,7 +151,7 @@ module _ (s : Schema) (rows : List Row) (r : model.Ran) where
       by_test (λ (t : model.Transaction). t ≡ record { commits = false; rows = rows; text = bracketed (r.results ++ error_text (committed s r.rows).fault ∷ []) }) (is_fine (committed s r.rows).fault)
       (λ t. absurd (clash _ t h)) (λ t. refl)
 
-module _ (s : Schema) (text : List ℕ) (ops : Found) (fresh : List ℕ) (n : ℕ) (entry : List (List (List ℕ))) {mid : List (List (List ℕ))} {before answer : List ℕ} {q : Finish}
+module _ (s : Schema) (text : List ℕ) (ops : Option ℕ) (fresh : List ℕ) (n : ℕ) (entry : List (List (List ℕ))) {mid : List (List (List ℕ))} {before answer : List ℕ} {q : Finish}
     (ran : RunAll s (run_on s text ops fresh (working s n entry)) n entry mid before answer q) (kept : length mid ≡ length entry) where
   abbrev run : model.Ran
   run = run_on s text ops fresh (working s n entry)

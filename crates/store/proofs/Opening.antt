@@ -1,8 +1,8 @@
 -- The store of an area, by the tests that the code makes one after another. Assumes nothing.
+use Rattle.std.specs.Prelude.{Some, None}
 use mathlib.Core.Path.{◌≡◌, refl, sym, ap, ◌∙◌}
 use mathlib.Core.Bool.{Bool, true, false, ◌&&◌}
 use mathlib.Core.List.{List}
-use mathlib.Core.Option.{none, some}
 use Prim.Native.Nat.{ℕ, ◌≤◌}
 use native.Mathlib.Omega.{arith}
 use lib.ListN.{length, take, drop}
@@ -29,14 +29,14 @@ use Rattle.store.specs.GoodOrder.{run_in, Kept, RowsOpened, Opened}
 
 -- ── an area in no good order ──
 module _ (a : List ℕ) (cells : List (List ℕ)) (before rows : List (List (List ℕ))) where
-  none_opened : store_of a ≡ none → length rows ≡ length before → RowsOpened a cells before rows false
+  none_opened : store_of a ≡ None → length rows ≡ length before → RowsOpened a cells before rows false
   none_opened h g = record { good = λ e. absurd (clash false e refl); bad = λ e. h; room = g }
 
   -- of another length, and with a catalog that is not accepted
-  pub opened_other : (length a ≡ store_bytes → ⊥) → store_of a ≡ none → Opened a cells cells before before false
+  pub opened_other : (length a ≡ store_bytes → ⊥) → store_of a ≡ None → Opened a cells cells before before false
   opened_other n h = record { good = λ e. absurd (clash false e refl); bad = λ e. h; untouched = λ t. (refl, refl); read = λ t. absurd (n t); room = refl }
 
-  pub opened_refused : length a ≡ store_bytes → (catalog : List (List ℕ)) → catalog ≡ entries_in a → store_of a ≡ none → Opened a cells catalog before before false
+  pub opened_refused : length a ≡ store_bytes → (catalog : List (List ℕ)) → catalog ≡ entries_in a → store_of a ≡ None → Opened a cells catalog before before false
   opened_refused l catalog q h = record { good = λ e. absurd (clash false e refl); bad = λ e. h; untouched = λ t. absurd (t l); read = λ t. q; room = refl }
 
   pub opened_rows : length a ≡ store_bytes → (catalog : List (List ℕ)) → catalog ≡ entries_in a → {r : Bool} → RowsOpened a catalog before rows r → Opened a cells catalog before rows r
@@ -91,7 +91,7 @@ module _ (a : List ℕ) (cells : List (List ℕ)) (x : Kept a cells) (size : len
               record {
                 good = λ _. record {
                   size = size;
-                  store = is ∙ rw (passed, m, l) (ap some store_here);
+                  store = is ∙ rw (passed, m, l) (ap Some store_here);
                   accepted = cells_accepted a cells x;
                   few = holds.few;
                   tidy = rw (ap packed.packed_tables x.there, front) holds.tidy;

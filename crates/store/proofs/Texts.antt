@@ -1,11 +1,10 @@
 -- The answer's text: results with commas between them, one more after them, and the brackets. Assumes nothing.
+use Rattle.std.specs.Prelude.{Option, Some, None}
 use mathlib.Core.Path.{◌≡◌, refl, sym, ap, ◌∙◌}
 use mathlib.Core.Bool.{Bool, true, false}
 use mathlib.Core.List.{List, [], ◌∷◌, ◌++◌, map, append_assoc, append-nil}
 use Prim.Native.Nat.{ℕ}
 use lib.ListN.{get_or}
-use Rattle.model.specs.declared.Found.{Found}
-use Rattle.model.specs.declared.Found.TheVariants.{At, Nothing}
 use Rattle.model.specs.declared.Fault.{Fault}
 use Rattle.model.specs.Json.{Json, Named}
 use Rattle.model.specs.Members.{members_in}
@@ -75,20 +74,20 @@ module _ (s : Schema) (names : Names) (given : List (List ℕ)) (ids : List ℕ)
   results_empty [] = refl
   results_empty (o ∷ os) = results_some o os
 
-operations_empty : (text : List ℕ) (ops : Found) → empty (operations_at text ops) ≡ is_nothing ops
+operations_empty : (text : List ℕ) (ops : Option ℕ) → empty (operations_at text ops) ≡ is_nothing ops
 unfolding operations_at is_nothing
-operations_empty text (At p) = ap (λ (l : List Json). empty (map members_in l)) (walk_rest text {g = At p} refl)
-operations_empty text Nothing = ap (λ (l : List Json). empty (map members_in l)) (walk_end text {g = Nothing} refl)
+operations_empty text (Some p) = ap (λ (l : List Json). empty (map members_in l)) (walk_rest text {g = Some p} refl)
+operations_empty text None = ap (λ (l : List Json). empty (map members_in l)) (walk_end text {g = None} refl)
 
-pub run_empty : (s : Schema) (text : List ℕ) (ops : Found) (fresh : List ℕ) (rows : List Row) → is_nothing ops ≡ empty (run_on s text ops fresh rows).results
+pub run_empty : (s : Schema) (text : List ℕ) (ops : Option ℕ) (fresh : List ℕ) (rows : List Row) → is_nothing ops ≡ empty (run_on s text ops fresh rows).results
 unfolding run_on
 run_empty s text ops fresh rows = sym (results_empty s (names_of (fresh_ids fresh) (operations_at text ops)) [] (fresh_ids fresh) rows (operations_at text ops) ∙ operations_empty text ops)
 
 -- ── a place that there is, and none ──
-pub is_at : {f : Found} {p : ℕ} → f ≡ At p → false ≡ is_nothing f
+pub is_at : {f : Option ℕ} {p : ℕ} → f ≡ Some p → false ≡ is_nothing f
 unfolding is_nothing
 is_at h = sym (ap is_nothing h)
 
-pub is_none : {f : Found} → f ≡ Nothing → true ≡ is_nothing f
+pub is_none : {f : Option ℕ} → f ≡ None → true ≡ is_nothing f
 unfolding is_nothing
 is_none h = sym (ap is_nothing h)

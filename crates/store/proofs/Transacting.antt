@@ -2,7 +2,6 @@
 use mathlib.Core.Path.{◌≡◌, refl, sym, ap, ◌∙◌}
 use mathlib.Core.Bool.{Bool, true, false, ◌&&◌}
 use mathlib.Core.List.{List, [], ◌∷◌}
-use mathlib.Core.Option.{Option, none, some}
 use Prim.Native.Nat.{ℕ, ◌+◌, ◌≤◌}
 use native.Mathlib.Omega.{arith}
 use borrow.Author.Tests.{eqb-true, leb-true}
@@ -10,7 +9,7 @@ use lib.Dec.{eqb, leb}
 use lib.ListN.{length}
 use Rattle.model.specs.Octets.{big, filled}
 use Rattle.model.specs.Limits.{last_number, store_bytes, count_offset}
-use Rattle.std.specs.Prelude.{if◌then◌else◌}
+use Rattle.std.specs.Prelude.{if◌then◌else◌, Option, Some, None}
 use Rattle.model.specs.Schema.{Schema}
 use Rattle.model.specs.Rows.{Row}
 use Rattle.model.specs.Records.{diff}
@@ -83,8 +82,8 @@ module _ (area request fresh records text : List ℕ) where
     unfolding chosen
     by_store o e = by_lengths true (sym said ∙ good) ∙ ap (transact_on area request fresh records text) e
 
-    pub transact_disordered : store_of area ≡ none → {r : Status} {x t : List ℕ} → Refused Disordered records x text t r → Leaves r area x t
-    transact_disordered h y = leaves (by_store none h ∙ refused_is y)
+    pub transact_disordered : store_of area ≡ None → {r : Status} {x t : List ℕ} → Refused Disordered records x text t r → Leaves r area x t
+    transact_disordered h y = leaves (by_store None h ∙ refused_is y)
 
     module _ (cells : List (List ℕ)) (rows : List (List (List ℕ))) (k : Held area cells rows) where
       abbrev s : Schema
@@ -101,7 +100,7 @@ module _ (area request fresh records text : List ℕ) where
 
       by_reply : call ≡ transact_replied area records text store d
       unfolding reply_on
-      by_reply = by_store (some store) k.store ∙ ap (transact_replied area records text store) (reply_is area cells rows k request fresh (length text))
+      by_reply = by_store (Some store) k.store ∙ ap (transact_replied area records text store) (reply_is area cells rows k request fresh (length text))
 
       -- what an accepted call leaves
       given : Transacted

@@ -1,6 +1,5 @@
 -- A transact on a store's state, part by part. Assumes nothing: these are definitions.
-use Rattle.std.specs.Prelude.{ℕ, ◌+◌, ◌≤◌, ◌<◌, ◌≡◌, Bool, true, false, List, [], ◌∷◌, ◌++◌, map, length, take}
-use Rattle.model.specs.declared.Found.{Found}
+use Rattle.std.specs.Prelude.{ℕ, ◌+◌, ◌≤◌, ◌<◌, ◌≡◌, Bool, true, false, List, [], ◌∷◌, ◌++◌, map, length, take, Option}
 use Rattle.model.specs.declared.Status.{Status}
 use Rattle.model.specs.declared.Status.TheVariants.{Accepted, AnswerTooLong, NumbersSpent}
 use Rattle.model.specs.declared.Fault.{Fault}
@@ -37,15 +36,15 @@ unfoldable pub committed : Schema → List Row → Judged (List Row)
 committed s rows = commit s rows
 
 -- the operations of a text run on rows, and the commit
-unfoldable pub transact_on : Schema → List ℕ → Found → List ℕ → List Row → model.Transaction
+unfoldable pub transact_on : Schema → List ℕ → Option ℕ → List ℕ → List Row → model.Transaction
 transact_on s text ops fresh rows = transact_rows s (fresh_ids fresh) rows (operations_at text ops)
 
 -- the operations alone
-unfoldable pub run_on : Schema → List ℕ → Found → List ℕ → List Row → model.Ran
+unfoldable pub run_on : Schema → List ℕ → Option ℕ → List ℕ → List Row → model.Ran
 run_on s text ops fresh rows = run_all s (names_of (fresh_ids fresh) (operations_at text ops)) [] (fresh_ids fresh) rows (operations_at text ops)
 
 -- a request that can be run: what the table of ends says is true, the operations can be read, and both it and the fresh ids have their lengths
-pub record Readable (s ends : List ℕ) (ops : Found) (fresh : List ℕ) : Type 0 where
+pub record Readable (s ends : List ℕ) (ops : Option ℕ) (fresh : List ℕ) : Type 0 where
   pub says : Says s ends
   pub fine : items_fine s ops ≡ true
   pub short : length s ≤ most_request_bytes
@@ -61,7 +60,7 @@ reply_on cells number n before request fresh room = reply (database_from cells) 
 
 -- ── what is known of a request that is run ──
 -- the rows are in order, their values meet their types and every commit rule holds, the fresh ids may be given (refusal 6), and the operations' strings are good
-pub record Sure (s : Schema) (text : List ℕ) (ops : Found) (fresh : List ℕ) (rows : List Row) : Type 0 where
+pub record Sure (s : Schema) (text : List ℕ) (ops : Option ℕ) (fresh : List ℕ) (rows : List Row) : Type 0 where
   pub sound : Sound s rows
   pub lawful : lawful s rows ≡ true
   pub ids : ids_good (fresh_ids fresh) rows ≡ true
@@ -98,7 +97,7 @@ pub record Ended (s : Schema) (t : model.Transaction) (n : ℕ) (entry exit : Li
 abbrev pub ClosedOn : List (List ℕ) → ℕ → List (List (List ℕ)) → List (List (List ℕ)) → Bool → ℕ → List ℕ → List ℕ → Outcome → Type 0
 ClosedOn schema n entry exit first at before after r = Closed (packed_tables schema) (committed (packed_tables schema) (working (packed_tables schema) n entry)) n entry exit first at before after r
 
-abbrev pub EndedOn : List (List ℕ) → List ℕ → Found → List ℕ → ℕ → List (List (List ℕ)) → List (List (List ℕ)) → List ℕ → List ℕ → Outcome → Type 0
+abbrev pub EndedOn : List (List ℕ) → List ℕ → Option ℕ → List ℕ → ℕ → List (List (List ℕ)) → List (List (List ℕ)) → List ℕ → List ℕ → Outcome → Type 0
 EndedOn schema text ops fresh n entry exit before after r = Ended (packed_tables schema) (transact_on (packed_tables schema) text ops fresh (working (packed_tables schema) n entry)) n entry exit before after r
 
 -- a request, of which `count` operations were read: whether it is run, and else the refusal (4, 5 or 6)

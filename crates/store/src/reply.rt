@@ -12,7 +12,7 @@ ghost use Rattle.operations.specs.Ran.{Room};
 ghost use Rattle.store.specs.Replying.{Readable, Sure, ClosedOn, EndedOn, Asked, no_effect, GivenOut, Concluded, few_rows};
 
 use super::{good_order, refuse};
-use model::{ATOM, CELLS, Catalog, ENTRIES, ENTRY, Found, LAST_NUMBER, ROWS, Row, Status};
+use model::{ATOM, CELLS, Catalog, ENTRIES, ENTRY, LAST_NUMBER, ROWS, Row, Status};
 use request::Request;
 
 // So many rows and operations together have few working rows, which are cleared sooner.
@@ -31,7 +31,7 @@ pub struct Outcome {
 pub struct Question {
     pub runs: bool,
     pub status: Status,
-    pub ops: Found,
+    pub ops: Option<usize>,
 }
 
 // What a transact comes to: its status, whether it commits, how many rows there are then, and how many record numbers it gives out.
@@ -44,12 +44,12 @@ pub struct Effect {
 }
 
 // Whether there is no place.
-fn is_nothing(f: Found) -> bool
+fn is_nothing(f: Option<usize>) -> bool
     ensures { result ≡ is_nothing f }
 {
     match f {
-        Found::At(_) => false,
-        Found::Nothing => true,
+        Some(_) => false,
+        None => true,
     }
 }
 
@@ -91,7 +91,7 @@ fn at_commit(
 fn transact(
     text: &[u8],
     ends: &[u16],
-    ops: Found,
+    ops: Option<usize>,
     fresh: &[u8],
     schema: &Catalog,
     rows: &mut [Row],
@@ -136,21 +136,21 @@ fn judge(
         return Question {
             runs: false,
             status: Status::BadRequest,
-            ops: Found::Nothing,
+            ops: None,
         };
     }
     if !text::is_word(request, q.name, catalog::name_of(&schema[0])) {
         return Question {
             runs: false,
             status: Status::OtherDatabase,
-            ops: Found::Nothing,
+            ops: None,
         };
     }
     if !fresh::ids_good(fresh, rows, n) {
         return Question {
             runs: false,
             status: Status::BadFreshIds,
-            ops: Found::Nothing,
+            ops: None,
         };
     }
     let ops = q.ops;

@@ -1,8 +1,8 @@
 -- A table's cell, read back. Assumes nothing.
+use Rattle.std.specs.Prelude.{Some, None}
 use mathlib.Core.Path.{◌≡◌, refl, sym, ap, ◌∙◌}
 use mathlib.Core.List.{List, [], ◌∷◌, ◌++◌, append_assoc}
 use mathlib.Core.Bool.{Bool, true, false}
-use mathlib.Core.Option.{none, some}
 use Prim.Native.Nat.{ℕ, ◌+◌, ◌^◌, ◌<◌, ◌≤◌}
 use native.Mathlib.Omega.{arith}
 use lib.Dec.{eqb}
@@ -72,15 +72,15 @@ module _ (name : List ℕ) (only : NameOnly name) (n : ℕ) (root limited : Bool
         ∙ ap (take 8) (drop-append-add front (head ++ rest) 3)
         ∙ take_at (big 8 most) rest 8 (length_big 8 most)
 
-    rows_is : (limited ≡ true → most < 256 ^ 8) → max_rows_from cell ≡ elim limited [ true ↦ some most | false ↦ none ]
+    rows_is : (limited ≡ true → most < 256 ^ 8) → max_rows_from cell ≡ elim limited [ true ↦ Some most | false ↦ None ]
     rows_is h =
         split limited
         (λ e.
         let v : value (part 28 8 cell) ≡ most = ap value most_is ∙ value_big_fits 8 most (h e) in
-        (λ i. elim (limited_is i) [ true ↦ some (v i) | false ↦ none ]))
+        (λ i. elim (limited_is i) [ true ↦ Some (v i) | false ↦ None ]))
         (λ e.
-        (λ i. elim ((limited_is ∙ e) i) [ true ↦ some (value (part 28 8 cell)) | false ↦ none ])
-        ∙ sym (λ i. elim (e i) [ true ↦ some most | false ↦ none ]))
+        (λ i. elim ((limited_is ∙ e) i) [ true ↦ Some (value (part 28 8 cell)) | false ↦ None ])
+        ∙ sym (λ i. elim (e i) [ true ↦ Some most | false ↦ None ]))
 
     name_is : entry_name cell ≡ entry_name name
     name_is =
@@ -111,7 +111,7 @@ module _ (name : List ℕ) (only : NameOnly name) (n : ℕ) (root limited : Bool
     pub after_root : is_set after 26 ≡ root
     after_root = ap (λ (l : List ℕ). is_set l 26) q ∙ root_is (drop 36 after)
 
-    pub after_rows : (limited ≡ true → most < 256 ^ 8) → max_rows_from after ≡ elim limited [ true ↦ some most | false ↦ none ]
+    pub after_rows : (limited ≡ true → most < 256 ^ 8) → max_rows_from after ≡ elim limited [ true ↦ Some most | false ↦ None ]
     after_rows f = ap max_rows_from q ∙ rows_is (drop 36 after) f
 
     pub after_name : entry_name after ≡ entry_name name

@@ -1,8 +1,8 @@
 -- A table by its slots is the table that the schema's definitions read. Assumes nothing.
+use Rattle.std.specs.Prelude.{Some, None}
 use mathlib.Core.Path.{◌≡◌, refl, sym, ap, subst, ◌∙◌}
 use mathlib.Core.List.{List, [], ◌∷◌, ◌++◌, map}
 use mathlib.Core.Bool.{Bool, true, false, not, ◌&&◌, ◌||◌}
-use mathlib.Core.Option.{none, some}
 use Prim.Native.Nat.{ℕ, ◌^◌, ◌<◌, ◌≤◌}
 use native.Mathlib.Omega.{arith}
 use borrow.Author.Tests.{eq-eqb, ne_eqb, le-leb, lt-leb}
@@ -199,7 +199,7 @@ module _ (s : List ℕ) (tables : List (List ℕ)) (j : Json) (f : List ℕ) (k 
           after_rows name only n root limited most cell ix.front (small h)
           ∙ (let l : limited ≡ has_member (ascii "maxRows") ms = el ∙ sym (k.here 1 (omega arith)) in
           let m : most ≡ size_or 0 (whole_of (member_value (ascii "maxRows") ms)) = em ∙ ap (λ (x : Json). size_or 0 (whole_of x)) (sym (k.value 1 (omega arith))) in
-          (λ i. elim (l i) [ true ↦ some (m i) | false ↦ none ]))
+          (λ i. elim (l i) [ true ↦ Some (m i) | false ↦ None ]))
 
       indexes_are : b ≡ true → indexes_from cell ≡ map (index_of (names (table_columns ms))) (items_in (member_value (ascii "indexes") ms))
       indexes_are h =

@@ -33,9 +33,10 @@ fn columns_in(text: &[u8], ends: &[u16], p: usize, tables: &[Entry], cells: &mut
     ensures { ColumnsRead (map entry_name tables.now) (slot_tree text.now p) result cells.old cells.new }
 {
     if p == 0 {
-        return 9;
+        9
+    } else {
+        columns::read_columns(text, ends, p, tables, cells)
     }
-    columns::read_columns(text, ends, p, tables, cells)
 }
 
 // The indexes in the slot p, in their bytes of a table's cell; the table's columns are at q and in cells.
@@ -122,11 +123,9 @@ fn name_cells(text: &[u8], places: &[usize], n: usize) -> [Entry; TABLES]
     ensures { (length result ≡ most_tables) × (take n result ≡ map (head_at text.now) (take n places.now)) }
 {
     let mut cells = [[0u8; ENTRY]; TABLES];
-    let mut i = 0;
-    while i < n {
+    for i in 0..n {
         let name = names::name_at(text, places[i]);
         cells[i] = catalog::name_entry(&name);
-        i += 1;
     }
     cells
 }
@@ -144,19 +143,15 @@ fn read_each(
     requires cells_len { length cells.old ≡ entry_count }
     ensures { EachRead text.now places.now heads.now result cells.old cells.new }
 {
-    let mut i = heads.len();
-    while 0 < i {
-        i -= 1;
+    for i in (0..heads.len()).rev() {
         let v = nav::member_value(text, ends, places[i]);
-        let name = heads[i];
         let first = FIRST_COLUMN + COLUMNS * i;
-        let r = read_table(text, ends, v, name, heads, &mut cells[first..]);
-        if r.fits {
-            let cell = r.cell;
-            cells[1 + i] = cell;
-        } else {
+        let r = read_table(text, ends, v, heads[i], heads, &mut cells[first..]);
+        if !r.fits {
             return false;
         }
+        let cell = r.cell;
+        cells[1 + i] = cell;
     }
     true
 }
@@ -174,9 +169,9 @@ pub fn read_tables(text: &[u8], ends: &[u16], at: usize, cells: &mut [Entry]) ->
         return 9;
     }
     let heads = name_cells(text, &places, n);
-    let ok = read_each(text, ends, &places, &heads[..n], cells);
-    if ok {
-        return n;
+    if read_each(text, ends, &places, &heads[..n], cells) {
+        n
+    } else {
+        9
     }
-    9
 }

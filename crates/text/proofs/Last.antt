@@ -1,10 +1,9 @@
 -- The last member of a name: a walk over the members that keeps the last place found. Assumes nothing.
+use Rattle.std.specs.Prelude.{Option, Some, None}
 use mathlib.Core.Path.{◌≡◌, refl, sym, ap, ◌∙◌}
 use mathlib.Core.List.{List}
 use mathlib.Core.Bool.{Bool, true, false, ◌||◌}
 use Prim.Native.Nat.{ℕ}
-use Rattle.model.specs.declared.Found.{Found}
-use Rattle.model.specs.declared.Found.TheVariants.{At, Nothing}
 use Rattle.model.specs.Octets.{eq_bytes}
 use Rattle.model.specs.Scan.{end_or}
 use Rattle.model.specs.Json.{Json, null, Named, key_at, member_at, value_at}
@@ -14,18 +13,18 @@ use Rattle.model.specs.Members.{members_in, has_member, named_or, value_or, memb
 use Rattle.inner.specs.Positions.{Means}
 use Rattle.nav.proofs.Walk.{members_in_lem, pass_end, pass_rest, pass_fine, pass_name, pass_value}
 
-pub seen : Found → Bool
-seen (At p) = true
-seen Nothing = false
+pub seen : Option ℕ → Bool
+seen (Some p) = true
+seen None = false
 
 -- the tree at a place, and that it is well
-pub tree_or : List ℕ → Found → Json
-tree_or s (At p) = tree_at s p
-tree_or s Nothing = null
+pub tree_or : List ℕ → Option ℕ → Json
+tree_or s (Some p) = tree_at s p
+tree_or s None = null
 
-pub WellOr : List ℕ → Found → Type 0
-WellOr s (At p) = well_at s p ≡ true
-WellOr s Nothing = Unit
+pub WellOr : List ℕ → Option ℕ → Type 0
+WellOr s (Some p) = well_at s p ≡ true
+WellOr s None = Unit
 
 or_true : (b : Bool) → (b || true) ≡ true
 or_true true = refl
@@ -44,36 +43,36 @@ unfolding named_or
 named_no w d m h = rw (named_or, h)
 
 -- what the walk knows at the place g, where `last` was found before it
-pub record Sofar (s w : List ℕ) (all : List Named) (last g : Found) : Type 0 where
+pub record Sofar (s w : List ℕ) (all : List Named) (last g : Option ℕ) : Type 0 where
   pub is : has_member w all ≡ (seen last || has_member w (members_from s g))
   pub value : member_value w all ≡ value_or w (tree_or s last) (members_from s g)
   pub well : WellOr s last
   pub fine : members_fine s g ≡ true
 
 module _ (s w : List ℕ) where
-  pub sofar_start : (at : ℕ) → well_at s at ≡ true → {g : Found} → g ≡ first_of s 123 125 at → Sofar s w (members_in (tree_at s at)) Nothing g
+  pub sofar_start : (at : ℕ) → well_at s at ≡ true → {g : Option ℕ} → g ≡ first_of s 123 125 at → Sofar s w (members_in (tree_at s at)) None g
   unfolding seen tree_or WellOr member_value
   sofar_start at h {g} e =
       let q = members_in_lem s at h in
       let z : members_in (tree_at s at) ≡ members_from s g = q.0 ∙ ap (members_from s) (sym e) in
       record { is = ap (has_member w) z; value = ap (value_or w null) z; well = tt; fine = rw e q.1 }
 
-  module _ {all : List Named} {last g : Found} (so : Sofar s w all last g) where
-    pub sofar_end : g ≡ Nothing → Means s last (has_member w all) (member_value w all)
+  module _ {all : List Named} {last g : Option ℕ} (so : Sofar s w all last g) where
+    pub sofar_end : g ≡ None → Means s last (has_member w all) (member_value w all)
     unfolding Means seen tree_or WellOr has_member value_or
     sofar_end e = go last (so.is ∙ ap (λ l. seen last || has_member w l) (pass_end s e) ∙ or_false (seen last)) (so.value ∙ ap (value_or w (tree_or s last)) (pass_end s e)) so.well
       where
-        go : (f : Found) → has_member w all ≡ seen f → member_value w all ≡ tree_or s f → WellOr s f → Means s f (has_member w all) (member_value w all)
-        go (At p) a b c = (a, b, c)
-        go Nothing a b c = a
+        go : (f : Option ℕ) → has_member w all ≡ seen f → member_value w all ≡ tree_or s f → WellOr s f → Means s f (has_member w all) (member_value w all)
+        go (Some p) a b c = (a, b, c)
+        go None a b c = a
 
-    module _ {p : ℕ} (h : g ≡ At p) where
+    module _ {p : ℕ} (h : g ≡ Some p) where
       named : is_word w (tree_at s p) ≡ eq_bytes (member_at (value_at 12 s) s p).tree.name w
       unfolding is_word
       named = rw (pass_name s h so.fine)
 
       -- a member of the name, and one of another
-      pub sofar_named : {v : ℕ} {l n : Found} → is_word w (tree_at s p) ≡ true → v ≡ end_or p (key_at s p).read → l ≡ At v → n ≡ next_member s p → Sofar s w all l n
+      pub sofar_named : {v : ℕ} {l n : Option ℕ} → is_word w (tree_at s p) ≡ true → v ≡ end_or p (key_at s p).read → l ≡ Some v → n ≡ next_member s p → Sofar s w all l n
       unfolding seen tree_or WellOr has_member value_or
       sofar_named b ev el en =
           let q = sym named ∙ b in
@@ -84,7 +83,7 @@ module _ (s w : List ℕ) where
             fine = pass_fine s h so.fine;
           })
 
-      pub sofar_other : {l n : Found} → is_word w (tree_at s p) ≡ false → l ≡ last → n ≡ next_member s p → Sofar s w all l n
+      pub sofar_other : {l n : Option ℕ} → is_word w (tree_at s p) ≡ false → l ≡ last → n ≡ next_member s p → Sofar s w all l n
       unfolding seen tree_or WellOr has_member value_or
       sofar_other b el en =
           let q = sym named ∙ b in

@@ -1,4 +1,7 @@
 -- Bytes compared one after another, quotes looked for. Assumes nothing.
+use Rattle.std.specs.declared.ops.ControlFlow.TheVariants.{Continue, Break}
+use Rattle.model.specs.Scan.{Read}
+use Rattle.std.specs.Prelude.{Option, Some, None}
 use mathlib.Core.Path.{◌≡◌, refl, sym, ◌∙◌}
 use mathlib.Core.List.{List, [], ◌∷◌, ◌++◌}
 use mathlib.Core.Bool.{Bool, true, false, cond}
@@ -9,10 +12,6 @@ use lib.Dec.{eqb, ltb}
 use borrow.Author.Tests.{ne_eqb, eq-eqb, lt-ltb, le-ltb, ltb-true, ltb-false}
 use lib.ListN.{length, get_or, drop, drop_of_length-le}
 use lib.Seq.{drop-cons}
-use Rattle.model.specs.declared.Read.{Read}
-use Rattle.model.specs.declared.Next.TheVariants.{More, Done}
-use Rattle.model.specs.declared.Found.{Found}
-use Rattle.model.specs.declared.Found.TheVariants.{At, Nothing}
 use Rattle.model.specs.Octets.{eq_bytes}
 use Rattle.model.specs.Scan.{byte, between}
 use Rattle.model.specs.Strings.{char_by, char_bytes}
@@ -34,11 +33,11 @@ pub no_between : (s : List ℕ) (i e : ℕ) → e ≤ i → between s i e ≡ []
 no_between s i e h = let z : e - i ≡ 0 = omega arith in rw z
 
 module _ (x : ℕ) (xs w : List ℕ) (o : ℕ) where
-  pub matched_past : length w ≤ o → matched (x ∷ xs) w o ≡ Nothing
+  pub matched_past : length w ≤ o → matched (x ∷ xs) w o ≡ None
   unfolding matched
   matched_past h = rw (matched, le-ltb o (length w) h)
 
-  pub matched_off : o < length w → (x ≡ get_or w o 0 → ⊥) → matched (x ∷ xs) w o ≡ Nothing
+  pub matched_off : o < length w → (x ≡ get_or w o 0 → ⊥) → matched (x ∷ xs) w o ≡ None
   unfolding matched
   matched_off h n = rw (matched, lt-ltb o (length w) h, ne_eqb x (get_or w o 0) n)
 
@@ -47,11 +46,11 @@ module _ (x : ℕ) (xs w : List ℕ) (o : ℕ) where
   matched_on h e = rw (matched, lt-ltb o (length w) h, eq-eqb x (get_or w o 0) e)
 
 -- one byte, and whether it stands there
-pub matched_byte : (x : ℕ) (w : List ℕ) (o : ℕ) → x < 256 → x ≡ byte w o → matched (x ∷ []) w o ≡ At (o + 1)
+pub matched_byte : (x : ℕ) (w : List ℕ) (o : ℕ) → x < 256 → x ≡ byte w o → matched (x ∷ []) w o ≡ Some (o + 1)
 unfolding matched
 matched_byte x w o h e = let l = inside_byte w o x (sym e) h in matched_on x [] w o l (e ∙ get_d_any w o 256 0 l)
 
-pub matched_other : (x : ℕ) (w : List ℕ) (o : ℕ) → (x ≡ byte w o → ⊥) → matched (x ∷ []) w o ≡ Nothing
+pub matched_other : (x : ℕ) (w : List ℕ) (o : ℕ) → (x ≡ byte w o → ⊥) → matched (x ∷ []) w o ≡ None
 matched_other x w o n =
     split (ltb o (length w))
     (λ t. let l = ltb-true o (length w) t in matched_off x [] w o l (λ q. n (q ∙ get_d_any w o 0 256 l)))
@@ -65,9 +64,9 @@ plain_bytes s i h =
     rw (char_bytes, ne_eqb _ _ (plain_is (byte s i) h).3, first_between s i (i + 1) (omega arith) (omega arith), no_between s (i + 1) (i + 1) (omega arith), get_d_any s i 0 256 l)
 
 -- what is left to compare after a match
-unfoldable pub going_on : List ℕ → List ℕ → Found → Bool
-going_on ys w (At p) = eq_bytes ys (drop p w)
-going_on ys w Nothing = false
+unfoldable pub going_on : List ℕ → List ℕ → Option ℕ → Bool
+going_on ys w (Some p) = eq_bytes ys (drop p w)
+going_on ys w None = false
 
 pub eq_matched : (xs ys w : List ℕ) (o : ℕ) → eq_bytes (xs ++ ys) (drop o w) ≡ going_on ys w (matched xs w o)
 unfolding matched going_on
@@ -85,23 +84,23 @@ module _ (s : List ℕ) (n k i : ℕ) where
   left : k < n → n - k ≡ suc (n - (k + 1))
   left h = omega arith
 
-  pub quote_turn : {e : ℕ} → k < n → (byte s i ≡ 92 → ⊥) → char_by s i (byte s i) ≡ More e → quote_from s (n - k) i ≡ quote_from s (n - (k + 1)) e
+  pub quote_turn : {e : ℕ} → k < n → (byte s i ≡ 92 → ⊥) → char_by s i (byte s i) ≡ Continue e → quote_from s (n - k) i ≡ quote_from s (n - (k + 1)) e
   unfolding quote_from
   quote_turn h b e = rw (left h, quote_from, ne_eqb _ _ b, e)
 
-  pub quote_done : {r : Read} → k < n → (byte s i ≡ 92 → ⊥) → char_by s i (byte s i) ≡ Done r → quote_from s (n - k) i ≡ quote_end i r
+  pub quote_done : {r : Read} → k < n → (byte s i ≡ 92 → ⊥) → char_by s i (byte s i) ≡ Break r → quote_from s (n - k) i ≡ quote_end i r
   unfolding quote_from
   quote_done h b e = rw (left h, quote_from, ne_eqb _ _ b, e)
 
-  pub quote_escape : k < n → byte s i ≡ 92 → quote_from s (n - k) i ≡ Nothing
+  pub quote_escape : k < n → byte s i ≡ 92 → quote_from s (n - k) i ≡ None
   unfolding quote_from
   quote_escape h b = rw (left h, quote_from, eq-eqb _ _ b)
 
-  pub quote_here : k < n → byte s i ≡ 34 → quote_from s (n - k) i ≡ At i
+  pub quote_here : k < n → byte s i ≡ 34 → quote_from s (n - k) i ≡ Some i
   unfolding quote_end
   quote_here h b = quote_done h (λ q. let z : ◌≡◌ {A = ℕ} 34 92 = sym b ∙ q in omega arith) (quote_ends s i (byte s i) b)
 
-  pub quote_spent : n ≤ k → quote_from s (n - k) i ≡ Nothing
+  pub quote_spent : n ≤ k → quote_from s (n - k) i ≡ None
   unfolding quote_from
   quote_spent h = let z : n - k ≡ 0 = omega arith in rw z
 
@@ -110,15 +109,15 @@ counted_less true n = omega arith
 counted_less false n = omega arith
 
 -- a match ends within the word
-pub matched_le : (xs w : List ℕ) (o p : ℕ) → o ≤ length w → matched xs w o ≡ At p → p ≤ length w
+pub matched_le : (xs w : List ℕ) (o p : ℕ) → o ≤ length w → matched xs w o ≡ Some p → p ≤ length w
 unfolding matched
 matched_le [] w o p h e = let y : o ≡ p = cc in omega arith
 matched_le (x ∷ xs) w o p h e = go (ltb o (length w)) refl (eqb x (get_or w o 0)) refl (matched_le xs w (o + 1) p)
   where
-    go : (b : Bool) → ltb o (length w) ≡ b → (d : Bool) → eqb x (get_or w o 0) ≡ d → (o + 1 ≤ length w → matched xs w (o + 1) ≡ At p → p ≤ length w) → p ≤ length w
+    go : (b : Bool) → ltb o (length w) ≡ b → (d : Bool) → eqb x (get_or w o 0) ≡ d → (o + 1 ≤ length w → matched xs w (o + 1) ≡ Some p → p ≤ length w) → p ≤ length w
     go true t true u ih = ih (omega (arith, ltb-true o (length w) t)) (rw (matched, t, u) at e)
-    go true t false u ih = absurd (let f : Nothing ≡ At p = rw (matched, t, u) at e in let y : ◌≡◌ {A = ℕ} 0 1 = cc in omega arith)
-    go false t d u ih = absurd (let f : Nothing ≡ At p = rw (matched, t) at e in let y : ◌≡◌ {A = ℕ} 0 1 = cc in omega arith)
+    go true t false u ih = absurd (let f : None ≡ Some p = rw (matched, t, u) at e in let y : ◌≡◌ {A = ℕ} 0 1 = cc in omega arith)
+    go false t d u ih = absurd (let f : None ≡ Some p = rw (matched, t) at e in let y : ◌≡◌ {A = ℕ} 0 1 = cc in omega arith)
 
 -- nothing is left to compare
 pub eq_rest : (w : List ℕ) (o : ℕ) → o ≤ length w → eq_bytes [] (drop o w) ≡ eqb o (length w)

@@ -1,11 +1,10 @@
 -- The character that the code makes of a \u escape is the one that the definitions say. Assumes nothing.
+use Rattle.std.specs.Prelude.{Ok, Err}
+use Rattle.scan.specs.Units.{Hex}
 use mathlib.Core.Path.{◌≡◌, refl, sym, ap, subst, ◌∙◌}
 use mathlib.Core.List.{List}
 use Prim.Native.Nat.{ℕ, ◌<◌, ◌≤◌}
 use native.Mathlib.Omega.{arith}
-use Rattle.model.specs.declared.Read.TheVariants.{End}
-use Rattle.scan.specs.declared.Hex.{Hex}
-use Rattle.scan.specs.declared.Hex.TheVariants.{Unit16, Bad}
 use Rattle.model.specs.Scan.{within_at}
 use Rattle.model.specs.Strings.{◌to◌, in_range, is_first_half, utf8, pair_of, paired, escaped_from, escaped_at}
 use Rattle.scan.specs.Units.{hex_at, low_at}
@@ -16,8 +15,8 @@ use Rattle.model.proofs.TextUtf8.{Number, First, Second, unit_is, second_from_le
 use Rattle.scan.proofs.Same.{parsed, unit_same, second_half_same}
 
 unit_tree : (h : Hex) → unit_or h ≡ (parsed h).tree
-unit_tree (Unit16 e v) = refl
-unit_tree (Bad e) = refl
+unit_tree (Ok (e, v)) = refl
+unit_tree (Err e) = refl
 
 module _ (s : List ℕ) where
   -- four digits, and those of a second half
@@ -25,21 +24,21 @@ module _ (s : List ℕ) where
   unit_below at = go (hex_at s at) (subst (Number First) (sym (unit_same s at)) (unit_is s at))
     where
       go : (h : Hex) → Number First (parsed h) → unit_or h < 65536
-      go (Unit16 e v) f = f.1.0
-      go (Bad e) f = omega arith
+      go (Ok (e, v)) f = f.1.0
+      go (Err e) f = omega arith
 
   pub second_below : (e : ℕ) → unit_or (low_at s e) ≤ 57343
-  second_below e = go (low_at s e) (subst (Number Second) (sym (second_half_same s e)) (second_from_lem s (within_at s 117 117 (within_at s 92 92 (End e)))))
+  second_below e = go (low_at s e) (subst (Number Second) (sym (second_half_same s e)) (second_from_lem s (within_at s 117 117 (within_at s 92 92 (Ok e)))))
     where
       go : (h : Hex) → Number Second (parsed h) → unit_or h ≤ 57343
-      go (Unit16 e v) f = f.1
-      go (Bad e) f = omega arith
+      go (Ok (e, v)) f = f.1
+      go (Err e) f = omega arith
 
   -- the character of an escape
   character_tree : (h : Hex) → character_of (unit_or h) (unit_or (low_at s (unit_end h))) ≡ (escaped_from s (parsed h)).tree
   unfolding character_of escaped_from paired in_range
-  character_tree (Bad e) = refl
-  character_tree (Unit16 e v) = split (is_first_half v)
+  character_tree (Err e) = refl
+  character_tree (Ok (e, v)) = split (is_first_half v)
       (λ t. rw (character_of, escaped_from, t) (ap (pair_of v) (unit_tree (low_at s e) ∙ ap (λ p. p.tree) (second_half_same s e))))
       (λ t. rw (character_of, escaped_from, t))
 

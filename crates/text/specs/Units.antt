@@ -1,17 +1,17 @@
 -- How the code takes a \u escape apart whose digits were read. Assumes nothing: these are definitions.
+use Rattle.std.specs.Prelude.{Ok, Err}
+use Rattle.scan.specs.Units.{Hex}
 use Rattle.std.specs.Prelude.{ℕ, List, true, false}
 use Rattle.model.specs.Strings.{is_first_half, utf8, pair_of}
-use Rattle.scan.specs.declared.Hex.{Hex}
-use Rattle.scan.specs.declared.Hex.TheVariants.{Unit16, Bad}
 use Rattle.scan.specs.Units.{low_at}
 
 abbrev pub unit_or : Hex → ℕ
-unit_or (Unit16 e v) = v
-unit_or (Bad e) = 0
+unit_or (Ok (e, v)) = v
+unit_or (Err e) = 0
 
 abbrev pub unit_end : Hex → ℕ
-unit_end (Unit16 e v) = e
-unit_end (Bad e) = e
+unit_end (Ok (e, v)) = e
+unit_end (Err e) = e
 
 -- the character that the unit v stands for, with the half w after it where it is a first half
 unfoldable pub character_of : ℕ → ℕ → ℕ

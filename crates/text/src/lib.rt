@@ -1,7 +1,7 @@
 // Strings of a text: decoded, looked up, compared, counted.
 #![tactic(auto)]
 
-ghost use Rattle.std.specs.Prelude.{◌≡◌, [], ◌∷◌, true, cond, ◌+◌, ◌-◌, ◌*◌, ◌%◌, ◌≤◌, ◌<◌, length, take, drop};
+ghost use Rattle.std.specs.Prelude.{◌≡◌, [], ◌∷◌, true, cond, ◌+◌, ◌-◌, ◌*◌, ◌%◌, ◌≤◌, ◌<◌, length, take, drop, Some};
 ghost use Rattle.model.specs.Scan.{byte, between, end_or};
 ghost use Rattle.model.specs.Strings.{is_first_half, utf8, pair_of, char_bytes, body_at};
 ghost use Rattle.model.specs.Octets.{eq_bytes};
@@ -15,43 +15,29 @@ ghost use Rattle.text.specs.Push.{Pushed, count_of};
 ghost use Rattle.text.specs.Units.{unit_or, unit_end, character_of, escape_bytes};
 ghost use Rattle.text.specs.Match.{matched, Held};
 ghost use Rattle.text.specs.Steps.{body_place, body_from, Inside, picked, Steps};
-ghost use Rattle.text.specs.declared.Written.TheVariants.{To};
 
-use model::{Found, Next, Read};
+use model::Read;
 use scan::{BACKSLASH, Hex, LETTER_U, QUOTE};
-
-// Where the next byte goes, or that there is no room.
-#[derive(Clone, Copy)]
-pub enum Written {
-    To(usize),
-    Full,
-}
-
-// A byte of a string, with the character and the offset in it where the next one is; or that there are no more.
-#[derive(Clone, Copy)]
-enum Step {
-    Byte(u8, usize, usize),
-    End,
-}
+use std::ops::ControlFlow;
 
 // One byte more.
-fn push(out: &mut [u8], w: Written, b: u8) -> Written
+fn push(out: &mut [u8], w: Option<usize>, b: u8) -> Option<usize>
     ensures { Pushed out.old w (b ∷ []) result out.new }
 {
     match w {
-        Written::To(o) => {
+        Some(o) => {
             if o < out.len() {
                 out[o] = b;
-                return Written::To(o + 1);
+                return Some(o + 1);
             }
-            Written::Full
+            None
         }
-        Written::Full => Written::Full,
+        None => None,
     }
 }
 
 // A character of two bytes.
-fn two(out: &mut [u8], w: Written, a: u8, b: u8) -> Written
+fn two(out: &mut [u8], w: Option<usize>, a: u8, b: u8) -> Option<usize>
     ensures { Pushed out.old w (a ∷ b ∷ []) result out.new }
 {
     let x = push(out, w, a);
@@ -59,7 +45,7 @@ fn two(out: &mut [u8], w: Written, a: u8, b: u8) -> Written
 }
 
 // The bytes of `text` from one position up to another.
-fn copy(text: &[u8], from: usize, to: usize, out: &mut [u8], w: Written) -> Written
+fn copy(text: &[u8], from: usize, to: usize, out: &mut [u8], w: Option<usize>) -> Option<usize>
     requires { to ≤ length text.now }
     ensures { Pushed out.old w (between text.now from to) result out.new }
 {
@@ -70,14 +56,14 @@ fn copy(text: &[u8], from: usize, to: usize, out: &mut [u8], w: Written) -> Writ
     x
 }
 
-fn three(out: &mut [u8], w: Written, a: u8, b: u8, c: u8) -> Written
+fn three(out: &mut [u8], w: Option<usize>, a: u8, b: u8, c: u8) -> Option<usize>
     ensures { Pushed out.old w (a ∷ b ∷ c ∷ []) result out.new }
 {
     let x = push(out, w, a);
     two(out, x, b, c)
 }
 
-fn four(out: &mut [u8], w: Written, a: u8, b: u8, c: u8, d: u8) -> Written
+fn four(out: &mut [u8], w: Option<usize>, a: u8, b: u8, c: u8, d: u8) -> Option<usize>
     ensures { Pushed out.old w (a ∷ b ∷ c ∷ d ∷ []) result out.new }
 {
     let x = push(out, w, a);
@@ -85,7 +71,7 @@ fn four(out: &mut [u8], w: Written, a: u8, b: u8, c: u8, d: u8) -> Written
 }
 
 // A character in UTF-8.
-fn encode(v: u32, out: &mut [u8], w: Written) -> Written
+fn encode(v: u32, out: &mut [u8], w: Option<usize>) -> Option<usize>
     requires { v < 1114112 }
     ensures { Pushed out.old w (utf8 v) result out.new }
 {
@@ -118,8 +104,8 @@ fn unit_value(h: Hex) -> u32
     ensures { result ≡ unit_or h }
 {
     match h {
-        Hex::Unit16(_, v) => v,
-        Hex::Bad(_) => 0,
+        Ok((_, v)) => v,
+        Err(_) => 0,
     }
 }
 
@@ -127,8 +113,8 @@ fn unit_end(h: Hex) -> usize
     ensures { result ≡ unit_end h }
 {
     match h {
-        Hex::Unit16(e, _) => e,
-        Hex::Bad(e) => e,
+        Ok((e, _)) => e,
+        Err(e) => e,
     }
 }
 
@@ -171,7 +157,7 @@ fn unit_character(v: u32, u: u32) -> u32
 }
 
 // What a \u escape stands for, whose digits were read.
-fn escape_bytes(text: &[u8], h: Hex, out: &mut [u8], w: Written) -> Written
+fn escape_bytes(text: &[u8], h: Hex, out: &mut [u8], w: Option<usize>) -> Option<usize>
     requires { unit_or h < 65536 }
     ensures { Pushed out.old w (escape_bytes text.now h) result out.new }
 {
@@ -184,7 +170,7 @@ fn escape_bytes(text: &[u8], h: Hex, out: &mut [u8], w: Written) -> Written
 }
 
 // The bytes of the character that begins at `at` and ends at e.
-fn emit(text: &[u8], at: usize, e: usize, out: &mut [u8], w: Written) -> Written
+fn emit(text: &[u8], at: usize, e: usize, out: &mut [u8], w: Option<usize>) -> Option<usize>
     requires { e ≤ length text.now }
     ensures { Pushed out.old w (char_bytes text.now at e (byte text.now at)) result out.new }
 {
@@ -202,23 +188,23 @@ fn emit(text: &[u8], at: usize, e: usize, out: &mut [u8], w: Written) -> Written
 }
 
 // Where the characters of the string at `at` begin, if it is one.
-pub fn body_at(text: &[u8], at: usize) -> Found
+pub fn body_at(text: &[u8], at: usize) -> Option<usize>
     ensures { result ≡ body_place text.now at }
 {
     let i = scan::spaces(text, at);
     let b = scan::peek(text, i);
     if b == QUOTE {
-        return Found::At(i + 1);
+        return Some(i + 1);
     }
-    Found::Nothing
+    None
 }
 
 // The characters of the string whose first quote stands before `at`, decoded into `out`.
-pub fn decode(text: &[u8], at: usize, out: &mut [u8]) -> Written
-    ensures { Pushed out.old (To 0) (body_at text.now at).tree result out.new }
+pub fn decode(text: &[u8], at: usize, out: &mut [u8]) -> Option<usize>
+    ensures { Pushed out.old (Some 0) (body_at text.now at).tree result out.new }
 {
     let mut i = at;
-    let mut x = Written::To(0);
+    let mut x = Some(0);
     for k in 0..text.len() {
         let b = scan::peek(text, i);
         let plain = scan::is_plain(b);
@@ -231,38 +217,37 @@ pub fn decode(text: &[u8], at: usize, out: &mut [u8]) -> Written
             }
             let n = scan::character(text, i);
             match n {
-                Next::More(e) => {
+                ControlFlow::Continue(e) => {
                     x = emit(text, i, e, out, x);
                     i = e;
                 }
-                Next::Done(_) => return x,
+                ControlFlow::Break(_) => return x,
             }
         }
     }
     x
 }
 
-fn count(w: Written) -> usize
+fn count(w: Option<usize>) -> usize
     ensures { result ≡ count_of w }
 {
     match w {
-        Written::To(n) => n,
-        Written::Full => 0,
+        Some(n) => n,
+        None => 0,
     }
 }
 
-fn quote_end(at: usize, r: Read) -> Found
+fn quote_end(at: usize, r: Read) -> Option<usize>
     ensures { result ≡ quote_end at r }
 {
     match r {
-        Read::End(_) => Found::At(at),
-        Read::Stop(_) => Found::Nothing,
-        Read::Deep(_) => Found::Nothing,
+        Ok(_) => Some(at),
+        Err(_) => None,
     }
 }
 
 // Where the quote stands that ends the characters from `at` on, if none of them is an escape.
-fn quote(text: &[u8], at: usize) -> Found
+fn quote(text: &[u8], at: usize) -> Option<usize>
     ensures { result ≡ quote_from text.now (length text.now) at }
 {
     let mut i = at;
@@ -273,21 +258,21 @@ fn quote(text: &[u8], at: usize) -> Found
             i += 1;
         } else {
             if b == QUOTE {
-                return Found::At(i);
+                return Some(i);
             }
             if b == BACKSLASH {
-                return Found::Nothing;
+                return None;
             }
             let n = scan::character(text, i);
             match n {
-                Next::More(e) => {
+                ControlFlow::Continue(e) => {
                     i = e;
                 }
-                Next::Done(r) => return quote_end(i, r),
+                ControlFlow::Break(r) => return quote_end(i, r),
             }
         }
     }
-    Found::Nothing
+    None
 }
 
 // A part of the text or of the scratch area.
@@ -304,7 +289,7 @@ pub fn string_at(text: &[u8], at: usize, scratch: &mut [u8]) -> Part
     ensures { Held text.now scratch.old scratch.new result.in_scratch result.start result.len (escaped text.now at) (word_in (tree_at text.now at)) }
 {
     let f = body_at(text, at);
-    let Found::At(j) = f else {
+    let Some(j) = f else {
         return Part {
             in_scratch: false,
             start: 0,
@@ -313,12 +298,12 @@ pub fn string_at(text: &[u8], at: usize, scratch: &mut [u8]) -> Part
     };
     let q = quote(text, j);
     match q {
-        Found::At(e) => Part {
+        Some(e) => Part {
             in_scratch: false,
             start: j,
             len: e - j,
         },
-        Found::Nothing => {
+        None => {
             let w = decode(text, j, scratch);
             Part {
                 in_scratch: true,
@@ -374,20 +359,27 @@ fn counted(n: usize, more: bool) -> usize
 }
 
 // Byte `off` of those from `from` to `to`, for which the character from `at` to e stands.
-fn pick(bytes: &[u8], from: usize, to: usize, at: usize, e: usize, off: usize) -> Step
+fn pick(
+    bytes: &[u8],
+    from: usize,
+    to: usize,
+    at: usize,
+    e: usize,
+    off: usize,
+) -> Option<(u8, usize, usize)>
     requires to_in_bounds { to ≤ length bytes.now }
     requires off_bound { from + off < to }
     ensures { result ≡ picked (between bytes.now from to) at e off }
 {
     let b = bytes[from + off];
     if from + off + 1 < to {
-        return Step::Byte(b, at, off + 1);
+        return Some((b, at, off + 1));
     }
-    Step::Byte(b, e, 0)
+    Some((b, e, 0))
 }
 
 // Byte `off` of the character that begins at `at` and ends at e.
-fn char_step(text: &[u8], at: usize, e: usize, off: usize) -> Step
+fn char_step(text: &[u8], at: usize, e: usize, off: usize) -> Option<(u8, usize, usize)>
     requires e_in_bounds { e ≤ length text.now }
     requires off_in_bounds { off < length (char_bytes text.now at e (byte text.now at)) }
     ensures { result ≡ picked (char_bytes text.now at e (byte text.now at)) at e off }
@@ -395,7 +387,7 @@ fn char_step(text: &[u8], at: usize, e: usize, off: usize) -> Step
     let b = scan::peek(text, at);
     if b == BACKSLASH {
         let mut buf = [0u8; 4];
-        let w = emit(text, at, e, &mut buf, Written::To(0));
+        let w = emit(text, at, e, &mut buf, Some(0));
         let n = count(w);
         return pick(&buf, 0, n, at, e, off);
     }
@@ -403,14 +395,14 @@ fn char_step(text: &[u8], at: usize, e: usize, off: usize) -> Step
 }
 
 // The byte of a string at an offset in the character at `at`, if the string goes on there.
-fn next_byte(text: &[u8], at: usize, off: usize) -> Step
+fn next_byte(text: &[u8], at: usize, off: usize) -> Option<(u8, usize, usize)>
     requires { Inside text.now at off }
     ensures { Steps text.now (drop off (body_from text.now at)) result }
 {
     let n = scan::character(text, at);
     match n {
-        Next::More(e) => char_step(text, at, e, off),
-        Next::Done(_) => Step::End,
+        ControlFlow::Continue(e) => char_step(text, at, e, off),
+        ControlFlow::Break(_) => None,
     }
 }
 
@@ -420,15 +412,11 @@ fn body_chars(text: &[u8], at: usize) -> usize
 {
     let mut n: usize = 0;
     let mut x = next_byte(text, at, 0);
-    loop {
-        match x {
-            Step::Byte(b, i, a) => {
-                n = counted(n, begins_here(b));
-                x = next_byte(text, i, a);
-            }
-            Step::End => return n,
-        }
+    while let Some((b, i, a)) = x {
+        n = counted(n, begins_here(b));
+        x = next_byte(text, i, a);
     }
+    n
 }
 
 // The length in characters of the string at `at`, 0 where it is none.
@@ -437,8 +425,8 @@ pub fn chars_at(text: &[u8], at: usize) -> usize
 {
     let f = body_at(text, at);
     match f {
-        Found::At(i) => body_chars(text, i),
-        Found::Nothing => 0,
+        Some(i) => body_chars(text, i),
+        None => 0,
     }
 }
 
@@ -450,19 +438,19 @@ fn same_bodies(text: &[u8], p: usize, q: usize) -> bool
     let mut y = next_byte(text, q, 0);
     loop {
         match x {
-            Step::Byte(b, i, a) => match y {
-                Step::Byte(c, j, o) => {
+            Some((b, i, a)) => match y {
+                Some((c, j, o)) => {
                     if b != c {
                         return false;
                     }
                     x = next_byte(text, i, a);
                     y = next_byte(text, j, o);
                 }
-                Step::End => return false,
+                None => return false,
             },
-            Step::End => match y {
-                Step::Byte(_, _, _) => return false,
-                Step::End => return true,
+            None => match y {
+                Some((_, _, _)) => return false,
+                None => return true,
             },
         }
     }
@@ -475,41 +463,41 @@ pub fn same_strings(text: &[u8], p: usize, q: usize) -> bool
     let f = body_at(text, p);
     let g = body_at(text, q);
     match f {
-        Found::At(i) => match g {
-            Found::At(j) => same_bodies(text, i, j),
-            Found::Nothing => false,
+        Some(i) => match g {
+            Some(j) => same_bodies(text, i, j),
+            None => false,
         },
-        Found::Nothing => is_word(text, q, &text[..0]),
+        None => is_word(text, q, &text[..0]),
     }
 }
 
 // Past the bytes from `from` to `to` in `word` from o on, if they stand there.
-fn part_is(bytes: &[u8], from: usize, to: usize, word: &[u8], o: usize) -> Found
+fn part_is(bytes: &[u8], from: usize, to: usize, word: &[u8], o: usize) -> Option<usize>
     requires { to ≤ length bytes.now }
     ensures { result ≡ matched (between bytes.now from to) word.now o }
 {
     let mut p = o;
     for i in from..to {
         if word.len() <= p {
-            return Found::Nothing;
+            return None;
         }
         if bytes[i] != word[p] {
-            return Found::Nothing;
+            return None;
         }
         p += 1;
     }
-    Found::At(p)
+    Some(p)
 }
 
 // The same of the character that begins at `at` and ends at e.
-fn char_is(text: &[u8], at: usize, e: usize, word: &[u8], o: usize) -> Found
+fn char_is(text: &[u8], at: usize, e: usize, word: &[u8], o: usize) -> Option<usize>
     requires { e ≤ length text.now }
     ensures { result ≡ matched (char_bytes text.now at e (byte text.now at)) word.now o }
 {
     let b = scan::peek(text, at);
     if b == BACKSLASH {
         let mut buf = [0u8; 4];
-        let w = emit(text, at, e, &mut buf, Written::To(0));
+        let w = emit(text, at, e, &mut buf, Some(0));
         let n = count(w);
         return part_is(&buf, 0, n, word, o);
     }
@@ -538,17 +526,17 @@ pub fn body_is(text: &[u8], at: usize, word: &[u8]) -> bool
             }
             let n = scan::character(text, i);
             match n {
-                Next::More(e) => {
+                ControlFlow::Continue(e) => {
                     let m = char_is(text, i, e, word, o);
                     match m {
-                        Found::At(p) => {
+                        Some(p) => {
                             o = p;
                         }
-                        Found::Nothing => return false,
+                        None => return false,
                     }
                     i = e;
                 }
-                Next::Done(_) => return o == word.len(),
+                ControlFlow::Break(_) => return o == word.len(),
             }
         }
     }
@@ -560,31 +548,27 @@ pub fn is_word(text: &[u8], at: usize, word: &[u8]) -> bool
     ensures { result ≡ is_word word.now (tree_at text.now at) }
 {
     let f = body_at(text, at);
-    let Found::At(i) = f else {
+    let Some(i) = f else {
         return false;
     };
     body_is(text, i, word)
 }
 
 // Where the value of the last member of that name begins, in the object at `at`.
-pub fn find(text: &[u8], ends: &[u16], at: usize, word: &[u8]) -> Found
+pub fn find(text: &[u8], ends: &[u16], at: usize, word: &[u8]) -> Option<usize>
     requires says { Says text.now ends.now }
     requires at_value { well_at text.now at ≡ true }
     ensures { Means text.now result (has_member word.now (members_in (tree_at text.now at))) (member_value word.now (members_in (tree_at text.now at))) }
 {
-    let mut last = Found::Nothing;
+    let mut last = None;
     let mut g = nav::first(text, at, b'{', b'}');
-    loop {
-        match g {
-            Found::At(p) => {
-                let same = is_word(text, p, word);
-                if same {
-                    let v = nav::member_value(text, ends, p);
-                    last = Found::At(v);
-                }
-                g = nav::next_member(text, ends, p);
-            }
-            Found::Nothing => return last,
+    while let Some(p) = g {
+        let same = is_word(text, p, word);
+        if same {
+            let v = nav::member_value(text, ends, p);
+            last = Some(v);
         }
+        g = nav::next_member(text, ends, p);
     }
+    last
 }

@@ -1,27 +1,15 @@
 // Reads texts from standard input, each after its length in two bytes, and writes a line for each: where reading ended, and what was read.
 #![tactic(auto)]
 
-ghost use Rattle.std.specs.Prelude.{◌≡◌, true, ◌≤◌, ◌<◌, length};
+ghost use Rattle.std.specs.Prelude.{◌≡◌, true, ◌≤◌, length};
 ghost use Rattle.model.specs.Json.{text_at};
 ghost use Rattle.inner.specs.Positions.{Says, well_at};
 
-use model::{Found, Kind, Read, Whole};
-
-fn put(s: &[u8]) {
-    io::write_all(1, s);
-}
+use model::{Kind, Read, ReadError, Whole};
+use programs::{Texts, put, put_hex};
 
 fn put_number(n: usize) {
     io::print_decimal(1, n as u64);
-}
-
-// Bytes in hexadecimal.
-fn put_hex(s: &[u8]) {
-    let mut i = 0;
-    while i < s.len() {
-        io::print_hex(1, s[i] as u64, 2);
-        i += 1;
-    }
 }
 
 // A string's bytes, and its length in characters.
@@ -46,8 +34,7 @@ fn show_string(text: &[u8], scratch: &mut [u8], at: usize)
 fn show_number(text: &[u8], ends: &[u16], at: usize)
     requires { Says text.now ends.now }
 {
-    let w = nav::integer_at(text, ends, at);
-    match w {
+    match nav::integer_at(text, ends, at) {
         Whole::Plus(m) => {
             put(b"+");
             io::print_decimal(1, m);
@@ -65,17 +52,9 @@ fn show(text: &[u8], ends: &[u16], scratch: &mut [u8], at: usize)
     requires says { Says text.now ends.now }
     requires text_in_bounds { length text.now ≤ length scratch.old }
 {
-    let k = nav::kind_at(text, at);
-    match k {
+    match nav::kind_at(text, at) {
         Kind::Null => put(b"n"),
-        Kind::Truth => {
-            let b = nav::truth_at(text, at);
-            if b {
-                put(b"t");
-            } else {
-                put(b"f");
-            }
-        }
+        Kind::Truth => put(if nav::truth_at(text, at) { b"t" } else { b"f" }),
         Kind::Number => show_number(text, ends, at),
         Kind::Text => show_string(text, scratch, at),
         Kind::Array => put(b"["),
@@ -109,15 +88,10 @@ fn show_items(text: &[u8], ends: &[u16], scratch: &mut [u8], at: usize)
     requires says { Says text.now ends.now }
     requires text_in_bounds { length text.now ≤ length scratch.old }
 {
-    let mut g = nav::first(text, at, 91, 93);
-    loop {
-        match g {
-            Found::At(p) => {
-                show_item(text, ends, scratch, p);
-                g = nav::next_item(text, ends, p);
-            }
-            Found::Nothing => return,
-        }
+    let mut next = nav::first(text, at, b'[', b']');
+    while let Some(p) = next {
+        show_item(text, ends, scratch, p);
+        next = nav::next_item(text, ends, p);
     }
 }
 
@@ -126,15 +100,10 @@ fn show_members(text: &[u8], ends: &[u16], scratch: &mut [u8], at: usize)
     requires says { Says text.now ends.now }
     requires text_in_bounds { length text.now ≤ length scratch.old }
 {
-    let mut g = nav::first(text, at, 123, 125);
-    loop {
-        match g {
-            Found::At(p) => {
-                show_member(text, ends, scratch, p);
-                g = nav::next_member(text, ends, p);
-            }
-            Found::Nothing => return,
-        }
+    let mut next = nav::first(text, at, b'{', b'}');
+    while let Some(p) = next {
+        show_member(text, ends, scratch, p);
+        next = nav::next_member(text, ends, p);
     }
 }
 
@@ -144,13 +113,9 @@ fn show_found(text: &[u8], ends: &[u16], scratch: &mut [u8])
     requires text_in_bounds { length text.now ≤ length scratch.old }
     requires text_value { well_at text.now 0 ≡ true }
 {
-    let f = text::find(text, ends, 0, b"a");
-    match f {
-        Found::At(p) => {
-            put(b" a:");
-            show(text, ends, scratch, p);
-        }
-        Found::Nothing => {}
+    if let Some(p) = text::find(text, ends, 0, b"a") {
+        put(b" a:");
+        show(text, ends, scratch, p);
     }
 }
 
@@ -171,18 +136,18 @@ fn report(text: &[u8], ends: &[u16], scratch: &mut [u8], r: Read)
     requires r_value { r ≡ (text_at text.now).read }
 {
     match r {
-        Read::End(e) => {
+        Ok(e) => {
             put(b"end ");
             put_number(e);
             put(b" ");
             show_all(text, ends, scratch);
             show_found(text, ends, scratch);
         }
-        Read::Stop(e) => {
+        Err(ReadError::Stop(e)) => {
             put(b"stop ");
             put_number(e);
         }
-        Read::Deep(e) => {
+        Err(ReadError::Deep(e)) => {
             put(b"deep ");
             put_number(e);
         }
@@ -198,36 +163,13 @@ fn line(text: &[u8], ends: &mut [u16], scratch: &mut [u8])
     put(b"\n");
 }
 
-// The text whose length stands at `at`, and where the next one's stands, which is the end where this one is not whole.
-fn next(texts: &[u8], at: usize, ends: &mut [u16], scratch: &mut [u8]) -> usize
-    requires { at < length texts.now }
-    ensures { (at < result) × (result ≤ length texts.now) }
-{
-    let left = texts.len() - at;
-    if left < 2 {
-        return texts.len();
-    }
-    let n = octets::number(&texts[at..], 2) as usize;
-    if left - 2 < n {
-        return texts.len();
-    }
-    if scratch.len() < n {
-        return texts.len();
-    }
-    if ends.len() < n {
-        return texts.len();
-    }
-    let from = at + 2;
-    let to = from + n;
-    line(&texts[from..to], &mut ends[..n], scratch);
-    to
-}
-
-// The texts, one after another.
+// The texts, one after another, as far as each has room in `ends` and `scratch`.
 fn lines(texts: &[u8], ends: &mut [u16], scratch: &mut [u8]) {
-    let mut at = 0;
-    while at < texts.len() {
-        at = next(texts, at, ends, scratch);
+    for text in Texts(texts) {
+        if text.len() > ends.len() || text.len() > scratch.len() {
+            return;
+        }
+        line(text, &mut ends[..text.len()], scratch);
     }
 }
 

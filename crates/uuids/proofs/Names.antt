@@ -1,14 +1,12 @@
 -- uuid-names, one operation after another. Assumes nothing.
+use Rattle.std.specs.Prelude.{Option, Some, None}
 use mathlib.Core.Path.{◌≡◌, refl, sym, ap, subst, ◌∙◌}
 use mathlib.Core.Bool.{Bool, true, false}
 use mathlib.Core.List.{List, [], ◌∷◌, ◌++◌}
-use mathlib.Core.Option.{Option, none, some}
 use Prim.Native.Nat.{ℕ, zero, suc, ◌+◌, ◌-◌, ◌*◌, ◌<◌, ◌≤◌}
 use native.Mathlib.Omega.{arith}
 use lib.ListN.{length, take, drop, get_or, replicate, length-take, length-drop, take-append-drop}
 use lib.Seq.{get_or-drop, drop-drop, take-append-le, drop-append-le, length-take-le}
-use Rattle.model.specs.declared.Found.{Found}
-use Rattle.model.specs.declared.Found.TheVariants.{At, Nothing}
 use Rattle.model.specs.Octets.{value, eq_bytes}
 use Rattle.model.specs.Base.{all, ascii}
 use Rattle.model.specs.Json.{Json, null, bool, num, str, arr, obj, Named}
@@ -26,8 +24,6 @@ use Rattle.model.specs.Transact.{ids_from, fresh_ids, insert_name, is_named, nam
 use Rattle.model.proofs.Octets.{octet, octets, big_value}
 use Rattle.model.proofs.Lists.{all_take, all_drop}
 use Rattle.elements.specs.Elements.{is_pair}
-use Rattle.uuids.specs.declared.Id.{Id}
-use Rattle.uuids.specs.declared.Id.TheVariants.{Of, Bad}
 use Rattle.uuids.specs.Ids.{Spells, id_in, id_atom}
 use Rattle.uuids.specs.Named.{place_named, place_in, id_by, names_at, atom_of, fresh_atom, named_in}
 use Rattle.uuids.proofs.Decoded.{no_string}
@@ -35,18 +31,18 @@ use Rattle.uuids.proofs.Decoded.{no_string}
 -- ── whether an operation is an insert of a name ──
 module _ {A : Type 0} (read : Json → Option A) (w : List ℕ) (ms : List Named) where
   abbrev last_by : Bool → Option Json
-  last_by b = elim b [ true ↦ some (member_value w ms) | false ↦ none ]
+  last_by b = elim b [ true ↦ Some (member_value w ms) | false ↦ None ]
 
   abbrev member_by : Bool → Option A
-  member_by b = elim (last_by b) [ none ↦ none | some j ↦ read j ]
+  member_by b = elim (last_by b) [ None ↦ None | Some j ↦ read j ]
 
   member_by_lem : {b : Bool} → has_member w ms ≡ b → member_as read w ms ≡ member_by b
   member_by_lem h = ap member_by h
 
 by_op : Option (List ℕ) → List Named → Option (List ℕ)
-by_op o ms = elim o [ none ↦ none | some w ↦ elim (eq_bytes w (ascii "insert")) [ true ↦ member_as string_in (ascii "uuid-name") ms | false ↦ none ] ]
+by_op o ms = elim o [ None ↦ None | Some w ↦ elim (eq_bytes w (ascii "insert")) [ true ↦ member_as string_in (ascii "uuid-name") ms | false ↦ None ] ]
 
-by_op_lem : (j : Json) (ms : List Named) → by_op (string_in j) ms ≡ elim (is_word (ascii "insert") j) [ true ↦ member_as string_in (ascii "uuid-name") ms | false ↦ none ]
+by_op_lem : (j : Json) (ms : List Named) → by_op (string_in j) ms ≡ elim (is_word (ascii "insert") j) [ true ↦ member_as string_in (ascii "uuid-name") ms | false ↦ None ]
 unfolding by_op is_word
 by_op_lem null ms = refl
 by_op_lem (bool b) ms = refl
@@ -64,33 +60,33 @@ named_word (str t) w = refl
 named_word (arr xs) w = refl
 named_word (obj ms) w = refl
 
-module _ (s : List ℕ) (ms : List Named) (w : List ℕ) {f : Found} (m : Means s f (has_member (ascii "op") ms) (member_value (ascii "op") ms)) where
-  pub no_op : f ≡ Nothing → is_named (insert_name ms) w ≡ false
+module _ (s : List ℕ) (ms : List Named) (w : List ℕ) {f : Option ℕ} (m : Means s f (has_member (ascii "op") ms) (member_value (ascii "op") ms)) where
+  pub no_op : f ≡ None → is_named (insert_name ms) w ≡ false
   unfolding Means by_op
   no_op e =
       let h : has_member (ascii "op") ms ≡ false = subst (λ x. Means s x (has_member (ascii "op") ms) (member_value (ascii "op") ms)) e m in
       ap (λ o. is_named (by_op o ms) w) (member_by_lem string_in (ascii "op") ms h)
 
-  module _ {p : ℕ} (e : f ≡ At p) {i : Bool} (is : i ≡ is_word (ascii "insert") (tree_at s p)) where
-    insert_by : {b : Bool} → i ≡ b → insert_name ms ≡ elim b [ true ↦ member_as string_in (ascii "uuid-name") ms | false ↦ none ]
+  module _ {p : ℕ} (e : f ≡ Some p) {i : Bool} (is : i ≡ is_word (ascii "insert") (tree_at s p)) where
+    insert_by : {b : Bool} → i ≡ b → insert_name ms ≡ elim b [ true ↦ member_as string_in (ascii "uuid-name") ms | false ↦ None ]
     unfolding Means by_op
     insert_by {b} t =
         let k = subst (λ x. Means s x (has_member (ascii "op") ms) (member_value (ascii "op") ms)) e m in
         let q : is_word (ascii "insert") (member_value (ascii "op") ms) ≡ b = ap (is_word (ascii "insert")) k.1 ∙ sym is ∙ t in
         ap (λ o. by_op o ms) (member_by_lem string_in (ascii "op") ms k.0) ∙ by_op_lem (member_value (ascii "op") ms) ms
-        ∙ ap (λ (c : Bool). elim c [ true ↦ member_as string_in (ascii "uuid-name") ms | false ↦ none ]) q
+        ∙ ap (λ (c : Bool). elim c [ true ↦ member_as string_in (ascii "uuid-name") ms | false ↦ None ]) q
 
     pub no_insert : i ≡ false → is_named (insert_name ms) w ≡ false
     no_insert t = ap (λ o. is_named o w) (insert_by t)
 
-    module _ (t : i ≡ true) {u : Found} (n : Means s u (has_member (ascii "uuid-name") ms) (member_value (ascii "uuid-name") ms)) where
-      pub no_name : u ≡ Nothing → is_named (insert_name ms) w ≡ false
+    module _ (t : i ≡ true) {u : Option ℕ} (n : Means s u (has_member (ascii "uuid-name") ms) (member_value (ascii "uuid-name") ms)) where
+      pub no_name : u ≡ None → is_named (insert_name ms) w ≡ false
       unfolding Means
       no_name g =
           let h : has_member (ascii "uuid-name") ms ≡ false = subst (λ x. Means s x (has_member (ascii "uuid-name") ms) (member_value (ascii "uuid-name") ms)) g n in
           ap (λ o. is_named o w) (insert_by t ∙ member_by_lem string_in (ascii "uuid-name") ms h)
 
-      pub some_name : {q : ℕ} → u ≡ At q → is_named (insert_name ms) w ≡ is_word w (tree_at s q)
+      pub some_name : {q : ℕ} → u ≡ Some q → is_named (insert_name ms) w ≡ is_word w (tree_at s q)
       unfolding Means
       some_name g =
           let k = subst (λ x. Means s x (has_member (ascii "uuid-name") ms) (member_value (ascii "uuid-name") ms)) g n in
@@ -98,13 +94,13 @@ module _ (s : List ℕ) (ms : List Named) (w : List ℕ) {f : Found} (m : Means 
 
 -- ── the place of the first, one operation after another ──
 names_turn : (ids w : List ℕ) (o : List Named) (os : List (List Named)) {b : Bool} → is_named (insert_name o) w ≡ b
-    → names_of ids (o ∷ os) w ≡ elim b [ true ↦ some (get_or ids 0 0) | false ↦ names_of (drop 1 ids) os w ]
-names_turn ids w o os t = ap (λ (b : Bool). elim b [ true ↦ some (get_or ids 0 0) | false ↦ names_of (drop 1 ids) os w ]) t
+    → names_of ids (o ∷ os) w ≡ elim b [ true ↦ Some (get_or ids 0 0) | false ↦ names_of (drop 1 ids) os w ]
+names_turn ids w o os t = ap (λ (b : Bool). elim b [ true ↦ Some (get_or ids 0 0) | false ↦ names_of (drop 1 ids) os w ]) t
 
 pub place_turn : (k : ℕ) (w : List ℕ) (o : List Named) (os : List (List Named)) {b : Bool} → is_named (insert_name o) w ≡ b
-    → place_named k w (o ∷ os) ≡ elim b [ true ↦ At k | false ↦ place_named (k + 1) w os ]
+    → place_named k w (o ∷ os) ≡ elim b [ true ↦ Some k | false ↦ place_named (k + 1) w os ]
 unfolding place_named
-place_turn k w o os t = ap (λ (b : Bool). elim b [ true ↦ At k | false ↦ place_named (k + 1) w os ]) t
+place_turn k w o os t = ap (λ (b : Bool). elim b [ true ↦ Some k | false ↦ place_named (k + 1) w os ]) t
 
 -- ── what a name stands for, by the place ──
 pub names_by : (ids w : List ℕ) (k : ℕ) (os : List (List Named)) → names_of (drop k ids) os w ≡ id_by ids (place_named k w os)
@@ -115,7 +111,7 @@ names_by ids w k (o ∷ os) = go (is_named (insert_name o) w) refl (names_by ids
     go : (b : Bool) → is_named (insert_name o) w ≡ b → names_of (drop (k + 1) ids) os w ≡ id_by ids (place_named (k + 1) w os) → names_of (drop k ids) (o ∷ os) w ≡ id_by ids (place_named k w (o ∷ os))
     go true t ih =
         let z : k + 0 ≡ k = omega arith in
-        names_turn (drop k ids) w o os t ∙ ap some (get_or-drop k ids 0 0 ∙ ap (λ n. get_or ids n 0) z) ∙ ap (id_by ids) (sym (place_turn k w o os t))
+        names_turn (drop k ids) w o os t ∙ ap Some (get_or-drop k ids 0 0 ∙ ap (λ n. get_or ids n 0) z) ∙ ap (id_by ids) (sym (place_turn k w o os t))
     go false t ih = names_turn (drop k ids) w o os t ∙ ap (λ l. names_of l os w) (drop-drop 1 k ids) ∙ ih ∙ ap (id_by ids) (sym (place_turn k w o os t))
 
 -- ── fresh ids ──
@@ -156,12 +152,12 @@ module _ (fresh : List ℕ) (k : ℕ) where
   fresh_past zeros h z = z ∙ sym (ap uuid_atom (ids_past 16 k fresh h))
 
 -- ── the atom of an id ──
-pub spells_atom : (i : Id) (o : Option ℕ) → Spells i o → atom_of o ≡ id_atom i
+pub spells_atom : (i : Option (ℕ × ℕ)) (o : Option ℕ) → Spells i o → atom_of o ≡ id_atom i
 unfolding Spells atom_of id_atom
-spells_atom (Of high low) o p = ap atom_of p.1 ∙ ap (λ l. some (pad l)) p.2
-spells_atom Bad o p = ap atom_of p
+spells_atom (Some (high, low)) o p = ap atom_of p.1 ∙ ap (λ l. Some (pad l)) p.2
+spells_atom None o p = ap atom_of p
 
-pub some_string : (j : Json) → is_text (kind_of j) ≡ true → string_in j ≡ some (string j)
+pub some_string : (j : Json) → is_text (kind_of j) ≡ true → string_in j ≡ Some (string j)
 unfolding kind_of string
 some_string null h = cc
 some_string (bool b) h = cc
@@ -172,34 +168,34 @@ some_string (obj ms) h = cc
 
 module _ (s names : List ℕ) (j : Json) where
   by_name : Option (List ℕ) → Option ℕ
-  by_name o = elim o [ none ↦ none | some t ↦ names_at s names t ]
+  by_name o = elim o [ None ↦ None | Some t ↦ names_at s names t ]
 
-  pub named_not : is_text (kind_of j) ≡ false → atom_of (named_in (names_at s names) j) ≡ none
+  pub named_not : is_text (kind_of j) ≡ false → atom_of (named_in (names_at s names) j) ≡ None
   unfolding atom_of named_in by_name
   named_not h = ap (λ o. atom_of (by_name o)) (no_string j h)
 
-  module _ (h : is_text (kind_of j) ≡ true) {f : Found} (p : f ≡ place_in s names (string j)) where
+  module _ (h : is_text (kind_of j) ≡ true) {f : Option ℕ} (p : f ≡ place_in s names (string j)) where
     named_by : named_in (names_at s names) j ≡ id_by (fresh_ids names) f
     unfolding named_in names_at by_name
     named_by = ap by_name (some_string j h) ∙ ap (id_by (fresh_ids names)) (sym p)
 
-    pub named_some : {k : ℕ} → f ≡ At k → atom_of (named_in (names_at s names) j) ≡ some (fresh_atom names k)
+    pub named_some : {k : ℕ} → f ≡ Some k → atom_of (named_in (names_at s names) j) ≡ Some (fresh_atom names k)
     unfolding atom_of id_by fresh_atom
     named_some g = ap atom_of (named_by ∙ ap (id_by (fresh_ids names)) g)
 
-    pub named_none : f ≡ Nothing → atom_of (named_in (names_at s names) j) ≡ none
+    pub named_none : f ≡ None → atom_of (named_in (names_at s names) j) ≡ None
     unfolding atom_of id_by
     named_none g = ap atom_of (named_by ∙ ap (id_by (fresh_ids names)) g)
 
 -- ── ["uuid", ..] and ["named-uuid", ..] ──
-few : (names : Names) (l : List Json) → is_pair l ≡ false → uuid_items names l ≡ none
+few : (names : Names) (l : List Json) → is_pair l ≡ false → uuid_items names l ≡ None
 unfolding is_pair
 few names [] h = refl
 few names (a ∷ []) h = refl
 few names (a ∷ b ∷ []) h = cc
 few names (a ∷ b ∷ c ∷ l) h = refl
 
-not_two : (names : Names) (j : Json) → is_pair (items_in j) ≡ false → uuid_in names j ≡ none
+not_two : (names : Names) (j : Json) → is_pair (items_in j) ≡ false → uuid_in names j ≡ None
 unfolding items_in
 not_two names null h = refl
 not_two names (bool b) h = refl
@@ -218,18 +214,18 @@ uuid_two names (arr xs) a b e = ap (uuid_items names) e
 uuid_two names (obj ms) a b e = cc
 
 module _ (names : Names) (j : Json) where
-  pub uuid_not : is_pair (items_in j) ≡ false → atom_in names uuid j ≡ none
+  pub uuid_not : is_pair (items_in j) ≡ false → atom_in names uuid j ≡ None
   unfolding atom_of
   uuid_not h = ap atom_of (not_two names j h)
 
   module _ {a b : Json} (e : items_in j ≡ a ∷ b ∷ []) where
     abbrev by_words : Bool → Bool → Option (List ℕ) → Option ℕ
-    by_words p q o = elim o [ none ↦ none | some t ↦ elim p [ true ↦ uuid_from 0 0 t | false ↦ elim q [ true ↦ names t | false ↦ none ] ] ]
+    by_words p q o = elim o [ None ↦ None | Some t ↦ elim p [ true ↦ uuid_from 0 0 t | false ↦ elim q [ true ↦ names t | false ↦ None ] ] ]
 
     uuid_by_lem : (o : Option (List ℕ)) {p q : Bool} → is_word (ascii "uuid") a ≡ p → is_word (ascii "named-uuid") a ≡ q → uuid_by names a o ≡ by_words p q o
-    uuid_by_lem none x y = refl
-    uuid_by_lem (some t) {p} {q} x y =
-        ap (λ (c : Bool). by_words c (is_word (ascii "named-uuid") a) (some t)) x ∙ ap (λ (c : Bool). by_words p c (some t)) y
+    uuid_by_lem None x y = refl
+    uuid_by_lem (Some t) {p} {q} x y =
+        ap (λ (c : Bool). by_words c (is_word (ascii "named-uuid") a) (Some t)) x ∙ ap (λ (c : Bool). by_words p c (Some t)) y
 
     pub uuid_plain : is_word (ascii "uuid") a ≡ true → atom_in names uuid j ≡ atom_of (id_in b)
     unfolding atom_of id_in
@@ -239,10 +235,10 @@ module _ (names : Names) (j : Json) where
     unfolding atom_of named_in
     uuid_named x y = ap atom_of (uuid_two names j a b e ∙ uuid_by_lem (string_in b) x y)
 
-    pub uuid_other : is_word (ascii "uuid") a ≡ false → is_word (ascii "named-uuid") a ≡ false → atom_in names uuid j ≡ none
+    pub uuid_other : is_word (ascii "uuid") a ≡ false → is_word (ascii "named-uuid") a ≡ false → atom_in names uuid j ≡ None
     unfolding atom_of
     uuid_other x y = ap atom_of (uuid_two names j a b e ∙ uuid_by_lem (string_in b) x y ∙ neither (string_in b))
       where
-        neither : (o : Option (List ℕ)) → by_words false false o ≡ none
-        neither none = refl
-        neither (some t) = refl
+        neither : (o : Option (List ℕ)) → by_words false false o ≡ None
+        neither None = refl
+        neither (Some t) = refl

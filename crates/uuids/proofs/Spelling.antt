@@ -1,8 +1,8 @@
 -- The characters of an id read into two halves. Assumes nothing.
+use Rattle.std.specs.Prelude.{Option, Some, None}
 use mathlib.Core.Path.{◌≡◌, refl, sym, ap, subst, ◌∙◌}
 use mathlib.Core.Bool.{true, false}
 use mathlib.Core.List.{List, [], ◌∷◌, ◌++◌}
-use mathlib.Core.Option.{none}
 use Prim.Native.Nat.{ℕ, zero, suc, ◌+◌, ◌*◌, ◌/◌, ◌%◌, ◌^◌, ◌<◌}
 use native.Mathlib.Nat.{div-div-eq-div-mul, mod-lt}
 use native.Mathlib.Numerals.{add-one}
@@ -16,8 +16,6 @@ use Rattle.model.specs.Strings.{hex_of}
 use Rattle.model.specs.Written.{is_dash, uuid_from}
 use Rattle.model.proofs.Tests.{split}
 use Rattle.model.proofs.Octets.{length_big, big_octets, value_big, value_inj}
-use Rattle.uuids.specs.declared.Id.{Id}
-use Rattle.uuids.specs.declared.Id.TheVariants.{Of, Bad}
 use Rattle.uuids.specs.Ids.{shifted, spelt, Spells}
 
 -- ── 16 bytes as two halves ──
@@ -80,49 +78,49 @@ module _ (at i b : ℕ) (bs : List ℕ) where
   dash_on : is_dash at ≡ true → eqb b 45 ≡ true → uuid_from at i (b ∷ bs) ≡ uuid_from (suc at) i bs
   dash_on d e = rw (uuid_from, d, e)
 
-  dash_off : is_dash at ≡ true → eqb b 45 ≡ false → uuid_from at i (b ∷ bs) ≡ none
+  dash_off : is_dash at ≡ true → eqb b 45 ≡ false → uuid_from at i (b ∷ bs) ≡ None
   dash_off d e = rw (uuid_from, d, e)
 
   digit_on : is_dash at ≡ false → ltb (hex_of b) 16 ≡ true → uuid_from at i (b ∷ bs) ≡ uuid_from (suc at) (i * 16 + hex_of b) bs
   digit_on d e = rw (uuid_from, d, e)
 
-  digit_off : is_dash at ≡ false → ltb (hex_of b) 16 ≡ false → uuid_from at i (b ∷ bs) ≡ none
+  digit_off : is_dash at ≡ false → ltb (hex_of b) 16 ≡ false → uuid_from at i (b ∷ bs) ≡ None
   digit_off d e = rw (uuid_from, d, e)
 
 module _ (high low at b : ℕ) where
-  pub spelt_dash : is_dash at ≡ true → eqb b 45 ≡ true → spelt (Of high low) at b ≡ Of high low
+  pub spelt_dash : is_dash at ≡ true → eqb b 45 ≡ true → spelt (Some (high, low)) at b ≡ Some (high, low)
   unfolding spelt
   spelt_dash d e = rw (spelt, d, e)
 
-  pub spelt_other : is_dash at ≡ true → eqb b 45 ≡ false → spelt (Of high low) at b ≡ Bad
+  pub spelt_other : is_dash at ≡ true → eqb b 45 ≡ false → spelt (Some (high, low)) at b ≡ None
   unfolding spelt
   spelt_other d e = rw (spelt, d, e)
 
-  pub spelt_digit : is_dash at ≡ false → ltb (hex_of b) 16 ≡ true → spelt (Of high low) at b ≡ shifted high low (hex_of b)
+  pub spelt_digit : is_dash at ≡ false → ltb (hex_of b) 16 ≡ true → spelt (Some (high, low)) at b ≡ shifted high low (hex_of b)
   unfolding spelt
   spelt_digit d e = rw (spelt, d, e)
 
-  pub spelt_none : is_dash at ≡ false → ltb (hex_of b) 16 ≡ false → spelt (Of high low) at b ≡ Bad
+  pub spelt_none : is_dash at ≡ false → ltb (hex_of b) 16 ≡ false → spelt (Some (high, low)) at b ≡ None
   unfolding spelt
   spelt_none d e = rw (spelt, d, e)
 
-pub spelt_bad : (at b : ℕ) → spelt Bad at b ≡ Bad
+pub spelt_bad : (at b : ℕ) → spelt None at b ≡ None
 unfolding spelt
 spelt_bad at b = refl
 
 -- what was spelt before `at`
-unfoldable pub Sofar : List ℕ → ℕ → Id → Type 0
-Sofar t at (Of high low) = (i : ℕ) × (uuid_from 0 0 t ≡ uuid_from at i (drop at t)) × Halves i high low
-Sofar t at Bad = uuid_from 0 0 t ≡ none
+unfoldable pub Sofar : List ℕ → ℕ → Option (ℕ × ℕ) → Type 0
+Sofar t at (Some (high, low)) = (i : ℕ) × (uuid_from 0 0 t ≡ uuid_from at i (drop at t)) × Halves i high low
+Sofar t at None = uuid_from 0 0 t ≡ None
 
-pub sofar_start : (t : List ℕ) → Sofar t 0 (Of 0 0)
+pub sofar_start : (t : List ℕ) → Sofar t 0 (Some (0, 0))
 unfolding Sofar
 sofar_start t = (0, refl, record { rest = 0; over = 0; whole = refl; top = refl; small = omega arith })
 
-pub sofar_on : (t : List ℕ) (at : ℕ) (i : Id) → at < length t → Sofar t at i → Sofar t (at + 1) (spelt i at (get_or t at 0))
+pub sofar_on : (t : List ℕ) (at : ℕ) (i : Option (ℕ × ℕ)) → at < length t → Sofar t at i → Sofar t (at + 1) (spelt i at (get_or t at 0))
 unfolding Sofar spelt shifted
-sofar_on t at Bad h s = s
-sofar_on t at (Of high low) h s = split (is_dash at)
+sofar_on t at None h s = s
+sofar_on t at (Some (high, low)) h s = split (is_dash at)
     (λ d. split (eqb b 45)
     (λ e. subst (Sofar t (at + 1)) (sym (spelt_dash high low at b d e)) (s.0, step ∙ dash_on at s.0 b rest d e ∙ further s.0, s.2))
     (λ e. subst (Sofar t (at + 1)) (sym (spelt_other high low at b d e)) (step ∙ dash_off at s.0 b rest d e)))
@@ -142,22 +140,22 @@ sofar_on t at (Of high low) h s = split (is_dash at)
     further : (i : ℕ) → uuid_from (suc at) i rest ≡ uuid_from (at + 1) i (drop (at + 1) t)
     further i = ap (λ (n : ℕ). uuid_from n i (drop n t)) (sym (add-one at))
 
-pub sofar_end : (t : List ℕ) (at : ℕ) (i : Id) → length t ≡ 36 → at ≡ 36 → Sofar t at i → Spells i (uuid_from 0 0 t)
+pub sofar_end : (t : List ℕ) (at : ℕ) (i : Option (ℕ × ℕ)) → length t ≡ 36 → at ≡ 36 → Sofar t at i → Spells i (uuid_from 0 0 t)
 unfolding Sofar Spells
-sofar_end t at Bad n e s = s
-sofar_end t at (Of high low) n e s =
+sofar_end t at None n e s = s
+sofar_end t at (Some (high, low)) n e s =
     let z : drop at t ≡ [] = drop_of_length-le t {i = at} (omega arith) in
     (s.0, s.1 ∙ ap (uuid_from at s.0) z ∙ ap (λ (k : ℕ). uuid_from k s.0 []) e, halves_big s.2)
 
 -- other lengths spell none
-pub not_36 : (at i : ℕ) (t : List ℕ) → (at + length t ≡ 36 → ⊥) → uuid_from at i t ≡ none
+pub not_36 : (at i : ℕ) (t : List ℕ) → (at + length t ≡ 36 → ⊥) → uuid_from at i t ≡ None
 not_36 at i [] n = rw (uuid_from, ne_eqb at 36 (λ e. n (omega (arith, e))))
 not_36 at i (b ∷ bs) n = go (not_36 (suc at) i bs m) (not_36 (suc at) (i * 16 + hex_of b) bs m)
   where
     m : suc at + length bs ≡ 36 → ⊥
     m q = n (omega (arith, q))
 
-    go : uuid_from (suc at) i bs ≡ none → uuid_from (suc at) (i * 16 + hex_of b) bs ≡ none → uuid_from at i (b ∷ bs) ≡ none
+    go : uuid_from (suc at) i bs ≡ None → uuid_from (suc at) (i * 16 + hex_of b) bs ≡ None → uuid_from at i (b ∷ bs) ≡ None
     go p q = split (is_dash at)
         (λ d. split (eqb b 45) (λ e. dash_on at i b bs d e ∙ p) (λ e. dash_off at i b bs d e))
         (λ d. split (ltb (hex_of b) 16) (λ e. digit_on at i b bs d e ∙ q) (λ e. digit_off at i b bs d e))

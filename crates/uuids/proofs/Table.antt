@@ -1,4 +1,7 @@
 -- The table of uuid-names: filled one operation after another, and looked up. Assumes nothing.
+use Rattle.std.specs.Prelude.{Ok, Err}
+use Rattle.model.specs.Scan.{Read}
+use Rattle.std.specs.Prelude.{Option, Some, None}
 use mathlib.Core.Path.{◌≡◌, refl, sym, ap, subst, fun_ext, ◌∙◌}
 use mathlib.Core.Bool.{Bool, true, false}
 use mathlib.Core.List.{List, [], ◌∷◌, ◌++◌, map}
@@ -10,10 +13,6 @@ use lib.Dec.{eqb, ltb}
 use borrow.Author.Tests.{eqb-true, eqb-false, ltb-true, ltb-false}
 use lib.ListN.{length, take, drop, get_or, set, replicate, length-append, length-drop, length-set, length-map, length-replicate, drop_of_length-le, get_or-eq_default}
 use lib.Seq.{drop-cons, drop-drop, get_or-drop, get_or-append-add, get_or-set_same, get_or-set_other, take-set-le, take-append_seam}
-use Rattle.model.specs.declared.Read.{Read}
-use Rattle.model.specs.declared.Read.TheVariants.{End, Stop, Deep}
-use Rattle.model.specs.declared.Found.{Found}
-use Rattle.model.specs.declared.Found.TheVariants.{At, Nothing}
 use Rattle.model.specs.Base.{ascii}
 use Rattle.model.specs.Json.{Named, value_at}
 use Rattle.model.specs.Nav.{is_read}
@@ -35,32 +34,31 @@ unfolding well_at is_read
 well_below s q h = go (value_at 12 s q).read refl (value_past s 12 q)
   where
     go : (r : Read) → (value_at 12 s q).read ≡ r → Past s (suc q) (value_at 12 s q).read → q < length s
-    go (End e) t p = let z = subst (Past s (suc q)) t p in omega (arith, z.0, z.1)
-    go (Stop e) t p = absurd (clash (is_read (value_at 12 s q).read) h (ap is_read t))
-    go (Deep e) t p = absurd (clash (is_read (value_at 12 s q).read) h (ap is_read t))
+    go (Ok e) t p = let z = subst (Past s (suc q)) t p in omega (arith, z.0, z.1)
+    go (Err e) t p = absurd (clash (is_read (value_at 12 s q).read) h (ap is_read t))
 
 module _ (s : List ℕ) (ms : List Named) where
   no_entry : ((w : List ℕ) → is_named (insert_name ms) w ≡ false) → EntryOf s ms 0
   unfolding is_entry
   no_entry h = record { fits = omega arith; names = λ w. sym (h w) }
 
-  module _ {f : Found} (m : Means s f (has_member (ascii "op") ms) (member_value (ascii "op") ms)) where
-    pub entry_no_op : f ≡ Nothing → EntryOf s ms 0
+  module _ {f : Option ℕ} (m : Means s f (has_member (ascii "op") ms) (member_value (ascii "op") ms)) where
+    pub entry_no_op : f ≡ None → EntryOf s ms 0
     entry_no_op e = no_entry (λ w. no_op s ms w m e)
 
-    module _ {p : ℕ} (e : f ≡ At p) {i : Bool} (is : i ≡ is_word (ascii "insert") (tree_at s p)) where
+    module _ {p : ℕ} (e : f ≡ Some p) {i : Bool} (is : i ≡ is_word (ascii "insert") (tree_at s p)) where
       pub entry_no_insert : i ≡ false → EntryOf s ms 0
       entry_no_insert t = no_entry (λ w. no_insert s ms w m e is t)
 
-      module _ (t : i ≡ true) {u : Found} (n : Means s u (has_member (ascii "uuid-name") ms) (member_value (ascii "uuid-name") ms)) where
-        pub entry_no_name : u ≡ Nothing → EntryOf s ms 0
+      module _ (t : i ≡ true) {u : Option ℕ} (n : Means s u (has_member (ascii "uuid-name") ms) (member_value (ascii "uuid-name") ms)) where
+        pub entry_no_name : u ≡ None → EntryOf s ms 0
         entry_no_name g = no_entry (λ w. no_name s ms w m e is t n g)
 
-        pub entry_below : {q : ℕ} → u ≡ At q → q < length s
+        pub entry_below : {q : ℕ} → u ≡ Some q → q < length s
         unfolding Means
         entry_below {q} g = well_below s q (subst (λ x. Means s x (has_member (ascii "uuid-name") ms) (member_value (ascii "uuid-name") ms)) g n).2
 
-        pub entry_some : {q : ℕ} → u ≡ At q → length s ≤ 8192 → EntryOf s ms (q + 1)
+        pub entry_some : {q : ℕ} → u ≡ Some q → length s ≤ 8192 → EntryOf s ms (q + 1)
         unfolding is_entry
         entry_some {q} g l = rw (add-one q) (record { fits = omega (arith, entry_below g, l); names = λ w. sym (some_name s ms w m e is t n g) })
 
@@ -100,14 +98,14 @@ unnamed w = refl
 
 -- among operations, the i-th and on
 place_drop : (w : List ℕ) (os : List (List Named)) (i : ℕ) {b : Bool} → is_named (insert_name (get_or os i [])) w ≡ b
-    → place_named i w (drop i os) ≡ elim b [ true ↦ At i | false ↦ place_named (i + 1) w (drop (i + 1) os) ]
+    → place_named i w (drop i os) ≡ elim b [ true ↦ Some i | false ↦ place_named (i + 1) w (drop (i + 1) os) ]
 unfolding place_named
 place_drop w os i {b} t = split (ltb i (length os))
     (λ y. let d : drop i os ≡ get_or os i [] ∷ drop (i + 1) os = drop-cons os i [] (ltb-true i (length os) y) ∙ ap (λ n. get_or os i [] ∷ drop n os) (sym (add-one i)) in
     rw d (place_turn i w (get_or os i []) (drop (i + 1) os) t))
     (λ y. let l = ltb-false i (length os) y in
     let q : false ≡ b = sym (unnamed w) ∙ ap (λ o. is_named (insert_name o) w) (sym (get_or-eq_default os [] {n = i} l)) ∙ t in
-    let more : Bool → Found = λ (c : Bool). elim c [ true ↦ At i | false ↦ place_named (i + 1) w (drop (i + 1) os) ] in
+    let more : Bool → (Option ℕ) = λ (c : Bool). elim c [ true ↦ Some i | false ↦ place_named (i + 1) w (drop (i + 1) os) ] in
     ap (place_named i w) (drop_of_length-le os {i = i} l) ∙ sym (ap (place_named (i + 1) w) (drop_of_length-le os {i = i + 1} (omega arith))) ∙ ap more q)
 
 -- among entries
@@ -115,7 +113,7 @@ module _ (s names w : List ℕ) (n k : ℕ) where
   left : k < n → n - k ≡ suc (n - (k + 1))
   left h = omega arith
 
-  pub place_here : k < n → is_entry s w (entry_at names k) ≡ true → place_from s names w (n - k) k ≡ At k
+  pub place_here : k < n → is_entry s w (entry_at names k) ≡ true → place_from s names w (n - k) k ≡ Some k
   unfolding place_from
   place_here h t = rw (left h, place_from, t)
 
@@ -123,7 +121,7 @@ module _ (s names w : List ℕ) (n k : ℕ) where
   unfolding place_from
   place_on h t = rw (left h, place_from, t)
 
-  pub place_end : n ≤ k → place_from s names w (n - k) k ≡ Nothing
+  pub place_end : n ≤ k → place_from s names w (n - k) k ≡ None
   unfolding place_from
   place_end h = let z : n - k ≡ 0 = omega arith in rw z
 
@@ -145,7 +143,7 @@ zeros_get (suc n) zero = refl
 zeros_get (suc n) (suc i) = zeros_get n i
 
 -- what is filled before operation k, where the operations from g on are left
-pub record Filling (s : List ℕ) (os : List (List Named)) (fresh names : List ℕ) (g : Found) (k : ℕ) : Type 0 where
+pub record Filling (s : List ℕ) (os : List (List Named)) (fresh names : List ℕ) (g : Option ℕ) (k : ℕ) : Type 0 where
   pub size : length names ≡ 288
   pub ids : take 256 names ≡ fresh
   pub few : k ≤ 16
@@ -154,7 +152,7 @@ pub record Filling (s : List ℕ) (os : List (List Named)) (fresh names : List �
   pub filled : (i : ℕ) → i < k → (w : List ℕ) → is_entry s w (entry_at names i) ≡ is_named (insert_name (get_or os i [])) w
   pub blank : (i : ℕ) → k ≤ i → i < 16 → entry_at names i ≡ 0
 
-module _ (s : List ℕ) (ops : Found) (fresh : List ℕ) where
+module _ (s : List ℕ) (ops : Option ℕ) (fresh : List ℕ) where
   abbrev os : List (List Named)
   os = operations_at s ops
 
@@ -175,8 +173,8 @@ module _ (s : List ℕ) (ops : Found) (fresh : List ℕ) where
           let y : i ≡ length fresh + (i - 256) = omega arith in
           ap (λ l. get_or l i 0) e ∙ rw y (get_or-append-add fresh (drop (length fresh) zeros) (i - 256) 0 ∙ get_or-drop (length fresh) zeros (i - 256) 0 ∙ ap (λ t. get_or t (length fresh + (i - 256)) 0) z ∙ zeros_get 288 (length fresh + (i - 256)))
 
-  module _ {names : List ℕ} {g : Found} {k : ℕ} (t : Filling s os fresh names g k) where
-    module _ {p : ℕ} (h : g ≡ At p) where
+  module _ {names : List ℕ} {g : Option ℕ} {k : ℕ} (t : Filling s os fresh names g k) where
+    module _ {p : ℕ} (h : g ≡ Some p) where
       next : drop k os ≡ members_in (tree_at s p) ∷ operations_at s (next_item s p)
       unfolding operations_at
       next = t.rest ∙ ap (map members_in) (walk_rest s h)
@@ -185,7 +183,7 @@ module _ (s : List ℕ) (ops : Found) (fresh : List ℕ) where
       unfolding operations_at
       filling_room l = omega (arith, ap length next, length-drop k os, length-map (items_from s ops) members_in, l)
 
-      pub filling_on : {q : ℕ} → k < 16 → EntryOf s (members_in (tree_at s p)) q → {n : Found} → n ≡ next_item s p → Filling s os fresh (entry_put names k q) n (k + 1)
+      pub filling_on : {q : ℕ} → k < 16 → EntryOf s (members_in (tree_at s p)) q → {n : Option ℕ} → n ≡ next_item s p → Filling s os fresh (entry_put names k q) n (k + 1)
       filling_on {q} l e {n} m = rw m (record {
         size = entry_length names k q ∙ t.size;
         ids = entry_ids names k q ∙ t.ids;
@@ -202,7 +200,7 @@ module _ (s : List ℕ) (ops : Found) (fresh : List ℕ) where
           here : (i : ℕ) → i ≡ k → (w : List ℕ) → is_entry s w (entry_at (entry_put names k q) i) ≡ is_named (insert_name (get_or os i [])) w
           here i y w = rw (y, entry_same names k q t.size l, first) (e.names w)
 
-    pub filling_end : g ≡ Nothing → Filled s ops fresh names
+    pub filling_end : g ≡ None → Filled s ops fresh names
     unfolding place_in operations_at is_entry
     filling_end h = record { size = t.size; ids = ids_front names (omega (arith, t.size)) ∙ ap fresh_ids t.ids; places = λ w. place_same s names w os (omega (arith, past, t.few)) (λ i l. each i l w) 16 0 (omega arith) }
       where
@@ -213,7 +211,7 @@ module _ (s : List ℕ) (ops : Found) (fresh : List ℕ) where
         each i l w = split (ltb i k) (λ y. t.filled i (ltb-true i k y) w) (λ y. rw (t.blank i (ltb-false i k y) l, get_or-eq_default os [] {n = i} (omega (arith, past, ltb-false i k y))) (sym (unnamed w)))
 
 -- what the names of a filled table stand for
-pub filled_names : {s : List ℕ} {ops : Found} {fresh names : List ℕ} → Filled s ops fresh names → names_at s names ≡ names_of (fresh_ids fresh) (operations_at s ops)
+pub filled_names : {s : List ℕ} {ops : Option ℕ} {fresh names : List ℕ} → Filled s ops fresh names → names_at s names ≡ names_of (fresh_ids fresh) (operations_at s ops)
 unfolding names_at
 filled_names {s} {ops} {fresh} {names} t =
     fun_ext (λ w. ap (id_by (fresh_ids names)) (t.places w) ∙ ap (λ ids. id_by ids (place_named 0 w (operations_at s ops))) t.ids ∙ sym (names_by (fresh_ids fresh) w 0 (operations_at s ops)))

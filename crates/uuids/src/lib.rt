@@ -12,9 +12,7 @@ ghost use Rattle.model.specs.Written.{is_dash, uuid_from, atom_in};
 ghost use Rattle.uuids.specs.Ids.{shifted, spelt, Spells, id_in, id_atom};
 ghost use Rattle.uuids.specs.Named.{names_bytes, entry_at, entry_put, is_entry, EntryOf, place_in, names_at, Filled, Answered, atom_of, fresh_atom, named_in, Running};
 
-use elements::Pair;
-use model::{Atom, FRESH_BYTES, Found, ID, Kind, OPERATIONS};
-use text::Written;
+use model::{Atom, FRESH_BYTES, ID, Kind, OPERATIONS};
 
 // Characters of a uuid as written.
 const CHARACTERS: usize = 36;
@@ -22,82 +20,73 @@ const CHARACTERS: usize = 36;
 // Bytes of the table of a request's uuid-names: the fresh ids, then two for each operation.
 pub const NAMES: usize = FRESH_BYTES + 2 * OPERATIONS;
 
-// The upper and the lower 64 bits of an id; or that there is none.
-#[derive(Clone, Copy)]
-pub enum Id {
-    Of(u64, u64),
-    Bad,
-}
-
 fn is_dash(at: usize) -> bool
     ensures { result ≡ is_dash at }
 {
-    (at == 8) | (at == 13) | (at == 18) | (at == 23)
+    matches!(at, 8 | 13 | 18 | 23)
 }
 
 // One digit more.
-fn shift(high: u64, low: u64, d: u16) -> Id
+fn shift(high: u64, low: u64, d: u16) -> Option<(u64, u64)>
     requires { d ≤ 15 }
     ensures { result ≡ shifted high low d }
 {
-    Id::Of(
+    Some((
         high % 1152921504606846976 * 16 + low / 1152921504606846976,
         low % 1152921504606846976 * 16 + d as u64,
-    )
+    ))
 }
 
 // One character more, at its place.
-fn spell(i: Id, at: usize, b: u8) -> Id
+fn spell(i: Option<(u64, u64)>, at: usize, b: u8) -> Option<(u64, u64)>
     ensures { result ≡ spelt i at b }
 {
     match i {
-        Id::Of(high, low) => {
+        Some((high, low)) => {
             let dash = is_dash(at);
             if dash {
                 if b == b'-' {
                     return i;
                 }
-                return Id::Bad;
+                return None;
             }
             let d = scan::hex_digit(b as u16);
             if d < 16 {
                 return shift(high, low, d);
             }
-            Id::Bad
+            None
         }
-        Id::Bad => Id::Bad,
+        None => None,
     }
 }
 
 // The id that characters spell.
-pub fn id_of(t: &[u8]) -> Id
+pub fn id_of(t: &[u8]) -> Option<(u64, u64)>
     ensures { Spells result (uuid_from 0 0 t.now) }
 {
     if t.len() != CHARACTERS {
-        return Id::Bad;
+        return None;
     }
-    let mut i = Id::Of(0, 0);
-    let mut at = 0;
-    while at < CHARACTERS {
-        i = spell(i, at, t[at]);
-        at += 1;
+    let mut i = Some((0, 0));
+    for (at, b) in t.iter().enumerate() {
+        i = spell(i, at, *b);
     }
     i
 }
 
 // The id that the string at `at` spells.
-pub fn id_at(text: &[u8], at: usize) -> Id
+pub fn id_at(text: &[u8], at: usize) -> Option<(u64, u64)>
     ensures { Spells result (id_in (tree_at text.now at)) }
 {
     let f = text::body_at(text, at);
-    let Found::At(i) = f else {
-        return Id::Bad;
+    let Some(i) = f else {
+        return None;
     };
     let mut buf = [0u8; CHARACTERS];
     let w = text::decode(text, i, &mut buf);
     match w {
-        Written::To(n) => id_of(&buf[..n]),
-        Written::Full => Id::Bad,
+        Some(n) => id_of(&buf[..n]),
+        None => None,
     }
 }
 
@@ -109,13 +98,13 @@ fn entry_of(text: &[u8], ends: &[u16], at: usize) -> usize
     ensures { EntryOf text.now (members_in (tree_at text.now at)) result }
 {
     let o = text::find(text, ends, at, b"op");
-    let Found::At(p) = o else {
+    let Some(p) = o else {
         return 0;
     };
     let i = text::is_word(text, p, b"insert");
     if i {
         let u = text::find(text, ends, at, b"uuid-name");
-        let Found::At(q) = u else {
+        let Some(q) = u else {
             return 0;
         };
         return q + 1;
@@ -135,7 +124,7 @@ fn put_entry(names: &mut [u8], k: usize, q: usize)
 }
 
 // The table of a request's uuid-names and fresh ids.
-pub fn fill_names(text: &[u8], ends: &[u16], ops: Found, fresh: &[u8], names: &mut [u8])
+pub fn fill_names(text: &[u8], ends: &[u16], ops: Option<usize>, fresh: &[u8], names: &mut [u8])
     requires says { Says text.now ends.now }
     requires ops_value { items_fine text.now ops ≡ true }
     requires text_len_bound { length text.now ≤ most_request_bytes }
@@ -148,16 +137,11 @@ pub fn fill_names(text: &[u8], ends: &[u16], ops: Found, fresh: &[u8], names: &m
     octets::put_bytes(names, fresh);
     let mut g = ops;
     let mut k = 0;
-    loop {
-        match g {
-            Found::At(p) => {
-                let q = entry_of(text, ends, p);
-                put_entry(names, k, q);
-                k += 1;
-                g = nav::next_item(text, ends, p);
-            }
-            Found::Nothing => return,
-        }
+    while let Some(p) = g {
+        let q = entry_of(text, ends, p);
+        put_entry(names, k, q);
+        k += 1;
+        g = nav::next_item(text, ends, p);
     }
 }
 
@@ -179,26 +163,20 @@ fn is_named(text: &[u8], names: &[u8], k: usize, at: usize) -> bool
     ensures { result ≡ is_entry text.now (word_in (tree_at text.now at)) (entry_at names.now k) }
 {
     let p = entry_at(names, k);
-    if 0 < p {
-        return text::same_strings(text, at, p - 1);
-    }
-    false
+    0 < p && text::same_strings(text, at, p - 1)
 }
 
 // The first operation whose uuid-name is the string at `at`.
-pub fn place_of(text: &[u8], names: &[u8], at: usize) -> Found
+pub fn place_of(text: &[u8], names: &[u8], at: usize) -> Option<usize>
     requires { length names.now ≡ names_bytes }
     ensures { result ≡ place_in text.now names.now (word_in (tree_at text.now at)) }
 {
-    let mut k = 0;
-    while k < OPERATIONS {
-        let here = is_named(text, names, k, at);
-        if here {
-            return Found::At(k);
+    for k in 0..OPERATIONS {
+        if is_named(text, names, k, at) {
+            return Some(k);
         }
-        k += 1;
     }
-    Found::Nothing
+    None
 }
 
 // An id's atom.
@@ -224,15 +202,15 @@ fn put_fresh(names: &[u8], k: usize, out: &mut [u8])
 }
 
 // An id's atom, where there is one; else nothing is written.
-fn put_uuid(i: Id, out: &mut Atom) -> bool
+fn put_uuid(i: Option<(u64, u64)>, out: &mut Atom) -> bool
     ensures { Answered (id_atom i) out.old result out.new }
 {
     match i {
-        Id::Of(high, low) => {
+        Some((high, low)) => {
             put_id(high, low, &mut out[..]);
             true
         }
-        Id::Bad => false,
+        None => false,
     }
 }
 
@@ -246,11 +224,11 @@ fn named_at(text: &[u8], names: &[u8], at: usize, out: &mut Atom) -> bool
     if t {
         let f = place_of(text, names, at);
         match f {
-            Found::At(i) => {
+            Some(i) => {
                 put_fresh(names, i, &mut out[..]);
                 return true;
             }
-            Found::Nothing => return false,
+            None => return false,
         }
     }
     false
@@ -263,16 +241,11 @@ pub fn uuid_at(text: &[u8], ends: &[u16], names: &[u8], at: usize, out: &mut Ato
     ensures { Answered (atom_in (names_at text.now names.now) uuid (tree_at text.now at)) out.old result out.new }
 {
     let p = elements::pair_at(text, ends, at);
-    let Pair::Of(a, b) = p else {
+    let Some((a, b)) = p else {
         return false;
     };
-    let plain = text::is_word(text, a, b"uuid");
-    if plain {
+    if text::is_word(text, a, b"uuid") {
         return put_uuid(id_at(text, b), out);
     }
-    let named = text::is_word(text, a, b"named-uuid");
-    if named {
-        return named_at(text, names, b, out);
-    }
-    false
+    text::is_word(text, a, b"named-uuid") && named_at(text, names, b, out)
 }

@@ -1,12 +1,13 @@
 -- How many elements a set has with some more. Assumes nothing.
 use mathlib.Core.Path.{◌≡◌, refl, ap, ◌∙◌}
-use mathlib.Core.Bool.{Bool, true, false, ◌||◌}
+use mathlib.Core.Bool.{Bool, true, false, not, ◌||◌}
 use mathlib.Core.List.{List, [], ◌∷◌, ◌++◌}
-use Prim.Native.Nat.{ℕ, ◌+◌, ◌≤◌, ◌<◌}
+use Prim.Native.Nat.{ℕ, ◌+◌, ◌<◌}
 use native.Mathlib.Numerals.{add-one}
 use native.Mathlib.Omega.{arith}
 use lib.ListN.{length, take, get_or}
 use lib.Seq.{take-suc}
+use mir.Val.{bool_byte}
 use Rattle.model.specs.Octets.{eq_bytes}
 use Rattle.std.specs.Prelude.{if◌then◌else◌}
 use Rattle.model.specs.Base.{member}
@@ -67,10 +68,6 @@ module _ (k : Base) where
       ∙ more_count (get_or l i []) (union k s (take i l))
       ∙ ap (λ (b : Bool). length (union k s (take i l)) + (if b then 0 else 1)) (member_union (get_or l i []) s (take i l))
 
-pub one_small : (b : Bool) → (if b then 0 else 1) ≤ 1
-one_small true = omega arith
-one_small false = omega arith
-
-pub take_nil : {A : Type 0} (l : List A) → take 0 l ≡ []
-take_nil [] = refl
-take_nil (a ∷ l) = refl
+pub one_byte : (b : Bool) → bool_byte (not b) ≡ (if b then 0 else 1)
+one_byte true = refl
+one_byte false = refl

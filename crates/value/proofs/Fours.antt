@@ -6,9 +6,10 @@ use Prim.Native.Nat.{ℕ, zero, suc, ◌+◌, ◌-◌, ◌≤◌, ◌<◌}
 use native.Mathlib.Nat.{sub-zero}
 use native.Mathlib.Numerals.{add-one}
 use native.Mathlib.Omega.{arith}
-use lib.ListN.{length, take, drop, set, get_or, replicate, take-append-drop, drop_of_length-le, length-drop, length-append}
-use lib.Seq.{take-suc, drop-cons, set_at, length-take-le, take-take, take_all, get_or-take, take-append_seam, drop-append_seam, drop-append-le}
+use lib.ListN.{length, take, drop, set, get_or, replicate, take-append-drop, length-drop, length-append}
+use lib.Seq.{take-suc, drop-cons, set_at, length-take-le, take-take, get_or-take, take-append_seam, drop-append_seam, drop-append-le}
 use Rattle.std.specs.Prelude.{if◌then◌else◌}
+use Rattle.std.proofs.lemmas.List.{drop-replicate}
 use Rattle.model.specs.Base.{keep, member}
 use Rattle.model.specs.Schema.{Base}
 use Rattle.model.specs.Value.{blank, placed, sorted, value_of, without}
@@ -53,10 +54,6 @@ put_placed k x a n p size few e =
           ∙ ap (λ (r : List (List ℕ)). take p a ++ (x ∷ r)) (rejoin a p n h (omega arith)))),
     )
 
--- all of them again
-pub put_none : (a : List (List ℕ)) (n : ℕ) → length a ≡ 4 → a ≡ take 4 (take n a ++ drop n a)
-put_none a n size = sym (ap (take 4) (take-append-drop n a) ∙ take_all 4 a (omega arith))
-
 -- one more than the padded list has
 pub put_padded : (k : Base) (x : List ℕ) (l s : List (List ℕ)) (m : ℕ) → s ≡ padded l → m ≡ length l → length l < 4
     → take 4 (placed k x (take m s) ++ drop m s) ≡ padded (placed k x l)
@@ -72,20 +69,17 @@ module _ (k : Base) (a : List (List ℕ)) (n : ℕ) (size : length a ≡ 4) (few
   long : length (take n a) ≡ n
   long = length-take-le n a (omega arith)
 
-  pub sort_none : replicate 4 blank ≡ padded (sorted k (drop n (take n a)))
-  sort_none = ap (λ (l : List (List ℕ)). padded (sorted k l)) (sym (drop_of_length-le (take n a) {i = n} (omega (arith, long))))
-
   -- one more of them sorted
-  pub sort_on : (i : ℕ) (s t : List (List ℕ)) → 0 < i → i ≤ n → s ≡ padded (sorted k (drop i (take n a)))
-      → t ≡ take 4 (placed k (get_or a (i - 1) []) (take (n - i) s) ++ drop (n - i) s) → t ≡ padded (sorted k (drop (i - 1) (take n a)))
-  sort_on i s t p h e f =
+  pub sort_on : (i j : ℕ) (s t : List (List ℕ)) → 0 < i → i ≤ n → j + i ≡ n → s ≡ padded (sorted k (drop i (take n a)))
+      → t ≡ take 4 (placed k (get_or a (i - 1) []) (take j s) ++ drop j s) → t ≡ padded (sorted k (drop (i - 1) (take n a)))
+  sort_on i j s t p h z e f =
       let l : List (List ℕ) = drop i (take n a) in
       let q : suc (i - 1) ≡ i = omega arith in
-      let m : length l ≡ n - i = omega (arith, long, length-drop i (take n a)) in
+      let m : length l ≡ j = omega (arith, long, length-drop i (take n a)) in
       let g : drop (i - 1) (take n a) ≡ get_or a (i - 1) [] ∷ l =
       drop-cons (take n a) (i - 1) [] (omega (arith, long)) ∙ ap (λ (j : ℕ). get_or (take n a) (i - 1) [] ∷ drop j (take n a)) q
       ∙ ap (λ (y : List ℕ). y ∷ l) (get_or-take n a (i - 1) [] (omega arith)) in
-      f ∙ put_padded k (get_or a (i - 1) []) (sorted k l) s (n - i) e (omega (arith, sorted_length k l)) (omega (arith, sorted_length k l))
+      f ∙ put_padded k (get_or a (i - 1) []) (sorted k l) s j e (omega (arith, sorted_length k l)) (omega (arith, sorted_length k l))
       ∙ ap (λ (j : List (List ℕ)). padded (sorted k j)) (sym g)
 
 -- ── some left out ──
@@ -115,3 +109,7 @@ set_padded l s m x e n h =
     ∙ set_at l blank (replicate j blank) x m (sym n)
     ∙ sym (append_assoc l (x ∷ []) (replicate j blank))
     ∙ ap (λ (i : ℕ). (l ++ (x ∷ [])) ++ replicate i blank) (sym f)
+
+-- the first n of four atoms over zeros
+pub first_padded : (a f : List (List ℕ)) (n : ℕ) → length a ≡ 4 → n ≤ 4 → f ≡ take n a → f ++ drop n (replicate 4 blank) ≡ padded (take n a)
+first_padded a f n size h e = rw (e, length-take-le n a (omega arith)) (ap (λ (r : List (List ℕ)). take n a ++ r) (drop-replicate n 4 blank))

@@ -1,6 +1,5 @@
 -- The loop of `area::again`.
 use mathlib.Core.Path.{◌≡◌}
-use Prim.Native.Nat.{◌-◌, ◌≤◌}
 use lib.ListN.{drop}
 use Rattle.model.specs.Schema.{Schema}
 use Rattle.model.specs.Rows.{has_id}
@@ -8,7 +7,4 @@ use Rattle.inner.specs.Working.{working, id_in}
 use Rattle.area.proofs.again.Given as goal
 
 abbrev pub invariant-loop-i : goal.invariant-loop-i
-invariant-loop-i l = (l.i ≤ l.n) × ((s : Schema) → has_id (id_in l.row) (drop l.at (working s l.n l.rows)) ≡ has_id (id_in l.row) (drop l.i (working s l.n l.rows)))
-
-abbrev pub decreases-loop-i : goal.decreases-loop-i
-decreases-loop-i l = l.n - l.i
+invariant-loop-i l = (s : Schema) → has_id (id_in l.row) (drop l.at (working s l.n l.rows)) ≡ has_id (id_in l.row) (drop l.i (working s l.n l.rows))

@@ -1,31 +1,23 @@
 -- `area::canonical_row` meets its contract.
-use mathlib.Core.Path.{refl, sym, ◌∙◌}
+use mathlib.Core.Path.{sym, ◌∙◌}
 use native.Mathlib.Omega.{arith}
 use Rattle.area.proofs.Schemas.{canonical_on, canonical_off, canonical_end}
 use Rattle.area.proofs.canonical_row.Goals as goal
-
-pub loop-c-init : goal.loop-c-init
-loop-c-init c = (omega arith, refl)
-
-pub offset_bounds-cells-c : goal.offset_bounds-cells-c
-offset_bounds-cells-c c = omega (arith, c.well_formed)
 
 pub returns-then-not-canonical_column : goal.returns-then-not-canonical_column
 returns-then-not-canonical_column c =
     let a = c.args in
     let l = c.loop-c in
-    let t = c.loop-c-test.true in
-    sym (l.invariant.1 ∙ canonical_off a.cells.now a.row.now l.c t (sym c.canonical_column.ensures ∙ c.if-not-canonical_column.true))
+    sym (l.invariant ∙ canonical_off a.cells.now a.row.now l.c (omega arith) (sym c.canonical_column.ensures ∙ c.if-not-canonical_column.true))
 
 pub loop-c-preserved : goal.loop-c-preserved
 loop-c-preserved c =
     let a = c.args in
     let l = c.loop-c in
-    let t = c.loop-c-test.true in
-    (omega arith, l.invariant.1 ∙ canonical_on a.cells.now a.row.now l.c t (sym c.canonical_column.ensures ∙ c.if-not-canonical_column.false))
+    (l.invariant ∙ canonical_on a.cells.now a.row.now l.c (omega arith) (sym c.canonical_column.ensures ∙ c.if-not-canonical_column.false))
 
 pub returns : goal.returns
 returns c =
     let a = c.args in
     let l = c.loop-c in
-    sym (l.invariant.1 ∙ canonical_end a.cells.now a.row.now l.c (omega arith))
+    sym (l.invariant ∙ canonical_end a.cells.now a.row.now l.c (omega arith))

@@ -13,6 +13,7 @@ use Rattle.area.specs.Layout.{rows_in, rows_good, rest_zero, row_count}
 use Rattle.area.proofs.Copies.{rows_length}
 use Rattle.area.proofs.Schemas.{rows_same, rows_ordered, part_rows, read_many, read_rest, read_all}
 use Rattle.area.proofs.part_good.Goals as goal
+use Rattle.area.proofs.part_good.Goals.{then-n-gt-ROWS-via-then-n-gt-ROWS, then-n-gt-ROWS-via-else-n-gt-ROWS+then-not-rest_blank}
 
 -- what the rows leave, by how many they are
 rest : (a : List ℕ) {n : ℕ} → n ≡ row_count a → zeros (part (rows_offset + 625 * n) (625 * (32 - n)) a) ≡ rest_zero a
@@ -22,13 +23,11 @@ rest a q = λ j. zeros (part (rows_offset + 625 * q j) (625 * (32 - q j)) a)
 pub returns-then-n-gt-ROWS : goal.returns-then-n-gt-ROWS
 returns-then-n-gt-ROWS c =
     let a = c.args in
-    read_many a.schema.now a.area.now a.rows.now (omega (arith, c.row_count-n.ensures))
-
-pub returns-then-not-rest_blank : goal.returns-then-not-rest_blank
-returns-then-not-rest_blank c =
-    let a = c.args in
     let n = c.row_count-n.ensures in
-    read_rest a.schema.now a.area.now a.rows.now (omega (arith, n, c.if-n-gt-ROWS.false)) (sym (c.rest_blank.ensures ∙ rest a.area.now n) ∙ c.if-not-rest_blank.true)
+    elim c.then-n-gt-ROWS.branch [
+      | then-n-gt-ROWS-via-then-n-gt-ROWS w ↦ read_many a.schema.now a.area.now a.rows.now (omega arith)
+      | then-n-gt-ROWS-via-else-n-gt-ROWS+then-not-rest_blank w ↦ read_rest a.schema.now a.area.now a.rows.now (omega arith) (sym (w.rest_blank.ensures ∙ rest a.area.now n) ∙ w.if-not-rest_blank.true)
+    ]
 
 pub read_rows-requires : goal.read_rows-requires
 read_rows-requires c =

@@ -1,5 +1,5 @@
 -- `area::put_rows` meets its contract.
-use mathlib.Core.Path.{◌≡◌, refl, sym, ap, ◌∙◌}
+use mathlib.Core.Path.{◌≡◌, sym, ap, ◌∙◌}
 use mathlib.Core.List.{[], ◌++◌}
 use Prim.Native.Nat.{ℕ, ◌+◌, ◌-◌, ◌*◌, ◌<◌}
 use native.Mathlib.Omega.{arith}
@@ -11,15 +11,6 @@ use Rattle.area.specs.Layout.{bytes_of}
 use Rattle.area.proofs.Copies.{bytes_more}
 use borrow.Rule.Slice.PartMut.{put_mid}
 use Rattle.area.proofs.put_rows.Goals as goal
-
-pub loop-i-init : goal.loop-i-init
-loop-i-init c = (omega arith, refl, refl, refl)
-
-pub offset_bounds-rows-i : goal.offset_bounds-rows-i
-offset_bounds-rows-i c = omega (arith, c.well_formed)
-
-pub overflow_mul-i : goal.overflow_mul-i
-overflow_mul-i c = omega (arith, c.well_formed)
 
 pub put_row-requires : goal.put_row-requires
 put_row-requires c =
@@ -39,12 +30,9 @@ loop-i-preserved c =
     let k : 625 * l.i + 625 ≡ 625 * (l.i + 1) = omega arith in
     let z : length (bytes_of (take (l.i + 1) x)) ≡ 625 * (l.i + 1) = ap length f ∙ length-append (bytes_of (take l.i x)) (flat (get_or x l.i [])) ∙ omega (arith, p.1) in
     let w : put_mid (625 * l.i) (length l.out - 625 * l.i) l.out c.put_row.new.out ≡ bytes_of (take (l.i + 1) x) ++ drop (625 * (l.i + 1)) c.args.out.now =
-    write_next (bytes_of (take l.i x)) (flat (get_or x l.i [])) c.args.out.now l.out c.put_row.new.out (625 * l.i) 625 l.invariant.2 l.invariant.3 p.0
+    write_next (bytes_of (take l.i x)) (flat (get_or x l.i [])) c.args.out.now l.out c.put_row.new.out (625 * l.i) 625 l.invariant.0 l.invariant.1 p.0
     ∙ (λ i. sym f i ++ drop (k i) c.args.out.now) in
-    (omega arith, ap length w ∙ length-append (bytes_of (take (l.i + 1) x)) (drop (625 * (l.i + 1)) c.args.out.now) ∙ omega (arith, z, length-drop (625 * (l.i + 1)) c.args.out.now, c.requires), z, w)
-
-pub shape_of-out : goal.shape_of-out
-shape_of-out c = c.loop-i.invariant.1
+    (z, w)
 
 pub returns : goal.returns
 returns c =
@@ -52,6 +40,6 @@ returns c =
     let x = c.args.rows.now in
     let e : l.i ≡ c.args.n = omega arith in
     record {
-      bytes = l.invariant.3 ∙ ap (λ (k : ℕ). bytes_of (take k x) ++ drop (625 * k) c.args.out.now) e;
-      size = ap (λ (k : ℕ). length (bytes_of (take k x))) (sym e) ∙ l.invariant.2 ∙ ap (λ (k : ℕ). 625 * k) e;
+      bytes = l.invariant.1 ∙ ap (λ (k : ℕ). bytes_of (take k x) ++ drop (625 * k) c.args.out.now) e;
+      size = ap (λ (k : ℕ). length (bytes_of (take k x))) (sym e) ∙ l.invariant.0 ∙ ap (λ (k : ℕ). 625 * k) e;
     }

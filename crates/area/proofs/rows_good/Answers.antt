@@ -1,22 +1,25 @@
 -- `area::rows_good` meets its contract.
-use mathlib.Core.Path.{sym, ◌∙◌}
+use Rattle.std.proofs.Common.{arith}
+use Rattle.std.proofs.lemmas.Grind.{common_steps}
 use Rattle.model.specs.Catalog.{packed_tables}
 use Rattle.area.proofs.Schemas.{rows_no, rows_apart, rows_all}
 use Rattle.area.proofs.rows_good.Goals as goal
+use Rattle.area.proofs.rows_good.Goals.{then-each_good, else-each_good}
 
-pub returns-then-not-each_good : goal.returns-then-not-each_good
-returns-then-not-each_good c =
+pub returns-then-ascending : goal.returns-then-ascending
+returns-then-ascending c =
     let a = c.args in
-    sym (rows_no a.schema.now a.n a.rows.now (sym c.each_good.ensures ∙ c.if-not-each_good.true))
+    let s = packed_tables a.schema.now in
+    elim c.if-each_good.branch [
+      | then-each_good w ↦ grind (arith, common_steps, c.distinct.ensures s, w.ascending.ensures s, rows_all a.schema.now a.n a.rows.now)
+      | else-each_good w ↦ grind (arith, common_steps)
+    ]
 
-pub returns-then-not-ascending : goal.returns-then-not-ascending
-returns-then-not-ascending c =
+pub returns-else-ascending : goal.returns-else-ascending
+returns-else-ascending c =
     let a = c.args in
-    sym (rows_apart a.schema.now a.n a.rows.now (sym (c.ascending.ensures (packed_tables a.schema.now)) ∙ c.if-not-ascending.true))
-
-pub returns : goal.returns
-returns c =
-    let a = c.args in
-    c.distinct.ensures (packed_tables a.schema.now)
-    ∙ sym (rows_all a.schema.now a.n a.rows.now (sym c.each_good.ensures ∙ c.if-not-each_good.false)
-    (sym (c.ascending.ensures (packed_tables a.schema.now)) ∙ c.if-not-ascending.false))
+    let s = packed_tables a.schema.now in
+    elim c.if-each_good.branch [
+      | then-each_good w ↦ grind (arith, common_steps, w.ascending.ensures s, rows_apart a.schema.now a.n a.rows.now)
+      | else-each_good w ↦ grind (arith, common_steps, rows_no a.schema.now a.n a.rows.now)
+    ]

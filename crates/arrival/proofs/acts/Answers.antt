@@ -1,24 +1,17 @@
 -- `arrival::acts` meets its contract.
 use mathlib.Core.List.{List}
-use mathlib.Core.Path.{refl, ap, ◌∙◌}
+use mathlib.Core.Path.{ap, ◌∙◌}
 use Prim.Native.Nat.{ℕ}
 use native.Mathlib.Omega.{arith}
-use lib.ListN.{length}
 use Rattle.inner.proofs.Working.{working_length}
 use Rattle.model.specs.Octets.{value}
 use Rattle.model.specs.Catalog.{packed_tables}
 use Rattle.model.specs.Records.{known}
 use Rattle.model.specs.Rows.{key_of, has}
 use Rattle.inner.specs.Working.{working}
-use Rattle.record.proofs.Listings.{born_size, gone_size, column_size}
-use Rattle.record.specs.Reading.{id_in, arrival_record}
-use Rattle.arrival.specs.Steps.{act_record}
+use Rattle.record.specs.Reading.{id_in}
 use Rattle.arrival.proofs.Doing.{left_as, narrow, born_known, born_room, gone_there, gone_some, column_known, column_here, acts_born, acts_gone, acts_column}
 use Rattle.arrival.proofs.acts.Goals as goal
-
-pub id_of-id-requires : goal.id_of-id-requires
-id_of-id-requires c =
-    omega (arith, born_size c.args.arrival (length c.args.bytes.now) c.requires.long _ c.in-Born.is)
 
 pub born-requires : goal.born-requires
 born-requires c =
@@ -29,22 +22,10 @@ born-requires c =
     let p = c.id_of-id.ensures in
     record { accepted = c.requires.accepted; count_lt_most_rows = (omega (arith, born_room a.schema.now c.requires.accepted a.arrival a.bytes.now rows c.requires.welcome r e, working_length (packed_tables a.schema.now) a.rows.now a.count (omega (arith, c.requires.ready))), c.requires.ready.room); id_value = ap (λ (l : List ℕ). known (packed_tables a.schema.now) r.table (value l)) p ∙ born_known a.schema.now c.requires.accepted a.arrival a.bytes.now rows c.requires.welcome r e }
 
-pub id_of-id-requires-in-Gone : goal.id_of-id-requires-in-Gone
-id_of-id-requires-in-Gone c =
-    omega (arith, gone_size c.args.arrival (length c.args.bytes.now) c.requires.long _ c.in-Gone.is)
-
 pub overflow_sub-result : goal.overflow_sub-result
 overflow_sub-result c =
     let a = c.args in
     omega (arith, gone_some a.schema.now c.requires.accepted a.arrival a.bytes.now (working (packed_tables a.schema.now) a.count a.rows.now) c.requires.welcome c.in-Gone.r c.in-Gone.is, working_length (packed_tables a.schema.now) a.rows.now a.count (omega (arith, c.requires.ready)))
-
-pub id_of-id-requires-in-Column : goal.id_of-id-requires-in-Column
-id_of-id-requires-in-Column c =
-    omega (arith, column_size c.args.arrival (length c.args.bytes.now) c.requires.long _ c.in-Column.is)
-
-pub atoms-atoms-requires : goal.atoms-atoms-requires
-atoms-atoms-requires c =
-    omega (arith, column_size c.args.arrival (length c.args.bytes.now) c.requires.long _ c.in-Column.is)
 
 pub set-requires : goal.set-requires
 set-requires c =
@@ -88,15 +69,3 @@ returns-in-Column c =
     (c.set.ensures t (ap (λ (l : List ℕ). known t r.table (value l)) p ∙ h)
     (omega (arith, v, column_here a.schema.now c.requires.accepted a.arrival a.bytes.now rows w r e))
     (narrow a.schema.now c.requires.accepted r.table (value (id_in a.bytes.now)) h))
-
-pub returns-in-End : goal.returns-in-End
-unfolding act_record arrival_record
-returns-in-End c = rw c.in-End.is (record { same = refl; few = c.requires.ready.few; tidy = λ g z. z })
-
-pub returns-in-Mark : goal.returns-in-Mark
-unfolding act_record arrival_record
-returns-in-Mark c = rw c.in-Mark.is (record { same = refl; few = c.requires.ready.few; tidy = λ g z. z })
-
-pub returns-in-Bad : goal.returns-in-Bad
-unfolding act_record arrival_record
-returns-in-Bad c = rw c.in-Bad.is (record { same = refl; few = c.requires.ready.few; tidy = λ g z. z })

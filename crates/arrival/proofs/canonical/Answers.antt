@@ -2,31 +2,16 @@
 use mathlib.Core.List.{[]}
 use mathlib.Core.Path.{◌∙◌}
 use native.Mathlib.Omega.{arith}
-use lib.ListN.{length, get_or}
+use lib.ListN.{get_or}
 use Rattle.model.specs.Catalog.{column_from, column_place}
 use Rattle.model.specs.Value.{canonical_for}
-use Rattle.record.proofs.Listings.{column_size}
-use Rattle.record.specs.Reading.{arrival_record, canonical_in}
-use Rattle.arrival.specs.Steps.{canonical_record}
 use Rattle.arrival.proofs.Records.{listed_place, canonical_column}
 use Rattle.arrival.proofs.canonical.Goals as goal
-
-pub atoms-atoms-requires : goal.atoms-atoms-requires
-atoms-atoms-requires c =
-    omega (arith, column_size c.args.arrival (length c.args.bytes.now) c.requires.long _ c.in-Column.is)
 
 pub column-requires : goal.column-requires
 column-requires c =
     let p = listed_place c.args.schema.now c.requires.accepted c.args.arrival c.args.bytes.now c.in-Column.r c.in-Column.is c.requires.bytes_value in
     (omega (arith, c.wide-t.ensures, p.0), omega (arith, c.wide-c.ensures, p.1))
-
-pub returns-in-Born : goal.returns-in-Born
-unfolding canonical_record canonical_in arrival_record
-returns-in-Born c = rw c.in-Born.is
-
-pub returns-in-Gone : goal.returns-in-Gone
-unfolding canonical_record canonical_in arrival_record
-returns-in-Gone c = rw c.in-Gone.is
 
 pub returns-in-Column : goal.returns-in-Column
 returns-in-Column c =
@@ -39,15 +24,3 @@ returns-in-Column c =
     c.canonical_by.ensures
     ∙ (λ j. canonical_for (column_from (e j)) (record { count = v.count; atoms = r j }))
     ∙ canonical_column x c.requires.accepted c.args.arrival c.args.bytes.now v c.in-Column.is c.requires.bytes_value
-
-pub returns-in-End : goal.returns-in-End
-unfolding canonical_record canonical_in arrival_record
-returns-in-End c = rw c.in-End.is
-
-pub returns-in-Mark : goal.returns-in-Mark
-unfolding canonical_record canonical_in arrival_record
-returns-in-Mark c = rw c.in-Mark.is
-
-pub returns-in-Bad : goal.returns-in-Bad
-unfolding canonical_record canonical_in arrival_record
-returns-in-Bad c = rw c.in-Bad.is

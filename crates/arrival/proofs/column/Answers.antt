@@ -17,29 +17,29 @@ use Rattle.arrival.proofs.column.Goals as goal
 pub offset_bounds-rows-i : goal.offset_bounds-rows-i
 offset_bounds-rows-i c =
     let a = c.args in
-    let w = place_at (key_of a.table (value a.id.now)) (working [] a.count a.rows.now) c.in-At.i (sym (c.find-found.ensures []) ∙ c.in-At.is) in
+    let w = place_at (key_of a.table (value a.id.now)) (working [] a.count a.rows.now) c.in-Some.i (sym (c.find-found.ensures []) ∙ c.in-Some.is) in
     omega (arith, w.within, working_length [] a.rows.now a.count (omega (arith, c.requires.ready)), c.requires.ready)
 
 pub bounds-rows-i : goal.bounds-rows-i
 bounds-rows-i c =
     let a = c.args in
-    let w = place_at (key_of a.table (value a.id.now)) (working [] a.count a.rows.now) c.in-At.i (sym (c.find-found.ensures []) ∙ c.in-At.is) in
+    let w = place_at (key_of a.table (value a.id.now)) (working [] a.count a.rows.now) c.in-Some.i (sym (c.find-found.ensures []) ∙ c.in-Some.is) in
     omega (arith, w.within, working_length [] a.rows.now a.count (omega (arith, c.requires.ready)), c.requires.ready)
 
-pub returns-in-At : goal.returns-in-At
-returns-in-At c =
+pub returns-in-Some : goal.returns-in-Some
+returns-in-Some c =
     let a = c.args in
     let t = packed_tables a.schema.now in
-    let i = c.in-At.i in
-    let w = place_at (key_of a.table (value a.id.now)) (working t a.count a.rows.now) i (sym (c.find-found.ensures t) ∙ c.in-At.is) in
+    let i = c.in-Some.i in
+    let w = place_at (key_of a.table (value a.id.now)) (working t a.count a.rows.now) i (sym (c.find-found.ensures t) ∙ c.in-Some.is) in
     c.put_column.ensures
     ∙ ap (column_in t (get_or a.rows.now i [])) c.wide.ensures
     ∙ sym (found_column t a.count a.rows.now (omega (arith, c.requires.ready)) a.table (value a.id.now) a.c i w)
 
-pub returns-in-Nothing : goal.returns-in-Nothing
-returns-in-Nothing c =
+pub returns-in-None : goal.returns-in-None
+returns-in-None c =
     let a = c.args in
     let t = packed_tables a.schema.now in
     c.clear.ensures
     ∙ ap (λ (n : ℕ). replicate n 0) c.requires.out_len
-    ∙ sym (no_row_column (working t a.count a.rows.now) a.table (value a.id.now) a.c (place_none (key_of a.table (value a.id.now)) (working t a.count a.rows.now) (sym (c.find-found.ensures t) ∙ c.in-Nothing.is)))
+    ∙ sym (no_row_column (working t a.count a.rows.now) a.table (value a.id.now) a.c (place_none (key_of a.table (value a.id.now)) (working t a.count a.rows.now) (sym (c.find-found.ensures t) ∙ c.in-None.is)))

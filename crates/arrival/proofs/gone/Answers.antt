@@ -13,22 +13,22 @@ use Rattle.arrival.proofs.gone.Goals as goal
 pub remove_at-requires : goal.remove_at-requires
 remove_at-requires c =
     let a = c.args in
-    let w = place_at (key_of a.table (value a.id.now)) (working [] a.count a.rows.now) c.in-At.i (sym (c.find-found.ensures []) ∙ c.in-At.is) in
+    let w = place_at (key_of a.table (value a.id.now)) (working [] a.count a.rows.now) c.in-Some.i (sym (c.find-found.ensures []) ∙ c.in-Some.is) in
     (omega (arith, w.within, working_length [] a.rows.now a.count (omega (arith, c.requires))), omega (arith, c.requires))
 
-pub returns-in-At : goal.returns-in-At
-returns-in-At c =
+pub returns-in-Some : goal.returns-in-Some
+returns-in-Some c =
     let a = c.args in
     let e = c.remove_at.ensures in
     λ t h.
     record {
-      same = e.key t (key_of a.table (value a.id.now)) (sym (c.find-found.ensures t) ∙ c.in-At.is);
+      same = e.key t (key_of a.table (value a.id.now)) (sym (c.find-found.ensures t) ∙ c.in-Some.is);
       few = omega (arith, c.requires);
       tidy = λ g z. e.tidy t z;
     }
 
-pub returns-in-Nothing : goal.returns-in-Nothing
-returns-in-Nothing c =
+pub returns-in-None : goal.returns-in-None
+returns-in-None c =
     let a = c.args in
     λ t h.
-    absurd (clash (has (key_of a.table (value a.id.now)) (working t a.count a.rows.now)) h (place_none (key_of a.table (value a.id.now)) (working t a.count a.rows.now) (sym (c.find-found.ensures t) ∙ c.in-Nothing.is)).has)
+    absurd (clash (has (key_of a.table (value a.id.now)) (working t a.count a.rows.now)) h (place_none (key_of a.table (value a.id.now)) (working t a.count a.rows.now) (sym (c.find-found.ensures t) ∙ c.in-None.is)).has)

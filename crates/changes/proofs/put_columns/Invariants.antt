@@ -1,5 +1,5 @@
 -- The loop of `changes::put_columns`.
-use Prim.Native.Nat.{◌*◌, ◌-◌, ◌≤◌}
+use Prim.Native.Nat.{◌*◌, ◌≤◌}
 use Rattle.model.specs.Catalog.{packed_tables}
 use Rattle.inner.specs.Positions.{is_nothing}
 use Rattle.inner.specs.Working.{table_in, id_in}
@@ -13,6 +13,3 @@ invariant-loop-c l =
     let o = old_cells l.area l.old l.row in
     let s = packed_tables l.schema in
     (l.c ≤ l.w) × Along l.by.run l.by.number (columns_left (skips (is_nothing l.old)) s o l.row (table_in l.row) (id_in l.row) 0 0) (128 * l.c) l.initial.to l.initial.records l.to l.records (columns_left (skips (is_nothing l.old)) s o l.row (table_in l.row) (id_in l.row) 0 l.c)
-
-abbrev pub decreases-loop-c : goal.decreases-loop-c
-decreases-loop-c l = l.w - l.c

@@ -17,28 +17,15 @@ pub loop-k-init : goal.loop-k-init
 loop-k-init c =
     λ sc. fore_drop (key_in c.args.row.now) c.args.j (working sc c.args.m (rows_at c.args.m c.args.area.now)) (c.requires.j_bound sc)
 
-pub key_at-requires : goal.key_at-requires
-key_at-requires c =
-    (c.requires.store_bytes_in_bounds.0, omega (arith, c.requires.store_bytes_in_bounds.1, c.loop-k-test.true))
-
-pub less_keys-requires : goal.less_keys-requires
-less_keys-requires c = (c.key_at.ensures.size, c.key_of-key.ensures.size)
-
-pub returns-then-not-less_keys : goal.returns-then-not-less_keys
-returns-then-not-less_keys c =
+pub returns-else-less_keys : goal.returns-else-less_keys
+returns-else-less_keys c =
     let at : ℕ = c.loop-k.k in
     let here : ltb (key_in (get_or (rows_at c.args.m c.args.area.now) at [])) (key_in c.args.row.now) ≡ c.less_keys.result = let x = ap key_in (rows_are c.args.area.now at c.args.m c.loop-k-test.true) ∙ sym (key_value c.key_at.ensures) in
     let y = sym (key_value c.key_of-key.ensures) in
     (λ j. ltb (x j) (y j)) ∙ sym c.less_keys.ensures in
     let a = c.args in
     let cells = rows_at a.m a.area.now in
-    λ sc. omega (arith, c.loop-k.invariant sc, fore_here sc cells a.m (omega (arith, rows_length a.m (drop rows_offset a.area.now))) (key_in a.row.now) (at) c.loop-k-test.true (here ∙ c.if-not-less_keys.true))
-
-pub overflow_add-k : goal.overflow_add-k
-overflow_add-k c = omega (arith, c.loop-k-test.true, c.requires.store_bytes_in_bounds.1)
-
-pub loop-k-smaller : goal.loop-k-smaller
-loop-k-smaller c = omega (arith, c.loop-k-test.true)
+    λ sc. omega (arith, c.loop-k.invariant sc, fore_here sc cells a.m (omega (arith, rows_length a.m (drop rows_offset a.area.now))) (key_in a.row.now) (at) c.loop-k-test.true (here ∙ c.if-less_keys.false))
 
 pub loop-k-preserved : goal.loop-k-preserved
 loop-k-preserved c =
@@ -48,10 +35,10 @@ loop-k-preserved c =
     (λ j. ltb (x j) (y j)) ∙ sym c.less_keys.ensures in
     let a = c.args in
     let cells = rows_at a.m a.area.now in
-    λ sc. omega (arith, c.loop-k.invariant sc, fore_on sc cells a.m (omega (arith, rows_length a.m (drop rows_offset a.area.now))) (key_in a.row.now) (at) c.loop-k-test.true (here ∙ c.if-not-less_keys.false))
+    λ sc. omega (arith, c.loop-k.invariant sc, fore_on sc cells a.m (omega (arith, rows_length a.m (drop rows_offset a.area.now))) (key_in a.row.now) (at) c.loop-k-test.true (here ∙ c.if-less_keys.true))
 
-pub returns : goal.returns
-returns c =
+pub returns-after-loop-k : goal.returns-after-loop-k
+returns-after-loop-k c =
     let a = c.args in
     let l = c.loop-k in
     λ sc. omega (arith, l.invariant sc, fore_end sc (rows_at a.m a.area.now) a.m (omega (arith, rows_length a.m (drop rows_offset a.area.now))) (key_in a.row.now) l.k c.loop-k-test.false)

@@ -5,12 +5,12 @@ use Rattle.column_types.proofs.place_byte.Goals as goal
 
 pub returns-then-k-lt256 : goal.returns-then-k-lt256
 unfolding place_byte
-returns-then-k-lt256 c = rw (c.in-At.is, place_byte, lt-ltb _ _ c.if-k-lt256.true)
+returns-then-k-lt256 c = rw (c.in-Some.is, place_byte, lt-ltb _ _ c.if-k-lt256.true)
 
 pub returns-else-k-lt256 : goal.returns-else-k-lt256
 unfolding place_byte
-returns-else-k-lt256 c = rw (c.in-At.is, place_byte, le-ltb _ _ c.if-k-lt256.false)
+returns-else-k-lt256 c = rw (c.in-Some.is, place_byte, le-ltb _ _ c.if-k-lt256.false)
 
-pub returns-in-Nothing : goal.returns-in-Nothing
+pub returns-in-None : goal.returns-in-None
 unfolding place_byte
-returns-in-Nothing c = rw c.in-Nothing.is
+returns-in-None c = rw c.in-None.is

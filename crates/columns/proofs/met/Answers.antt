@@ -4,32 +4,20 @@ use native.Mathlib.Omega.{arith}
 use Rattle.columns.proofs.Kept.{met_end, met_here, met_next}
 use Rattle.columns.proofs.met.Goals as goal
 
-pub loop-i-init : goal.loop-i-init
-loop-i-init c = (omega arith, omega arith)
-
-pub bounds-names-i : goal.bounds-names-i
-bounds-names-i c = omega (arith, c.loop-i-test.true, c.requires)
-
 pub returns-then-same : goal.returns-then-same
 returns-then-same c =
-    let h = met_here c.args.name.now c.args.names.now c.args.n c.requires c.loop-i.i c.loop-i-test.true (sym c.same-same.ensures ∙ c.if-same.true) in
-    let q = c.loop-i.invariant.1 in
+    let h = met_here c.args.name.now c.args.names.now c.args.n c.requires c.loop-i.i c.loop-i-test.true (sym c.same.ensures ∙ c.if-same.true) in
+    let q = c.loop-i.invariant in
     omega arith
-
-pub loop-i-smaller : goal.loop-i-smaller
-loop-i-smaller c = let h = c.loop-i-test.true in omega arith
 
 pub loop-i-preserved : goal.loop-i-preserved
 loop-i-preserved c =
-    let h = met_next c.args.name.now c.args.names.now c.args.n c.requires c.loop-i.i c.loop-i-test.true (sym c.same-same.ensures ∙ c.if-same.false) in
-    let q = c.loop-i.invariant.1 in
-    let u = c.loop-i-test.true in
-    (omega arith, omega arith)
+    let h = met_next c.args.name.now c.args.names.now c.args.n c.requires c.loop-i.i c.loop-i-test.true (sym c.same.ensures ∙ c.if-same.false) in
+    let q = c.loop-i.invariant in
+    omega arith
 
 pub returns : goal.returns
 returns c =
     let h = met_end c.args.name.now c.args.names.now c.args.n c.requires c.loop-i.i c.loop-i-test.false in
-    let q = c.loop-i.invariant.1 in
-    let f = c.loop-i.invariant.0 in
-    let u = c.loop-i-test.false in
+    let q = c.loop-i.invariant in
     omega arith

@@ -1,5 +1,4 @@
 -- The loop of `columns::put_columns`.
-use Prim.Native.Nat.{◌-◌}
 use mathlib.Core.List.{map}
 use Rattle.model.specs.Catalog.{entry_name}
 use Rattle.columns.proofs.Listing.{Putting}
@@ -7,6 +6,3 @@ use Rattle.columns.proofs.put_columns.Given as goal
 
 abbrev pub invariant-loop-i : goal.invariant-loop-i
 invariant-loop-i l = Putting l.text (map entry_name l.tables) l.n l.places l.initial.cells l.cells l.good l.i
-
-abbrev pub decreases-loop-i : goal.decreases-loop-i
-decreases-loop-i l = l.n - l.i

@@ -3,28 +3,24 @@ use mathlib.Core.Path.{◌≡◌}
 use lib.ListN.{length}
 use mathlib.Core.List.{map}
 use native.Mathlib.Omega.{arith}
-use borrow.Author.Tests.{le-leb}
 use Rattle.inner.specs.Positions.{tree_at}
 use Rattle.model.specs.Catalog.{entry_name}
 use Rattle.columns.proofs.Listing.{none_read, bad_read, all_read}
 use Rattle.columns.proofs.read_columns.Goals as goal
+use Rattle.columns.proofs.read_columns.Goals.{else-n-le-COLUMNS-via-then-n-le-COLUMNS+else-put_columns, else-n-le-COLUMNS-via-else-n-le-COLUMNS}
 
-pub put_columns-good-requires : goal.put_columns-good-requires
-put_columns-good-requires c =
+pub returns-then-put_columns : goal.returns-then-put_columns
+returns-then-put_columns c =
     let l = c.if-n-le-COLUMNS.true in
     let k : length c.collect-n.new.places ≡ 6 = c.collect-n.auto.places in
-    record { says = c.requires.says; by_index = c.collect-n.ensures.well (le-leb _ 6 l); tables_value = c.requires.tables_value; tables_len_bound = c.requires.tables_len_bound; n_le_most_columns = l; n_in_bounds = omega arith; most_columns_in_bounds = c.requires.most_columns_in_bounds }
+    all_read c.args.text.now (map entry_name c.args.tables.now) (tree_at c.args.text.now c.args.at) c.args.cells.now c.collect-n.ensures c.if-n-le-COLUMNS.true c.put_columns.ensures (omega arith) c.if-put_columns.true
 
-pub returns-then-good : goal.returns-then-good
-returns-then-good c =
-    let l = c.if-n-le-COLUMNS.true in
-    let k : length c.collect-n.new.places ≡ 6 = c.collect-n.auto.places in
-    all_read c.args.text.now (map entry_name c.args.tables.now) (tree_at c.args.text.now c.args.at) c.args.cells.now c.collect-n.ensures c.if-n-le-COLUMNS.true c.put_columns-good.ensures (omega arith) c.if-good.true
-
-pub returns-else-good : goal.returns-else-good
-returns-else-good c =
-    bad_read c.args.text.now (map entry_name c.args.tables.now) (tree_at c.args.text.now c.args.at) c.args.cells.now c.collect-n.ensures c.if-n-le-COLUMNS.true c.put_columns-good.ensures c.if-good.false
-
-pub returns-else-n-le-COLUMNS : goal.returns-else-n-le-COLUMNS
-returns-else-n-le-COLUMNS c =
-    none_read c.args.text.now (map entry_name c.args.tables.now) (tree_at c.args.text.now c.args.at) c.args.cells.now c.collect-n.ensures c.if-n-le-COLUMNS.false
+pub returns : goal.returns
+returns c =
+    let s = c.args.text.now in
+    let ns = map entry_name c.args.tables.now in
+    let j = tree_at s c.args.at in
+    elim c.else-n-le-COLUMNS.branch [
+      | else-n-le-COLUMNS-via-then-n-le-COLUMNS+else-put_columns w ↦ rw w.cells-is (bad_read s ns j c.args.cells.now c.collect-n.ensures w.if-n-le-COLUMNS.true w.put_columns.ensures w.if-put_columns.false)
+      | else-n-le-COLUMNS-via-else-n-le-COLUMNS w ↦ rw w.cells-is (none_read s ns j c.args.cells.now c.collect-n.ensures w.if-n-le-COLUMNS.false)
+    ]

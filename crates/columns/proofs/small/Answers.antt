@@ -7,6 +7,6 @@ pub returns-then-x-lt256 : goal.returns-then-x-lt256
 unfolding small
 returns-then-x-lt256 c = rw (small, lt-ltb _ _ c.if-x-lt256.true)
 
-pub returns : goal.returns
+pub returns-else-x-lt256 : goal.returns-else-x-lt256
 unfolding small
-returns c = rw (small, le-ltb _ _ c.if-x-lt256.false)
+returns-else-x-lt256 c = rw (small, le-ltb _ _ c.if-x-lt256.false)

@@ -3,7 +3,7 @@ use Prim.Native.Nat.{ℕ, zero, suc, ◌<◌}
 use mathlib.Core.Path.{◌≡◌, refl, sym, subst}
 use mathlib.Core.List.{map}
 use native.Mathlib.Omega.{arith}
-use borrow.Author.Tests.{ne_eqb, eqb-false, eqb-true}
+use borrow.Author.Tests.{eqb-false, eqb-true}
 use Rattle.model.specs.Json.{Json}
 use Rattle.model.specs.Catalog.{entry_name}
 use Rattle.members.proofs.Slotted.{at_some}
@@ -17,11 +17,8 @@ positive (suc p) h = omega arith
 pub returns-then-p-eq0 : goal.returns-then-p-eq0
 returns-then-p-eq0 c = record { none = λ e. c.no_type.ensures; some = λ e. absurd (eqb-false _ 0 e c.if-p-eq0.true) }
 
-pub read_type-requires : goal.read_type-requires
-read_type-requires c = record { says = c.requires.says; at_value = c.requires.p_value (ne_eqb c.args.p 0 c.if-p-eq0.false); at_nonzero = positive c.args.p c.if-p-eq0.false; tables_value = c.requires.tables_value; tables_len_bound = c.requires.tables_len_bound }
-
-pub returns : goal.returns
-returns c =
+pub returns-else-p-eq0 : goal.returns-else-p-eq0
+returns-else-p-eq0 c =
     record {
       none = λ e. absurd (c.if-p-eq0.false (eqb-true _ 0 e));
       some = λ e. subst (λ (x : Json). TypeRead (map entry_name c.args.tables.now) x c.read_type.result) (sym (at_some c.args.text.now c.if-p-eq0.false)) c.read_type.ensures;

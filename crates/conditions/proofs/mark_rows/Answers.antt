@@ -15,21 +15,17 @@ pub loop-g-init : goal.loop-g-init
 loop-g-init c = (sym (earlier_first _), c.requires.f_value, λ e table o. going_none _ _ _ _ o)
 
 pub narrow_by-t-requires : goal.narrow_by-t-requires
-narrow_by-t-requires c = record { running = c.requires.running; at_value = (walk_fine c.args.text.now c.in-At.is c.loop-g.invariant.1).0; columns_len_bound = c.requires.columns_len_bound }
-
-pub next_item-g-requires : goal.next_item-g-requires
-next_item-g-requires c =
-    c.requires.running.says
+narrow_by-t-requires c = record { running = c.requires.running; at_value = (walk_fine c.args.text.now c.in-Some.is c.loop-g.invariant.1).0; columns_len_bound = c.requires.columns_len_bound }
 
 pub loop-g-smaller : goal.loop-g-smaller
 loop-g-smaller c =
     let a = c.args in
-    rw c.next_item-g.ensures (walk_less a.text.now c.in-At.is)
+    rw c.next_item-g.ensures (walk_less a.text.now c.in-Some.is)
 
 pub loop-g-preserved : goal.loop-g-preserved
 loop-g-preserved c =
     let a = c.args in
-    let h = c.in-At.is in
+    let h = c.in-Some.is in
     let t = c.narrow_by-t.ensures in
     rw c.next_item-g.ensures (
       worst_on a.text.now a.names.now a.columns.now _ c.loop-g.w c.narrow_by-t.result c.loop-g.invariant.0 h t.fault c.earlier-w.ensures,
@@ -40,10 +36,10 @@ loop-g-preserved c =
           going_on (map column_from a.columns.now) table (tests_at a.text.now a.names.now a.columns.now a.f).got a.rows.now (subst (λ (ts : List Test). Going (map column_from a.columns.now) table (tests_at a.text.now a.names.now a.columns.now a.f).got ts a.rows.now c.loop-g.marks) (got_on a.text.now a.names.now a.columns.now h) (c.loop-g.invariant.2 z.0 table o)) m.0 m.1 m.2,
     )
 
-pub returns-in-Nothing : goal.returns-in-Nothing
-returns-in-Nothing c =
+pub returns : goal.returns
+returns c =
     let a = c.args in
-    let h = c.in-Nothing.is in
+    let h = c.in_default.is in
     let f = worst_end a.text.now a.names.now a.columns.now _ c.loop-g.w c.loop-g.invariant.0 h in
     record {
       fault = sym f;

@@ -11,16 +11,12 @@ use Rattle.uuids.specs.Named.{names_at}
 use Rattle.request_values.specs.Values.{atoms_as}
 use Rattle.marks.specs.Marks.{every, atoms_at}
 use Rattle.marks.proofs.Meeting.{narrowed_as}
-use Rattle.conditions.proofs.Beyond.{unequal}
+use Rattle.conditions.proofs.Beyond.{unequal, ordered}
 use Rattle.conditions.proofs.narrow_beyond.Goals as goal
 
 pub returns-in-Less : goal.returns-in-Less
 returns-in-Less c =
-    absurd (clash (orders c.args.test.function) (ap orders c.in-Less.is) c.requires.beyond.unordered)
-
-pub returns-in-AtMost : goal.returns-in-AtMost
-returns-in-AtMost c =
-    absurd (clash (orders c.args.test.function) (ap orders c.in-AtMost.is) c.requires.beyond.unordered)
+    absurd (clash (orders c.args.test.function) (ordered c.in-Less.is) c.requires.beyond.unordered)
 
 pub returns-in-Equal : goal.returns-in-Equal
 returns-in-Equal c =
@@ -39,14 +35,6 @@ returns-in-Unequal c =
     let j = tree_at a.text.now a.at in
     c.narrow_all-in-Unequal.ensures (λ (row : List (List ℕ)). compare a.test.function k (atoms_at a.test.place row) (atoms_as n k j))
     (λ (row : List (List ℕ)) s. ap (λ f. compare f k (atoms_at a.test.place row) (atoms_as n k j)) c.in-Unequal.is ∙ ap not (unequal n k j (atoms_at a.test.place row) s c.requires.beyond.unfit))
-
-pub returns-in-AtLeast : goal.returns-in-AtLeast
-returns-in-AtLeast c =
-    absurd (clash (orders c.args.test.function) (ap orders c.in-AtLeast.is) c.requires.beyond.unordered)
-
-pub returns-in-Greater : goal.returns-in-Greater
-returns-in-Greater c =
-    absurd (clash (orders c.args.test.function) (ap orders c.in-Greater.is) c.requires.beyond.unordered)
 
 pub returns-in-Includes : goal.returns-in-Includes
 unfolding every

@@ -3,7 +3,7 @@ use mathlib.Core.Path.{sym, ◌∙◌}
 use Rattle.inner.specs.Positions.{tree_at}
 use Rattle.model.specs.Catalog.{base_numbered, column_from}
 use Rattle.uuids.specs.Named.{names_at}
-use Rattle.conditions.proofs.Narrowing.{narrowed_not, narrowed_fault, few, kept_count, kept_within, narrowed_fit, beyond, narrowed_beyond}
+use Rattle.conditions.proofs.Narrowing.{narrowed_not, narrowed_fault, narrowed_fit, beyond, narrowed_beyond}
 use Rattle.conditions.proofs.narrow_value.Goals as goal
 
 pub returns-then-not-ok : goal.returns-then-not-ok
@@ -13,33 +13,6 @@ returns-then-not-ok c =
     let col = column_from a.column.now in
     let j = tree_at a.text.now a.at in
     narrowed_not n col a.test.place a.test.function j a.rows.now a.marks.now (sym c.is_allowed-ok.ensures ∙ c.if-not-ok.true)
-
-pub kept-l-requires : goal.kept-l-requires
-kept-l-requires c =
-    let a = c.args in
-    let n = names_at a.text.now a.names.now in
-    let col = column_from a.column.now in
-    let j = tree_at a.text.now a.at in
-    let ok = sym c.is_allowed-ok.ensures ∙ c.if-not-ok.false in
-    few n col a.test.place a.test.function j a.rows.now a.marks.now ok c.test_value-g.ensures (sym c.is_fine-fine.ensures ∙ c.if-fine.true) c.if-g.true
-
-pub slice_bounds-l-end : goal.slice_bounds-l-end
-slice_bounds-l-end c =
-    let a = c.args in
-    let n = names_at a.text.now a.names.now in
-    let col = column_from a.column.now in
-    let j = tree_at a.text.now a.at in
-    let ok = sym c.is_allowed-ok.ensures ∙ c.if-not-ok.false in
-    kept_within n col a.test.place a.test.function j a.rows.now a.marks.now ok c.test_value-g.ensures (sym c.is_fine-fine.ensures ∙ c.if-fine.true) (base_numbered a.test.kind) c.requires.kind_value c.kept-l.result c.kept-l.ensures c.if-g.true
-
-pub slice_bounds-narrow-end : goal.slice_bounds-narrow-end
-slice_bounds-narrow-end c =
-    let a = c.args in
-    let n = names_at a.text.now a.names.now in
-    let col = column_from a.column.now in
-    let j = tree_at a.text.now a.at in
-    let ok = sym c.is_allowed-ok.ensures ∙ c.if-not-ok.false in
-    kept_count n col a.test.place a.test.function j a.rows.now a.marks.now ok c.test_value-g.ensures (sym c.is_fine-fine.ensures ∙ c.if-fine.true) (base_numbered a.test.kind) c.requires.kind_value c.kept-l.result c.kept-l.ensures c.if-g.true
 
 pub narrow_beyond-requires : goal.narrow_beyond-requires
 narrow_beyond-requires c =

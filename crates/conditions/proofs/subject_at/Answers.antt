@@ -9,12 +9,12 @@ returns-then-own c =
     let a = c.args in
     about_id a.columns.now (tree_at a.text.now a.at) (sym c.is_word-own.ensures ∙ c.if-own.true)
 
-pub returns-in-At : goal.returns-in-At
-returns-in-At c =
+pub returns-in-Some : goal.returns-in-Some
+returns-in-Some c =
     let a = c.args in
-    about_column a.columns.now (tree_at a.text.now a.at) (sym c.is_word-own.ensures ∙ c.if-own.false) c.column_at-f.ensures c.in-At.is
+    about_column a.columns.now (tree_at a.text.now a.at) (sym c.is_word-own.ensures ∙ c.if-own.false) c.column_at-f.ensures c.in-Some.is
 
-pub returns-in-Nothing : goal.returns-in-Nothing
-returns-in-Nothing c =
+pub returns-in-None : goal.returns-in-None
+returns-in-None c =
     let a = c.args in
-    about_none a.columns.now (tree_at a.text.now a.at) (sym c.is_word-own.ensures ∙ c.if-own.false) c.column_at-f.ensures c.in-Nothing.is
+    about_none a.columns.now (tree_at a.text.now a.at) (sym c.is_word-own.ensures ∙ c.if-own.false) c.column_at-f.ensures c.in-None.is

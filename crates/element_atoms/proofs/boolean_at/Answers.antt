@@ -1,6 +1,6 @@
 -- `element_atoms::boolean_at` meets its contract.
+use Rattle.std.specs.Prelude.{Some}
 use mathlib.Core.Path.{sym, ap, ◌∙◌}
-use mathlib.Core.Option.{some}
 use Rattle.inner.specs.Positions.{tree_at}
 use Rattle.model.specs.Nav.{is_truth}
 use Rattle.model.specs.Value.{bool_atom}
@@ -13,7 +13,7 @@ returns-then-t c =
     let a = c.args in
     atom_there
     (boolean_some (tree_at a.text.now a.at) (ap is_truth (sym c.kind_at-k.ensures) ∙ sym c.is_kind-t.ensures ∙ c.if-t.true)
-    ∙ ap (λ b. some (bool_atom b)) (sym c.truth_at-b.ensures) ∙ ap some (sym c.put_boolean.ensures))
+    ∙ ap (λ b. Some (bool_atom b)) (sym c.truth_at-b.ensures) ∙ ap Some (sym c.put_boolean.ensures))
 
 pub returns : goal.returns
 returns c =

@@ -2,14 +2,9 @@
 use mathlib.Core.Path.{sym, ap, ◌∙◌}
 use mathlib.Core.List.{List}
 use Prim.Native.Nat.{ℕ}
-use native.Mathlib.Omega.{arith}
-use lib.ListN.{length, set, replicate, length-replicate}
+use lib.ListN.{set, replicate}
 use Rattle.model.specs.Value.{bool_atom}
 use Rattle.element_atoms.proofs.put_boolean.Goals as goal
-
-pub bounds-out-0 : goal.bounds-out-0
-bounds-out-0 c =
-    omega (arith, ap length c.clear.ensures, length-replicate {A = ℕ} (length c.args.out.now) 0, c.requires)
 
 pub returns-then-b : goal.returns-then-b
 returns-then-b c =

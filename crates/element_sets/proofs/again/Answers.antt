@@ -6,30 +6,17 @@ use Rattle.model.specs.Catalog.{base_numbered}
 use Rattle.elements.specs.Elements.{elements_from}
 use Rattle.uuids.specs.Named.{names_at}
 use Rattle.element_atoms.specs.Atoms.{Reads, atoms_of}
-use Rattle.element_atoms.proofs.Reading.{wrong_cell, fits_cell}
+use Rattle.element_atoms.proofs.Reading.{short_cell}
 use Rattle.element_sets.proofs.Tallying.{again_long}
 use Rattle.element_sets.proofs.again.Goals as goal
-
-pub atom_at-a-requires : goal.atom_at-a-requires
-atom_at-a-requires c = record { running = c.requires.running; at_value = c.requires.at_value }
-
-pub cell_among-requires : goal.cell_among-requires
-cell_among-requires c = record { running = c.requires.running; f_value = c.requires.f_value }
-
-pub long_among-requires : goal.long_among-requires
-long_among-requires c = c.requires.running.says
-
-pub cell_among-requires-in-Fits : goal.cell_among-requires-in-Fits
-cell_among-requires-in-Fits c = record { running = c.requires.running; f_value = c.requires.f_value }
 
 pub returns-in-Wrong : goal.returns-in-Wrong
 returns-in-Wrong c =
     let a = c.args in
     let n = names_at a.text.now a.names.now in
     let k = base_numbered a.kind in
-    let j = tree_at a.text.now a.at in
-    let cell = c.atom_at-a.new.out in
-    c.cell_among.ensures ∙ ap (λ x. member x (atoms_of n k (elements_from a.text.now a.set a.f))) (sym (wrong_cell n j k cell (subst (λ r. Reads n k j r cell) c.in-Wrong.is c.atom_at-a.ensures)))
+    let q = short_cell n (tree_at a.text.now a.at) k c.atom_at-a.new.out c.in-Wrong.is c.atom_at-a.ensures in
+    c.cell_among.ensures ∙ ap (λ x. member x (atoms_of n k (elements_from a.text.now a.set a.f))) (sym q.0)
 
 pub returns-in-Long : goal.returns-in-Long
 returns-in-Long c =
@@ -39,12 +26,3 @@ returns-in-Long c =
     let j = tree_at a.text.now a.at in
     let cell = c.atom_at-a.new.out in
     c.long_among.ensures ∙ sym (again_long n k j cell (elements_from a.text.now a.set a.f) (subst (λ r. Reads n k j r cell) c.in-Long.is c.atom_at-a.ensures))
-
-pub returns-in-Fits : goal.returns-in-Fits
-returns-in-Fits c =
-    let a = c.args in
-    let n = names_at a.text.now a.names.now in
-    let k = base_numbered a.kind in
-    let j = tree_at a.text.now a.at in
-    let cell = c.atom_at-a.new.out in
-    c.cell_among-in-Fits.ensures ∙ ap (λ x. member x (atoms_of n k (elements_from a.text.now a.set a.f))) (sym (fits_cell n j k cell (subst (λ r. Reads n k j r cell) c.in-Fits.is c.atom_at-a.ensures)))

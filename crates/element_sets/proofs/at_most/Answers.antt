@@ -1,13 +1,6 @@
 -- `element_sets::at_most` meets its contract.
-use mathlib.Core.Path.{ap, ◌∙◌}
-use mathlib.Core.Bool.{not}
-use lib.Dec.{ltb}
-use Rattle.leaf.specs.Bytes.{halves}
 use Rattle.element_sets.proofs.Limiting.{at_most_is}
 use Rattle.element_sets.proofs.at_most.Goals as goal
 
 pub returns : goal.returns
-returns c =
-    let a = c.args in
-    let f = c.ranges in
-    ap (λ x. not (ltb c.biased-b.result x)) c.biased-a.ensures ∙ ap (λ y. not (ltb y (halves a.x))) c.biased-b.ensures ∙ at_most_is a.x a.y f.x.fits f.y.fits
+returns c = rw (c.biased.ensures, c.biased-2.ensures) (at_most_is c.args.x c.args.y c.ranges.x.fits c.ranges.y.fits)

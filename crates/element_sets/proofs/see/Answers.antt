@@ -16,7 +16,7 @@ returns-in-Wrong c =
     let z = column_from a.column.now in
     let cell = c.atom_at-a.new.out in
     let read = subst (λ (b : ℕ). Reads n (base_numbered b) j c.atom_at-a.result cell) c.kind-kind.ensures c.atom_at-a.ensures in
-    sees_wrong n z j cell (subst (λ r. Reads n z.base j r cell) c.in-Wrong.is read) c.within-w.ensures
+    sees_wrong n z j cell (subst (λ r. Reads n z.base j r cell) c.in-Wrong.is read) c.within.ensures
 
 pub returns-in-Long : goal.returns-in-Long
 returns-in-Long c =
@@ -26,7 +26,7 @@ returns-in-Long c =
     let z = column_from a.column.now in
     let cell = c.atom_at-a.new.out in
     let read = subst (λ (b : ℕ). Reads n (base_numbered b) j c.atom_at-a.result cell) c.kind-kind.ensures c.atom_at-a.ensures in
-    sees_long n z j cell (subst (λ r. Reads n z.base j r cell) c.in-Long.is read) c.long_chars-n.ensures c.count_in_limits-w.ensures
+    sees_long n z j cell (subst (λ r. Reads n z.base j r cell) c.in-Long.is read) c.long_chars-n.ensures c.count_in_limits.ensures
 
 pub returns-in-Fits : goal.returns-in-Fits
 returns-in-Fits c =
@@ -36,4 +36,4 @@ returns-in-Fits c =
     let z = column_from a.column.now in
     let cell = c.atom_at-a.new.out in
     let read = subst (λ (b : ℕ). Reads n (base_numbered b) j c.atom_at-a.result cell) c.kind-kind.ensures c.atom_at-a.ensures in
-    sees_fits n z j cell (subst (λ r. Reads n z.base j r cell) c.in-Fits.is read) c.within-w-in-Fits.ensures
+    sees_fits n z j cell (subst (λ r. Reads n z.base j r cell) c.in-Fits.is read) c.within-in-Fits.ensures

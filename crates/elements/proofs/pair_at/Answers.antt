@@ -9,12 +9,12 @@ returns-in_default c =
 
 pub returns-in_default-g : goal.returns-in_default-g
 returns-in_default-g c =
-    no_second c.args.text.now c.args.at c.requires.at_value (sym c.first-f.ensures ∙ c.in-At.is) (sym c.next_item-g.ensures ∙ c.in_default-g.is)
+    no_second c.args.text.now c.args.at c.requires.at_value (sym c.first-f.ensures ∙ c.in-Some.is) (sym c.next_item-g.ensures ∙ c.in_default-g.is)
 
-pub returns-in-At-h : goal.returns-in-At-h
-returns-in-At-h c =
-    some_third c.args.text.now c.args.at c.requires.at_value (sym c.first-f.ensures ∙ c.in-At.is) (sym c.next_item-g.ensures ∙ c.in-At-g.is) (sym c.next_item-h.ensures ∙ c.in-At-h.is)
+pub returns-in-Some-h : goal.returns-in-Some-h
+returns-in-Some-h c =
+    some_third c.args.text.now c.args.at c.requires.at_value (sym c.first-f.ensures ∙ c.in-Some.is) (sym c.next_item-g.ensures ∙ c.in-Some-g.is) (sym c.next_item-h.ensures ∙ c.in-Some-h.is)
 
-pub returns-in-Nothing : goal.returns-in-Nothing
-returns-in-Nothing c =
-    no_third c.args.text.now c.args.at c.requires.at_value (sym c.first-f.ensures ∙ c.in-At.is) (sym c.next_item-g.ensures ∙ c.in-At-g.is) (sym c.next_item-h.ensures ∙ c.in-Nothing.is)
+pub returns-in-None : goal.returns-in-None
+returns-in-None c =
+    no_third c.args.text.now c.args.at c.requires.at_value (sym c.first-f.ensures ∙ c.in-Some.is) (sym c.next_item-g.ensures ∙ c.in-Some-g.is) (sym c.next_item-h.ensures ∙ c.in-None.is)

@@ -1,5 +1,4 @@
 -- The loop of `fresh::among`.
-use Prim.Native.Nat.{◌-◌, ◌≤◌}
 use mathlib.Core.Path.{◌≡◌}
 use lib.Dec.{eqb}
 use Rattle.model.specs.Octets.{value}
@@ -8,7 +7,4 @@ use Rattle.fresh.specs.Fresh.{fresh_from}
 use Rattle.fresh.proofs.among.Given as goal
 
 abbrev pub invariant-loop-i : goal.invariant-loop-i
-invariant-loop-i l = (any (eqb (value l.id)) (fresh_from l.initial.i l.fresh) ≡ any (eqb (value l.id)) (fresh_from l.i l.fresh)) × (l.i ≤ 16)
-
-abbrev pub decreases-loop-i : goal.decreases-loop-i
-decreases-loop-i l = 16 - l.i
+invariant-loop-i l = any (eqb (value l.id)) (fresh_from l.k l.fresh) ≡ any (eqb (value l.id)) (fresh_from l.i l.fresh)

@@ -1,5 +1,4 @@
 -- The loop of `fresh::ids_good`.
-use Prim.Native.Nat.{◌-◌, ◌≤◌}
 use mathlib.Core.Path.{◌≡◌}
 use Rattle.model.specs.Schema.{Schema}
 use Rattle.inner.specs.Working.{working}
@@ -8,7 +7,4 @@ use Rattle.fresh.proofs.Ids.{good_from}
 use Rattle.fresh.proofs.ids_good.Given as goal
 
 abbrev pub invariant-loop-k : goal.invariant-loop-k
-invariant-loop-k l = ((s : Schema) → fresh_good l.fresh (working s l.n l.rows) ≡ good_from l.fresh (working s l.n l.rows) l.k) × (l.k ≤ 16)
-
-abbrev pub decreases-loop-k : goal.decreases-loop-k
-decreases-loop-k l = 16 - l.k
+invariant-loop-k l = (s : Schema) → fresh_good l.fresh (working s l.n l.rows) ≡ good_from l.fresh (working s l.n l.rows) l.k

@@ -1,24 +1,10 @@
 -- `garbage::first_loose` meets its contract.
-use mathlib.Core.Path.{refl, sym, ◌∙◌}
+use mathlib.Core.Path.{sym, ◌∙◌}
 use native.Mathlib.Omega.{arith}
 use Rattle.model.specs.Catalog.{packed_tables}
 use Rattle.inner.specs.Working.{working}
 use Rattle.garbage.proofs.Loosely.{loose_on, loose_here_lem, loose_end, loose_found, loose_nothing}
 use Rattle.garbage.proofs.first_loose.Goals as goal
-
-pub loop-i-init : goal.loop-i-init
-loop-i-init c = (omega arith, refl)
-
-pub offset_bounds-rows-i : goal.offset_bounds-rows-i
-offset_bounds-rows-i c = omega (arith, c.well_formed)
-
-pub bounds-rows-i : goal.bounds-rows-i
-bounds-rows-i c = omega (arith, c.requires.ordered.there)
-
-pub is_loose-requires : goal.is_loose-requires
-is_loose-requires c =
-    let p = c.requires in
-    record { accepted = p.accepted; n_in_bounds = p.ordered.there }
 
 pub returns-then-is_loose : goal.returns-then-is_loose
 returns-then-is_loose c =

@@ -5,11 +5,8 @@ use Prim.Native.Nat.{◌+◌}
 use native.Mathlib.Omega.{arith}
 use lib.ListN.{get_or}
 use Rattle.model.specs.Catalog.{packed_tables}
-use Rattle.garbage.proofs.Partly.{Going, going_none, going_on, going_ordered, going_end}
+use Rattle.garbage.proofs.Partly.{Going, going_on, going_ordered, going_end}
 use Rattle.garbage.proofs.weaken.Goals as goal
-
-pub loop-i-init : goal.loop-i-init
-loop-i-init c = (omega arith, λ h. going_none (packed_tables c.args.schema.now) c.args.n c.args.rows.now h)
 
 pub weaken_row-requires : goal.weaken_row-requires
 weaken_row-requires c =
@@ -23,9 +20,6 @@ loop-i-preserved c =
     let t = c.loop-i-test.true in
     let tables = packed_tables a.schema.now in
     (omega (arith, t), λ h. subst (Going tables a.n a.rows.now h (l.i + 1)) (sym c.weaken_row.ensures.rows_after) (going_on tables a.n a.rows.now h l.i l.rows (get_or c.weaken_row.new.rows l.i []) t (l.invariant.1 h) c.weaken_row.ensures.row_weak))
-
-pub shape_of-rows : goal.shape_of-rows
-shape_of-rows c = (c.loop-i.invariant.1 c.requires.ordered.there).size
 
 pub returns : goal.returns
 returns c =

@@ -13,15 +13,15 @@ loop-g-init c =
 pub overflow_add-n : goal.overflow_add-n
 overflow_add-n c =
     let a = c.args in
-    omega (arith, filled_more a.text.now (map entry_name a.columns.now) c.loop-g.invariant c.in-At.is)
+    omega (arith, filled_more a.text.now (map entry_name a.columns.now) c.loop-g.invariant c.in-Some.is)
 
 pub number-requires : goal.number-requires
-number-requires c = record { at_value = filled_short c.args.text.now (map entry_name c.args.columns.now) c.loop-g.invariant c.in-At.is; columns_len_bound = c.requires.columns_len_bound }
+number-requires c = record { at_value = filled_short c.args.text.now (map entry_name c.args.columns.now) c.loop-g.invariant c.in-Some.is; columns_len_bound = c.requires.columns_len_bound }
 
 pub bounds-q-n : goal.bounds-q-n
 bounds-q-n c =
     let a = c.args in
-    omega (arith, filled_more a.text.now (map entry_name a.columns.now) c.loop-g.invariant c.in-At.is)
+    omega (arith, filled_more a.text.now (map entry_name a.columns.now) c.loop-g.invariant c.in-Some.is)
 
 pub next_item-g-requires : goal.next_item-g-requires
 next_item-g-requires c = c.requires.says
@@ -29,17 +29,17 @@ next_item-g-requires c = c.requires.says
 pub loop-g-smaller : goal.loop-g-smaller
 loop-g-smaller c =
     let a = c.args in
-    rw c.next_item-g.ensures (walk_less a.text.now c.in-At.is)
+    rw c.next_item-g.ensures (walk_less a.text.now c.in-Some.is)
 
 pub loop-g-preserved : goal.loop-g-preserved
 loop-g-preserved c =
     let a = c.args in
-    filled_on a.text.now (map entry_name a.columns.now) c.loop-g.invariant c.in-At.is c.number.ensures c.next_item-g.ensures
+    filled_on a.text.now (map entry_name a.columns.now) c.loop-g.invariant c.in-Some.is c.number.ensures c.next_item-g.ensures
 
 pub overflow_cast-q : goal.overflow_cast-q
 overflow_cast-q c = omega (arith, c.loop-g.invariant.few)
 
-pub returns-in-Nothing : goal.returns-in-Nothing
-returns-in-Nothing c =
+pub returns : goal.returns
+returns c =
     let a = c.args in
-    filled_end a.text.now (map entry_name a.columns.now) c.loop-g.invariant c.in-Nothing.is
+    filled_end a.text.now (map entry_name a.columns.now) c.loop-g.invariant c.in_default.is

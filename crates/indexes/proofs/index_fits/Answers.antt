@@ -16,7 +16,7 @@ pub returns-then-n-ge-INDEX_COLUMNS : goal.returns-then-n-ge-INDEX_COLUMNS
 returns-then-n-ge-INDEX_COLUMNS c =
     let columns : List Named = members_in (tree_at c.args.text.now c.args.columns) in
     let tree : Json = tree_at c.args.text.now c.args.at in
-    index_many (columns) (tree) (omega (arith, passed_more c.loop-g.invariant.1 c.in-At.is, c.if-n-ge-INDEX_COLUMNS.true))
+    index_many (columns) (tree) (omega (arith, passed_more c.loop-g.invariant.1 c.in-Some.is, c.if-n-ge-INDEX_COLUMNS.true))
 
 pub is_indexed-ok-requires : goal.is_indexed-ok-requires
 is_indexed-ok-requires c = record { says = c.requires.says; columns_value = c.requires.columns_value; columns_value_2 = c.requires.columns_value_2 }
@@ -29,20 +29,20 @@ next_item-g-requires c = c.requires.says
 
 pub loop-g-smaller : goal.loop-g-smaller
 loop-g-smaller c =
-    rw c.next_item-g.ensures (walk_less c.args.text.now c.in-At.is)
+    rw c.next_item-g.ensures (walk_less c.args.text.now c.in-Some.is)
 
 pub loop-g-preserved : goal.loop-g-preserved
 loop-g-preserved c =
-    (omega (arith, c.if-n-ge-INDEX_COLUMNS.false), passed_on c.loop-g.invariant.1 c.in-At.is (sym c.is_indexed-ok.ensures ∙ c.if-ok.true) refl c.next_item-g.ensures)
+    (omega (arith, c.if-n-ge-INDEX_COLUMNS.false), passed_on c.loop-g.invariant.1 c.in-Some.is (sym c.is_indexed-ok.ensures ∙ c.if-ok.true) refl c.next_item-g.ensures)
 
 pub returns-else-ok : goal.returns-else-ok
 returns-else-ok c =
     let columns : List Named = members_in (tree_at c.args.text.now c.args.columns) in
     let tree : Json = tree_at c.args.text.now c.args.at in
-    index_bad (columns) (tree) (passed_bad c.loop-g.invariant.1 c.in-At.is (sym c.is_indexed-ok.ensures ∙ c.if-ok.false))
+    index_bad (columns) (tree) (passed_bad c.loop-g.invariant.1 c.in-Some.is (sym c.is_indexed-ok.ensures ∙ c.if-ok.false))
 
-pub returns-in-Nothing : goal.returns-in-Nothing
-returns-in-Nothing c =
+pub returns : goal.returns
+returns c =
     let columns : List Named = members_in (tree_at c.args.text.now c.args.columns) in
     let tree : Json = tree_at c.args.text.now c.args.at in
-    index_end (columns) (tree) c.loop-g.invariant.0 (passed_end c.loop-g.invariant.1 c.in-Nothing.is)
+    index_end (columns) (tree) c.loop-g.invariant.0 (passed_end c.loop-g.invariant.1 c.in_default.is)

@@ -12,21 +12,21 @@ is_lasting-requires c =
     let s = c.args.text.now in
     let t = sym (c.is_kind-t.ensures ∙ ap is_text c.kind_at-k.ensures) ∙ c.if-t.true in
     let q = c.text_of.ensures ∙ ap text_of c.name_at-name.ensures in
-    record { says = c.requires.says; at_value = found_well s (members_in (tree_at s c.args.columns)) c.requires.columns_value_2 (tree_at s c.args.at) t q c.find-f.result c.find-f.ensures c.in-At.is }
+    record { says = c.requires.says; at_value = found_well s (members_in (tree_at s c.args.columns)) c.requires.columns_value_2 (tree_at s c.args.at) t q c.find-f.result c.find-f.ensures c.in-Some.is }
 
-pub returns-in-At : goal.returns-in-At
-returns-in-At c =
+pub returns-in-Some : goal.returns-in-Some
+returns-in-Some c =
     let s = c.args.text.now in
     let t = sym (c.is_kind-t.ensures ∙ ap is_text c.kind_at-k.ensures) ∙ c.if-t.true in
     let q = c.text_of.ensures ∙ ap text_of c.name_at-name.ensures in
-    c.is_lasting.ensures ∙ indexed_at s (members_in (tree_at s c.args.columns)) c.requires.columns_value_2 (tree_at s c.args.at) t q c.find-f.result c.find-f.ensures c.in-At.is
+    c.is_lasting.ensures ∙ indexed_at s (members_in (tree_at s c.args.columns)) c.requires.columns_value_2 (tree_at s c.args.at) t q c.find-f.result c.find-f.ensures c.in-Some.is
 
-pub returns-in-Nothing : goal.returns-in-Nothing
-returns-in-Nothing c =
+pub returns-in-None : goal.returns-in-None
+returns-in-None c =
     let s = c.args.text.now in
     let t = sym (c.is_kind-t.ensures ∙ ap is_text c.kind_at-k.ensures) ∙ c.if-t.true in
     let q = c.text_of.ensures ∙ ap text_of c.name_at-name.ensures in
-    indexed_none s (members_in (tree_at s c.args.columns)) c.requires.columns_value_2 (tree_at s c.args.at) t q c.find-f.result c.find-f.ensures c.in-Nothing.is
+    indexed_none s (members_in (tree_at s c.args.columns)) c.requires.columns_value_2 (tree_at s c.args.at) t q c.find-f.result c.find-f.ensures c.in-None.is
 
 pub returns : goal.returns
 returns c =

@@ -5,10 +5,10 @@ use mathlib.Core.Bool.{not}
 use mathlib.Core.Path.{ap, ◌∙◌}
 use Rattle.indexes.proofs.is_lasting.Goals as goal
 
-pub returns-in-At : goal.returns-in-At
-returns-in-At c =
-    ap not c.truth_at-t.ensures ∙ lasting_at c.args.text.now (tree_at c.args.text.now c.args.at) c.find-f.ensures c.in-At.is
+pub returns-in-Some : goal.returns-in-Some
+returns-in-Some c =
+    ap not c.truth_at-t.ensures ∙ lasting_at c.args.text.now (tree_at c.args.text.now c.args.at) c.find-f.ensures c.in-Some.is
 
-pub returns-in-Nothing : goal.returns-in-Nothing
-returns-in-Nothing c =
-    lasting_none c.args.text.now (tree_at c.args.text.now c.args.at) c.find-f.ensures c.in-Nothing.is
+pub returns-in-None : goal.returns-in-None
+returns-in-None c =
+    lasting_none c.args.text.now (tree_at c.args.text.now c.args.at) c.find-f.ensures c.in-None.is

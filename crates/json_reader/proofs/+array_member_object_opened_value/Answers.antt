@@ -1,4 +1,5 @@
 -- `json_reader::array`, `member`, `object`, `opened` and `value` meet their contracts.
+use Rattle.std.proofs.lemmas.Result.{err_from_is_err_and}
 use Prim.Native.Nat.{ℕ}
 use borrow.Author.Tests.{ne_eqb}
 use mathlib.Core.Path.{◌≡◌, refl, sym, ap, ◌∙◌}
@@ -32,23 +33,23 @@ pub array-value-r-requires : goal.array-value-r-requires
 array-value-r-requires t c =
     (omega arith, (c.requires.levels_bound, c.loop-k.invariant.2))
 
-pub array-shape_of-ends-in-Done : goal.array-shape_of-ends-in-Done
-array-shape_of-ends-in-Done t c =
+pub array-shape_of-ends-in-Break : goal.array-shape_of-ends-in-Break
+array-shape_of-ends-in-Break t c =
     let a = c.args in
     let s = a.text.now in
     c.value-r.auto.ends ∙ c.loop-k.invariant.3
 
-pub array-returns-in-Done : goal.array-returns-in-Done
-array-returns-in-Done t c =
+pub array-returns-in-Break : goal.array-returns-in-Break
+array-returns-in-Break t c =
     let a = c.args in
     let s = a.text.now in
-    record { value = sym (c.loop-k.invariant.1 ∙ done (item_turn (value_at a.levels s) s 93) _ _ _ c.loop-k-test.true (ap (after_item s 93) (sym c.value-r.ensures.value) ∙ sym c.after-n.ensures ∙ c.in-Done.is)); says_2 = c.value-r.ensures.says_2 }
+    record { value = sym (c.loop-k.invariant.1 ∙ done (item_turn (value_at a.levels s) s 93) _ _ _ c.loop-k-test.true (ap (after_item s 93) (sym c.value-r.ensures.value) ∙ sym c.after-n.ensures ∙ c.in-Break.is)); says_2 = c.value-r.ensures.says_2 }
 
 pub array-loop-k-preserved : goal.array-loop-k-preserved
 array-loop-k-preserved t c =
     let a = c.args in
     let s = a.text.now in
-    (omega arith, c.loop-k.invariant.1 ∙ turn (item_turn (value_at a.levels s) s 93) _ _ _ c.loop-k-test.true (ap (after_item s 93) (sym c.value-r.ensures.value) ∙ sym c.after-n.ensures ∙ c.in-More.is), c.value-r.ensures.says_2, c.value-r.auto.ends ∙ c.loop-k.invariant.3)
+    (omega arith, c.loop-k.invariant.1 ∙ turn (item_turn (value_at a.levels s) s 93) _ _ _ c.loop-k-test.true (ap (after_item s 93) (sym c.value-r.ensures.value) ∙ sym c.after-n.ensures ∙ c.in-Continue.is), c.value-r.ensures.says_2, c.value-r.auto.ends ∙ c.loop-k.invariant.3)
 
 pub array-shape_of-ends : goal.array-shape_of-ends
 array-shape_of-ends t c = c.loop-k.invariant.3
@@ -59,13 +60,13 @@ array-returns t c =
     let s = a.text.now in
     record { value = sym (c.loop-k.invariant.1 ∙ spent (item_turn (value_at a.levels s) s 93) _ _ _ c.loop-k-test.false); says_2 = c.loop-k.invariant.2 }
 
-pub member-returns-in_default : goal.member-returns-in_default
-unfolding member_at
-member-returns-in_default t c =
+pub member-returns-in_err-e : goal.member-returns-in_err-e
+unfolding member_at and_then
+member-returns-in_err-e t c =
     let s = c.args.text.now in
     let name = c.string-name.ensures ∙ ap (λ i. (string_at s i).read) c.spaces-i.ensures in
     let key = c.colon-r.ensures ∙ ap (colon_at s) name ∙ colon_key s c.args.at in
-    record { value = rw (← key) (then_not _ _ _ c.in_default.not-End); says_2 = rw c.note.ensures (says_name s _ c.requires.says c.args.at name) }
+    record { value = (let p = err_from_is_err_and c.from_residual.result c.from_residual.ensures.1 in rw (p.1, p.2, ← key, c.in_err-e.was)); says_2 = rw c.note.ensures (says_name s _ c.requires.says c.args.at name) }
 
 pub member-value-requires : goal.member-value-requires
 member-value-requires t c =
@@ -79,7 +80,7 @@ member-returns t c =
     let s = c.args.text.now in
     let name = c.string-name.ensures ∙ ap (λ i. (string_at s i).read) c.spaces-i.ensures in
     let key = c.colon-r.ensures ∙ ap (colon_at s) name ∙ colon_key s c.args.at in
-    record { value = rw (← key, c.in-End.is) c.value.ensures.value; says_2 = c.value.ensures.says_2 }
+    record { value = rw (← key, c.in_ok-e.was) c.value.ensures.value; says_2 = c.value.ensures.says_2 }
 
 pub object-overflow_add-result : goal.object-overflow_add-result
 object-overflow_add-result t c =
@@ -96,23 +97,23 @@ pub object-member-r-requires : goal.object-member-r-requires
 object-member-r-requires t c =
     (omega arith, (c.requires.levels_bound, c.loop-k.invariant.2))
 
-pub object-shape_of-ends-in-Done : goal.object-shape_of-ends-in-Done
-object-shape_of-ends-in-Done t c =
+pub object-shape_of-ends-in-Break : goal.object-shape_of-ends-in-Break
+object-shape_of-ends-in-Break t c =
     let a = c.args in
     let s = a.text.now in
     c.member-r.auto.ends ∙ c.loop-k.invariant.3
 
-pub object-returns-in-Done : goal.object-returns-in-Done
-object-returns-in-Done t c =
+pub object-returns-in-Break : goal.object-returns-in-Break
+object-returns-in-Break t c =
     let a = c.args in
     let s = a.text.now in
-    record { value = sym (c.loop-k.invariant.1 ∙ done (item_turn (member_at (value_at a.levels s) s) s 125) _ _ _ c.loop-k-test.true (ap (after_item s 125) (sym c.member-r.ensures.value) ∙ sym c.after-n.ensures ∙ c.in-Done.is)); says_2 = c.member-r.ensures.says_2 }
+    record { value = sym (c.loop-k.invariant.1 ∙ done (item_turn (member_at (value_at a.levels s) s) s 125) _ _ _ c.loop-k-test.true (ap (after_item s 125) (sym c.member-r.ensures.value) ∙ sym c.after-n.ensures ∙ c.in-Break.is)); says_2 = c.member-r.ensures.says_2 }
 
 pub object-loop-k-preserved : goal.object-loop-k-preserved
 object-loop-k-preserved t c =
     let a = c.args in
     let s = a.text.now in
-    (omega arith, c.loop-k.invariant.1 ∙ turn (item_turn (member_at (value_at a.levels s) s) s 125) _ _ _ c.loop-k-test.true (ap (after_item s 125) (sym c.member-r.ensures.value) ∙ sym c.after-n.ensures ∙ c.in-More.is), c.member-r.ensures.says_2, c.member-r.auto.ends ∙ c.loop-k.invariant.3)
+    (omega arith, c.loop-k.invariant.1 ∙ turn (item_turn (member_at (value_at a.levels s) s) s 125) _ _ _ c.loop-k-test.true (ap (after_item s 125) (sym c.member-r.ensures.value) ∙ sym c.after-n.ensures ∙ c.in-Continue.is), c.member-r.ensures.says_2, c.member-r.auto.ends ∙ c.loop-k.invariant.3)
 
 pub object-shape_of-ends : goal.object-shape_of-ends
 object-shape_of-ends t c = c.loop-k.invariant.3

@@ -1,15 +1,8 @@
 -- The loop of `json_writer::put_atoms`.
-use mathlib.Core.Path.{◌≡◌}
-use mathlib.Core.Bool.{true}
-use Prim.Native.Nat.{◌+◌, ◌*◌, ◌-◌, ◌≤◌}
-use lib.Dec.{eqb}
-use lib.ListN.{length, take, drop}
+use Rattle.std.proofs.Common.{true, ◌+◌, ◌*◌, ◌≤◌, eqb, take, drop}
 use Rattle.json_writer.specs.Texts.{joined, atom_texts}
 use Rattle.json_writer.proofs.Putting.{Due}
 use Rattle.json_writer.proofs.put_atoms.Given as goal
 
 abbrev pub invariant-loop-i : goal.invariant-loop-i
-invariant-loop-i l = (l.i ≤ l.n) × ((length l.out ≡ length l.initial.out) × ((l.r ≤ l.at + 147 * l.i) × Due l.initial.out l.at (joined true (atom_texts l.kind (take l.n l.atoms))) l.out l.r (joined (eqb l.i 0) (atom_texts l.kind (drop l.i (take l.n l.atoms))))))
-
-abbrev pub decreases-loop-i : goal.decreases-loop-i
-decreases-loop-i l = l.n - l.i
+invariant-loop-i l = (l.r ≤ l.at + 147 * l.i) × Due l.initial.out l.at (joined true (atom_texts l.kind (take l.n l.atoms))) l.out l.r (joined (eqb l.i 0) (atom_texts l.kind (drop l.i (take l.n l.atoms))))

@@ -1,46 +1,18 @@
 -- `json_writer::put_bytes` meets its contract.
-use mathlib.Core.Path.{refl, sym, ap, ◌∙◌}
-use mathlib.Core.List.{List}
-use Prim.Native.Nat.{ℕ, ◌+◌}
-use native.Mathlib.Omega.{arith}
-use lib.ListN.{set, get_or, length-set}
-use Rattle.json_writer.proofs.Putting.{put_none, put_more, put_part}
+use Rattle.std.proofs.Common.{refl, sym, ◌∙◌, arith}
+use Rattle.json_writer.proofs.Putting.{put_past, put_copied}
 use Rattle.json_writer.proofs.put_bytes.Goals as goal
-
-pub loop-i-init : goal.loop-i-init
-loop-i-init c = (omega arith, (refl, sym (put_none _ _)))
-
-pub bounds-text-i : goal.bounds-text-i
-bounds-text-i c =
-    omega (arith, c.room-n.ensures)
-
-pub overflow_add-out : goal.overflow_add-out
-overflow_add-out c =
-    omega (arith, c.room-n.ensures)
-
-pub bounds-out-at : goal.bounds-out-at
-bounds-out-at c =
-    omega (arith, c.room-n.ensures)
-
-pub overflow_add-i : goal.overflow_add-i
-overflow_add-i c =
-    omega (arith, c.room-n.ensures)
-
-pub loop-i-preserved : goal.loop-i-preserved
-loop-i-preserved c =
-    let s = c.args in
-    let l = c.loop-i in
-    (omega arith, (simp length-set l.invariant.1.0, ap (λ (a : List ℕ). set a (s.at + l.i) (get_or s.text.now l.i 0)) l.invariant.1.1 ∙ put_more s.out.now s.at s.text.now l.i (omega (arith, c.room-n.ensures))))
-
-pub shape_of-out : goal.shape_of-out
-shape_of-out c = c.loop-i.invariant.1.0
+use Rattle.json_writer.proofs.put_bytes.Goals.{then-at-out, else-at-out}
 
 pub returns : goal.returns
 returns c =
-    let s = c.args in
-    let l = c.loop-i in
+    let o = c.args.out.now in
+    let t = c.args.text.now in
     record {
       count = refl;
-      out = l.invariant.1.1 ∙ put_part s.out.now s.at s.text.now l.i (λ h. omega (arith, c.room-n.ensures));
       short = omega arith;
+      out = elim c.if-at-out.branch [
+        | then-at-out w ↦ w.out-is ∙ put_copied o c.args.at w.min-n.result _ t _ w.if-at-out.true w.min-n.ensures (omega arith) w.copy_from_slice.ensures.after
+        | else-at-out w ↦ w.out-is ∙ sym (put_past o c.args.at t w.if-at-out.false)
+      ];
     }

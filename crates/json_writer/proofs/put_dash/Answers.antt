@@ -1,12 +1,13 @@
 -- `json_writer::put_dash` meets its contract.
-use mathlib.Core.Bool.{true, false}
-use native.Mathlib.Omega.{arith}
+use Rattle.std.proofs.Common.{arith, rules}
+use Rattle.json_writer.specs.Texts.{dash_text}
 use Rattle.json_writer.proofs.Putting.{put_nothing, put_is}
-use Rattle.json_writer.proofs.Pieces.{dash_is}
 use Rattle.json_writer.proofs.put_dash.Goals as goal
 
-pub returns-then-dash : goal.returns-then-dash
-returns-then-dash c = put_is c.put_byte.ensures (dash_is c.args.k true c.if-dash.true) (omega arith)
+pub returns-then-matches : goal.returns-then-matches
+unfolding dash_text
+returns-then-matches c = put_is c.put_byte.ensures (search rules) (omega arith)
 
-pub returns : goal.returns
-returns c = put_is (put_nothing c.args.out.now c.args.at) (dash_is c.args.k false c.if-dash.false) (omega arith)
+pub returns-else-matches : goal.returns-else-matches
+unfolding dash_text
+returns-else-matches c = put_is (put_nothing c.args.out.now c.args.at) (search rules) (omega arith)

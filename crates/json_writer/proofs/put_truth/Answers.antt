@@ -7,5 +7,5 @@ use Rattle.json_writer.proofs.put_truth.Goals as goal
 pub returns-then-b-eq0 : goal.returns-then-b-eq0
 returns-then-b-eq0 c = put_is c.put_bytes.ensures (truth_zero _ c.if-b-eq0.true) (omega arith)
 
-pub returns : goal.returns
-returns c = put_is c.put_bytes-2.ensures (truth_other _ c.if-b-eq0.false) (omega arith)
+pub returns-else-b-eq0 : goal.returns-else-b-eq0
+returns-else-b-eq0 c = put_is c.put_bytes-else-b-eq0.ensures (truth_other _ c.if-b-eq0.false) (omega arith)

@@ -15,7 +15,7 @@ pub width-w-requires : goal.width-w-requires
 width-w-requires c = c.requires
 
 pub loop-c-init : goal.loop-c-init
-loop-c-init c = (omega arith, enough_all c.args.schema.now c.args.row.now)
+loop-c-init c = enough_all c.args.schema.now c.args.row.now
 
 pub count_of-requires : goal.count_of-requires
 count_of-requires c =
@@ -31,11 +31,7 @@ returns-then-count_of-minimum c =
     let within : at < length (columns_of (packed_tables c.args.schema.now) (table_in c.args.row.now)) = omega (arith, c.loop-c-test.true, c.width-w.ensures, ap (λ (t : ℕ). length (columns_of (packed_tables c.args.schema.now) t)) table) in
     let low : c.minimum.result ≡ least c.args.schema.now c.args.row.now c.requires at within = c.minimum.ensures ∙ ap (λ (t : ℕ). (column_from (get_or c.args.schema.now (column_place t at) [])).min) table in
     let l = c.loop-c in
-    sym (l.invariant.1 ∙ enough_here c.args.schema.now c.args.row.now c.requires l.c (within) (omega (arith, c.if-count_of-minimum.true, c.count_of.ensures, low)))
-
-pub overflow_add-c : goal.overflow_add-c
-overflow_add-c c =
-    omega (arith, few_columns_lem c.args.schema.now c.requires c.table_of-table.result, c.width-w.ensures, c.loop-c-test.true)
+    sym (l.invariant ∙ enough_here c.args.schema.now c.args.row.now c.requires l.c (within) (omega (arith, c.if-count_of-minimum.true, c.count_of.ensures, low)))
 
 pub loop-c-preserved : goal.loop-c-preserved
 loop-c-preserved c =
@@ -44,10 +40,10 @@ loop-c-preserved c =
     let within : at < length (columns_of (packed_tables c.args.schema.now) (table_in c.args.row.now)) = omega (arith, c.loop-c-test.true, c.width-w.ensures, ap (λ (t : ℕ). length (columns_of (packed_tables c.args.schema.now) t)) table) in
     let low : c.minimum.result ≡ least c.args.schema.now c.args.row.now c.requires at within = c.minimum.ensures ∙ ap (λ (t : ℕ). (column_from (get_or c.args.schema.now (column_place t at) [])).min) table in
     let l = c.loop-c in
-    (omega (arith, c.loop-c-test.true), l.invariant.1 ∙ enough_on c.args.schema.now c.args.row.now c.requires l.c (within) (omega (arith, c.if-count_of-minimum.false, c.count_of.ensures, low)))
+    (l.invariant ∙ enough_on c.args.schema.now c.args.row.now c.requires l.c (within) (omega (arith, c.if-count_of-minimum.false, c.count_of.ensures, low)))
 
 pub returns : goal.returns
 returns c =
     let l = c.loop-c in
     let w = c.width-w.ensures ∙ ap (λ (t : ℕ). length (columns_of (packed_tables c.args.schema.now) t)) c.table_of-table.ensures in
-    sym (l.invariant.1 ∙ enough_end c.args.schema.now c.args.row.now l.c (omega (arith, w, c.loop-c-test.false)))
+    sym (l.invariant ∙ enough_end c.args.schema.now c.args.row.now l.c (omega (arith, w, c.loop-c-test.false)))

@@ -1,36 +1,16 @@
 -- `limits::rows_of` meets its contract.
-use mathlib.Core.Path.{sym, ap, ◌∙◌}
-use native.Mathlib.Omega.{arith}
-use mathlib.Core.List.{[]}
-use mathlib.Core.Logic.{⊎_elim}
-use lib.ListN.{length}
+use mathlib.Core.Path.{ap, ◌∙◌}
+use lib.ListN.{length, take}
+use Rattle.std.proofs.Common.{rules, tests}
+use Rattle.std.proofs.lemmas.Iterator.{YieldsList-from_slice}
+use Rattle.std.proofs.lemmas.Iterator.Consumers.{count_from_yields_List, YieldsList-from_filter}
 use Rattle.limits.specs.Alike.{of_t}
-use Rattle.limits.proofs.Kept.{keep_yes, keep_no, keep_end}
+use Rattle.limits.proofs.Kept.{kept_list}
 use Rattle.limits.proofs.rows_of.Goals as goal
-
-pub loop-i-init : goal.loop-i-init
-loop-i-init c = (omega arith, omega arith, omega arith)
-
-pub offset_bounds-rows-i : goal.offset_bounds-rows-i
-offset_bounds-rows-i c = omega (arith, c.well_formed)
-
-pub bounds-rows-i : goal.bounds-rows-i
-bounds-rows-i c = omega (arith, c.requires)
-
-pub overflow_add-k : goal.overflow_add-k
-overflow_add-k c =
-    omega (arith, c.loop-i.invariant.1, c.loop-i-test.true, c.ranges)
-
-pub loop-i-preserved : goal.loop-i-preserved
-loop-i-preserved c =
-    let l = c.loop-i in
-    let g = c.loop-i-test.true in
-    ⊎_elim
-    (λ w. (omega (arith, g), omega (arith, w.k-is, l.invariant.1), omega (arith, w.k-is, l.invariant.2, ap length (keep_yes (of_t c.args.table) [] c.args.rows.now c.args.n l.i c.requires g (sym c.is_of.ensures ∙ w.if-is_of.true)))))
-    (λ w. (omega (arith, g), omega (arith, w.k-is, l.invariant.1), omega (arith, w.k-is, l.invariant.2, ap length (keep_no (of_t c.args.table) [] c.args.rows.now c.args.n l.i c.requires g (sym c.is_of.ensures ∙ w.if-is_of.false)))))
-    c.if-is_of.branch-raw
 
 pub returns : goal.returns
 returns c =
-    let l = c.loop-i in
-    omega (arith, l.invariant.2, ap length (keep_end (of_t c.args.table) [] c.args.rows.now c.args.n l.i c.requires c.loop-i-test.false))
+    let a = c.args in
+    let l = take a.n a.rows.now in
+    count_from_yields_List _ c.count.result c.count.ensures.ran (YieldsList-from_filter _ (of_t a.table) (YieldsList-from_slice l cc) c.filter.ensures.closure (λ x b q k. search (rules, tests)))
+    ∙ ap length (kept_list (of_t a.table) l)

@@ -1,7 +1,7 @@
 -- `limits::same_in` meets its contract.
 use mathlib.Core.Path.{◌≡◌, sym, ap, ◌∙◌}
 use native.Mathlib.Omega.{arith}
-use Prim.Native.Nat.{ℕ, ◌<◌}
+use Prim.Native.Nat.{ℕ}
 use lib.ListN.{length, get_or}
 use lib.Seq.{take-length}
 use Rattle.model.specs.Base.{all}
@@ -10,46 +10,30 @@ use Rattle.limits.specs.Alike.{same_cells}
 use Rattle.limits.proofs.same_in.Invariants.{alike}
 use Rattle.limits.proofs.same_in.Goals as goal
 
-pub loop-k-init : goal.loop-k-init
+pub loop-c-init : goal.loop-c-init
 unfolding same_cells
-loop-k-init c =
+loop-c-init c =
     let a = c.args in
-    (omega arith, ap (all (alike a.x.now a.y.now)) (sym (take-length a.index.now)))
-
-pub bounds-index-k : goal.bounds-index-k
-bounds-index-k c = omega (arith, c.loop-k-test.true)
+    ap (all (alike a.x.now a.y.now)) (sym (take-length a.index.now))
 
 pub same_column-requires : goal.same_column-requires
-same_column-requires c =
-    omega (arith, c.wide-c.ensures, c.requires.columns c.loop-k.k c.loop-k-test.true)
+same_column-requires c = omega (arith, c.wide.ensures, c.requires.columns c.loop-c.c-index (omega arith))
 
 pub returns-then-not-same_column : goal.returns-then-not-same_column
 returns-then-not-same_column c =
-    let turn : ℕ = c.loop-k.k in
-    let within : turn < length c.args.index.now = c.loop-k-test.true in
-    let step : alike c.args.x.now c.args.y.now (get_or c.args.index.now turn 0) ≡ c.same_column.result = ap (alike c.args.x.now c.args.y.now) (sym c.wide-c.ensures) ∙ sym c.same_column.ensures in
-    sym (c.loop-k.invariant.1 ∙ all_here 0 c.args.index.now (length c.args.index.now) (turn) (omega arith) (alike c.args.x.now c.args.y.now) (within) (step ∙ c.if-not-same_column.true))
+    let a = c.args in
+    let i : ℕ = c.loop-c.c-index in
+    let step : alike a.x.now a.y.now (get_or a.index.now i 0) ≡ c.same_column.result = ap (alike a.x.now a.y.now) (sym c.wide.ensures) ∙ sym c.same_column.ensures in
+    sym (c.loop-c.invariant ∙ all_here 0 a.index.now (length a.index.now) i (omega arith) (alike a.x.now a.y.now) (omega arith) (step ∙ c.if-not-same_column.true))
 
-pub overflow_add-k : goal.overflow_add-k
-overflow_add-k c =
-    let turn : ℕ = c.loop-k.k in
-    let within : turn < length c.args.index.now = c.loop-k-test.true in
-    omega (arith, within, c.well_formed)
-
-pub loop-k-smaller : goal.loop-k-smaller
-loop-k-smaller c =
-    let turn : ℕ = c.loop-k.k in
-    let within : turn < length c.args.index.now = c.loop-k-test.true in
-    omega (arith, within)
-
-pub loop-k-preserved : goal.loop-k-preserved
-loop-k-preserved c =
-    let turn : ℕ = c.loop-k.k in
-    let within : turn < length c.args.index.now = c.loop-k-test.true in
-    let step : alike c.args.x.now c.args.y.now (get_or c.args.index.now turn 0) ≡ c.same_column.result = ap (alike c.args.x.now c.args.y.now) (sym c.wide-c.ensures) ∙ sym c.same_column.ensures in
-    (omega (arith, within), c.loop-k.invariant.1 ∙ all_on 0 c.args.index.now (length c.args.index.now) (turn) (omega arith) (alike c.args.x.now c.args.y.now) (within) (step ∙ c.if-not-same_column.false))
+pub loop-c-preserved : goal.loop-c-preserved
+loop-c-preserved c =
+    let a = c.args in
+    let i : ℕ = c.loop-c.c-index in
+    let step : alike a.x.now a.y.now (get_or a.index.now i 0) ≡ c.same_column.result = ap (alike a.x.now a.y.now) (sym c.wide.ensures) ∙ sym c.same_column.ensures in
+    c.loop-c.invariant ∙ all_on 0 a.index.now (length a.index.now) i (omega arith) (alike a.x.now a.y.now) (omega arith) (step ∙ c.if-not-same_column.false)
 
 pub returns : goal.returns
 returns c =
-    let l = c.loop-k in
-    sym (l.invariant.1 ∙ all_end 0 c.args.index.now (length c.args.index.now) l.k (omega arith) (alike c.args.x.now c.args.y.now) c.loop-k-test.false)
+    let a = c.args in
+    sym (c.loop-c.invariant ∙ all_end 0 a.index.now (length a.index.now) c.loop-c.c-index (omega arith) (alike a.x.now a.y.now) (omega arith))

@@ -2,7 +2,7 @@
 use mathlib.Core.Path.{◌≡◌}
 use mathlib.Core.Bool.{Bool}
 use mathlib.Core.List.{List}
-use Prim.Native.Nat.{ℕ, ◌-◌, ◌≤◌}
+use Prim.Native.Nat.{ℕ}
 use lib.ListN.{length, take, drop}
 use Rattle.model.specs.Base.{all}
 use Rattle.model.specs.Value.{same_value}
@@ -14,8 +14,5 @@ use Rattle.limits.proofs.same_in.Given as goal
 abbrev pub alike : List (List ℕ) → List (List ℕ) → ℕ → Bool
 alike x y c = same_value (value_in c x) (value_in c y)
 
-abbrev pub invariant-loop-k : goal.invariant-loop-k
-invariant-loop-k l = (l.k ≤ length l.index) × (same_cells l.index l.x l.y ≡ all (alike l.x l.y) (drop l.k (take (length l.index) l.index)))
-
-abbrev pub decreases-loop-k : goal.decreases-loop-k
-decreases-loop-k l = length l.index - l.k
+abbrev pub invariant-loop-c : goal.invariant-loop-c
+invariant-loop-c l = same_cells l.index l.x l.y ≡ all (alike l.x l.y) (drop l.c-index (take (length l.index) l.index))

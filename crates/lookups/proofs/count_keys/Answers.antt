@@ -1,45 +1,29 @@
 -- `lookups::count_keys` meets its contract.
-use mathlib.Core.Path.{◌≡◌, sym, ◌∙◌}
-use mathlib.Core.Logic.{⊎_elim}
-use mathlib.Core.List.{map}
-use Prim.Native.Nat.{◌+◌, ◌≤◌}
-use native.Mathlib.Omega.{arith}
-use lib.ListN.{length}
+use Rattle.std.proofs.Common.{◌≡◌, ◌∙◌, sym, ℕ, List, [], ◌<◌, length, arith}
+use Rattle.std.proofs.lemmas.Grind.{common_steps}
+use Rattle.std.proofs.lemmas.List.Sums.{count_by_more_yes, count_by_more_no}
+use Rattle.std.specs.Prelude.{count_by}
 use Rattle.model.specs.Octets.{value}
-use Rattle.model.specs.Schema.{Schema}
-use Rattle.lookups.specs.Found.{count_true}
-use Rattle.lookups.proofs.Laws.{left, left_one, left_none, left_end}
-use Rattle.lookups.proofs.count_keys.Invariants.{is}
+use Rattle.model.specs.Rows.{has}
+use Rattle.inner.specs.Working.{working}
+use Rattle.lookups.proofs.Laws.{count_is}
 use Rattle.lookups.proofs.count_keys.Goals as goal
+use Rattle.lookups.proofs.count_keys.Goals.{then-has_key, else-has_key}
 
-pub loop-i-init : goal.loop-i-init
-loop-i-init c = (omega arith, omega arith, λ s. omega arith)
-
-pub offset_bounds-keys-i : goal.offset_bounds-keys-i
-offset_bounds-keys-i c = omega (arith, c.well_formed)
-
-pub has_key-requires : goal.has_key-requires
-has_key-requires c = c.requires
-
-pub overflow_add-count : goal.overflow_add-count
-overflow_add-count c = omega (arith, c.well_formed)
-
-pub overflow_add-i : goal.overflow_add-i
-overflow_add-i c = omega (arith, c.well_formed)
-
-pub loop-i-preserved : goal.loop-i-preserved
-loop-i-preserved c =
-    let a = c.args in
-    let l = c.loop-i in
-    let t = c.loop-i-test.true in
-    ⊎_elim {C = (c.if-has_key.count ≤ l.i + 1) × (l.i + 1 ≤ length a.keys.now) × ((s : Schema) → count_true (is s a.rows.now) (map value a.keys.now) ≡ c.if-has_key.count + left (is s a.rows.now) a.keys.now (l.i + 1) (l.i + 1))}
-    (λ w. (omega (arith, w.count-is), omega arith, λ s. omega (arith, w.count-is, l.invariant.2 s, left_one (is s a.rows.now) a.keys.now l.i t (sym (c.has_key.ensures s) ∙ w.if-has_key.true))))
-    (λ w. (omega (arith, w.count-is), omega arith, λ s. omega (arith, w.count-is, l.invariant.2 s, left_none (is s a.rows.now) a.keys.now l.i t (sym (c.has_key.ensures s) ∙ w.if-has_key.false))))
-    c.if-has_key.branch-raw
+pub loop-key-preserved : goal.loop-key-preserved
+loop-key-preserved c =
+    let rows = c.args.rows.now in
+    let keys = c.args.keys.now in
+    let i = c.loop-key.key-index in
+    let before : i < length keys = omega arith in
+    elim c.if-has_key.branch [
+      | then-has_key w ↦ (omega arith, λ s. omega (arith, c.loop-key.invariant.1 s, count_by_more_yes (λ (k : List ℕ). has (value k) (working s (length rows) rows)) keys i [] before (sym (c.has_key.ensures s) ∙ w.if-has_key.true)))
+      | else-has_key w ↦ (omega arith, λ s. omega (arith, c.loop-key.invariant.1 s, count_by_more_no (λ (k : List ℕ). has (value k) (working s (length rows) rows)) keys i [] before (sym (c.has_key.ensures s) ∙ w.if-has_key.false)))
+    ]
 
 pub returns : goal.returns
 returns c =
     λ s.
-    let a = c.args in
-    let l = c.loop-i in
-    omega (arith, l.invariant.2 s, left_end (is s a.rows.now) a.keys.now l.i c.loop-i-test.false)
+    let rows = working s (length c.args.rows.now) c.args.rows.now in
+    let counted : c.loop-key.count ≡ count_by (λ (k : List ℕ). has (value k) rows) c.args.keys.now = grind (arith, common_steps, c.loop-key.invariant.1 s) in
+    counted ∙ sym (count_is (λ (k : ℕ). has k rows) c.args.keys.now)

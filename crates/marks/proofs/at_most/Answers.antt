@@ -8,4 +8,4 @@ use Rattle.marks.proofs.at_most.Goals as goal
 pub returns : goal.returns
 returns c =
     let a = c.args in
-    c.at_most.ensures ∙ ordered le_z c.first_of-x.result c.first_of-y.result (first_int a.xs.now) (first_int a.ys.now) c.first_of-x.ensures c.first_of-y.ensures
+    c.at_most.ensures ∙ ordered le_z c.first_of.result c.first_of-2.result (first_int a.xs.now) (first_int a.ys.now) c.first_of.ensures c.first_of-2.ensures

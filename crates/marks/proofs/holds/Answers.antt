@@ -33,4 +33,4 @@ pub returns-in-Id : goal.returns-in-Id
 unfolding atoms_at id_in
 returns-in-Id c =
     let a = c.args in
-    c.compare-in-Id.ensures ∙ ap (λ y. met a.f (y ∷ []) a.l.now) (c.atom_of-x.ensures ∙ ap (λ b. uuid_atom (value b)) c.id_of.ensures.bytes) ∙ ap (λ q. met a.f (atoms_at q a.row.now) a.l.now) (sym c.in-Id.is)
+    c.compare-in-Id.ensures ∙ ap (λ y. met a.f (y ∷ []) a.l.now) (c.atom_of.ensures ∙ ap (λ b. uuid_atom (value b)) c.id_of.ensures.bytes) ∙ ap (λ q. met a.f (atoms_at q a.row.now) a.l.now) (sym c.in-Id.is)

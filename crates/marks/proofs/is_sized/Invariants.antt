@@ -2,14 +2,11 @@
 use mathlib.Core.Path.{◌≡◌}
 use mathlib.Core.Bool.{true}
 use mathlib.Core.List.{List}
-use Prim.Native.Nat.{ℕ, ◌-◌, ◌≤◌}
+use Prim.Native.Nat.{ℕ}
 use lib.Dec.{eqb}
 use lib.ListN.{length, drop}
 use Rattle.model.specs.Base.{all}
 use Rattle.marks.proofs.is_sized.Given as goal
 
-abbrev pub invariant-loop-i : goal.invariant-loop-i
-invariant-loop-i l = (l.i ≤ length l.xs) × (l.ok ≡ true) × (all (λ (x : List ℕ). eqb (length x) 25) l.xs ≡ all (λ (x : List ℕ). eqb (length x) 25) (drop l.i l.xs))
-
-abbrev pub decreases-loop-i : goal.decreases-loop-i
-decreases-loop-i l = length l.xs - l.i
+abbrev pub invariant-loop-x : goal.invariant-loop-x
+invariant-loop-x l = (l.ok ≡ true) × (all (λ (x : List ℕ). eqb (length x) 25) l.xs ≡ all (λ (x : List ℕ). eqb (length x) 25) (drop l.x-index l.xs))

@@ -10,37 +10,15 @@ use Rattle.marks.proofs.Marking.{narrowing_none, narrowing_set, narrowing_keep, 
 use Rattle.marks.proofs.narrow_all.Goals as goal
 
 pub loop-i-init : goal.loop-i-init
-loop-i-init c = (omega arith, λ p h. narrowing_none p _ _)
-
-pub bounds-marks-i : goal.bounds-marks-i
-bounds-marks-i c = omega (arith, c.loop-i-test.true, c.requires.1)
-
-pub offset_bounds-rows-i : goal.offset_bounds-rows-i
-offset_bounds-rows-i c = omega (arith, c.loop-i-test.true, c.requires.1)
-
-pub bounds-rows-i : goal.bounds-rows-i
-bounds-rows-i c = omega (arith, c.loop-i-test.true)
-
-pub sized_at-s-requires : goal.sized_at-s-requires
-sized_at-s-requires c = c.requires.0
-
-pub bounds-marks-i-then-marks-i : goal.bounds-marks-i-then-marks-i
-bounds-marks-i-then-marks-i c = omega (arith, c.loop-i-test.true, c.requires.1)
-
-pub overflow_add-i : goal.overflow_add-i
-overflow_add-i c = omega (arith, c.loop-i-test.true, c.requires.1)
+loop-i-init c = λ p h. narrowing_none p _ _
 
 pub loop-i-preserved : goal.loop-i-preserved
 loop-i-preserved c =
     let a = c.args in
     ⊎_elim
-    (λ w. (
-      omega arith,
-      λ p h. rw w.marks-is (narrowing_set p _ _ (c.loop-i.invariant.1 p h) w.if-marks-i.true (ap (λ b. a.stays && b) w.sized_at-s.ensures.0 ∙ and_true a.stays ∙ sym (h (get_or a.rows.now c.loop-i.i []) w.sized_at-s.ensures.1))),
-    ))
-    (λ w. (omega arith, λ p h. rw w.marks-is (narrowing_keep p _ _ (c.loop-i.invariant.1 p h) w.if-marks-i.false)))
+    (λ w. λ p h. rw w.marks-is (narrowing_set p _ _ (c.loop-i.invariant p h) w.if-marks-i.true (ap (λ b. a.stays && b) w.sized_at.ensures.0 ∙ and_true a.stays ∙ sym (h (get_or a.rows.now c.loop-i.i []) w.sized_at.ensures.1))))
+    (λ w. λ p h. rw w.marks-is (narrowing_keep p _ _ (c.loop-i.invariant p h) w.if-marks-i.false))
     c.if-marks-i.branch-raw
 
 pub returns : goal.returns
-returns c =
-    λ p h. narrowing_end p _ _ (c.loop-i.invariant.1 p h) (omega (arith, c.loop-i-test.false, c.loop-i.invariant.0))
+returns c = λ p h. narrowing_end p _ _ (c.loop-i.invariant p h) (omega arith)

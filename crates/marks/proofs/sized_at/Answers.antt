@@ -35,5 +35,5 @@ pub returns-in-Id : goal.returns-in-Id
 unfolding atoms_at id_in
 returns-in-Id c =
     let a = c.args in
-    let e = c.atom_of-x.ensures ∙ ap (λ b. uuid_atom (value b)) c.id_of.ensures.bytes in
+    let e = c.atom_of.ensures ∙ ap (λ b. uuid_atom (value b)) c.id_of.ensures.bytes in
     (c.is_sized-in-Id.ensures.0, subst (λ q. Sized (atoms_at q a.row.now)) (sym c.in-Id.is) (subst (λ y. Sized (y ∷ [])) e (record { few = omega arith; bytes = c.is_sized-in-Id.ensures.1 })))

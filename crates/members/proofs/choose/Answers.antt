@@ -40,7 +40,7 @@ returns-then-body_is c =
     let a = c.args in
     let w = a.words.now in
     sym (c.loop-k.invariant.1 ∙ words_here (tree_at a.text.now a.at) w c.loop-k.k (length w - c.loop-k.k) c.loop-k.a c.if-words-a.false (length w - (c.loop-k.k + 1)) (omega arith) c.if-words-b.false
-    (sym (c.body_is.ensures ∙ word_text _ _ (place_tree a.text.now a.at (sym c.body_at-f.ensures ∙ c.in-At.is))) ∙ c.if-body_is.true))
+    (sym (c.body_is.ensures ∙ word_text _ _ (place_tree a.text.now a.at (sym c.body_at-f.ensures ∙ c.in-Some.is))) ∙ c.if-body_is.true))
 
 pub loop-k-preserved : goal.loop-k-preserved
 loop-k-preserved c =
@@ -48,7 +48,7 @@ loop-k-preserved c =
     let w = a.words.now in (
       omega arith,
       c.loop-k.invariant.1 ∙ words_next (tree_at a.text.now a.at) w c.loop-k.k (length w - c.loop-k.k) c.loop-k.a c.if-words-a.false (length w - (c.loop-k.k + 1)) (omega arith) c.if-words-b.false
-          (sym (c.body_is.ensures ∙ word_text _ _ (place_tree a.text.now a.at (sym c.body_at-f.ensures ∙ c.in-At.is))) ∙ c.if-body_is.false),
+          (sym (c.body_is.ensures ∙ word_text _ _ (place_tree a.text.now a.at (sym c.body_at-f.ensures ∙ c.in-Some.is))) ∙ c.if-body_is.false),
     )
 
 pub returns : goal.returns

@@ -1,27 +1,29 @@
 -- `mirror::opened` meets its contract.
 use mathlib.Core.Path.{sym, ◌∙◌}
 use mathlib.Core.List.{[]}
-use native.Mathlib.Omega.{arith}
-use borrow.Author.Rules.{rules}
 use Rattle.model.proofs.Octets.{octets}
+use Rattle.model.proofs.Tests.{clash}
 use Rattle.mirror.proofs.Opening.{open_refused, catalog_accepted, open_bad, open_good}
 use Rattle.mirror.proofs.opened.Goals as goal
+use Rattle.mirror.proofs.opened.Goals.{then-is_accepted, else-is_accepted}
 
-pub returns-then-not-is_accepted : goal.returns-then-not-is_accepted
-returns-then-not-is_accepted c =
-    open_refused c.args.area.now c.requires.0 _ _ c.read_catalog.ensures (sym c.is_accepted.ensures ∙ c.if-not-is_accepted.true)
+pub part_good-requires-clause-accepted : goal.part_good-requires-clause-accepted
+part_good-requires-clause-accepted c = catalog_accepted c.args.area.now c.requires.0 _ [] c.read_catalog.ensures (sym c.is_accepted.ensures ∙ c.if-is_accepted.true)
 
-pub part_good-requires : goal.part_good-requires
-part_good-requires c = record { accepted = catalog_accepted c.args.area.now c.requires.0 _ [] c.read_catalog.ensures (sym c.is_accepted.ensures ∙ c.if-not-is_accepted.false); store_bytes_in_bounds = (search rules, λ few. omega (arith, few, c.requires.1)) }
-
-pub returns-then-not-part_good : goal.returns-then-not-part_good
-returns-then-not-part_good c =
+pub returns-then-part_good : goal.returns-then-part_good
+returns-then-part_good c =
     let a = c.args.area.now in
-    open_bad a c.requires.0 _ _ c.read_catalog.ensures (octets a (λ i. (c.shared_slice_known-1.given i).fits))
-    (sym c.is_accepted.ensures ∙ c.if-not-is_accepted.false) (sym (c.if-not-part_good.true) ∙ c.part_good.ensures.good)
+    elim c.if-is_accepted.branch [
+      | then-is_accepted w ↦ rw w.rows-is (open_good a c.requires.0 _ _ c.read_catalog.ensures (octets a (λ i. (c.type_inv.area i).fits))
+          (sym c.is_accepted.ensures ∙ w.if-is_accepted.true) c.args.rows.now w.part_good.result (sym w.value-is ∙ c.if-part_good.true) w.part_good.ensures c.mirror_part.result c.mirror_part.ensures)
+      | else-is_accepted w ↦ absurd (clash _ (sym w.value-is ∙ c.if-part_good.true) w.if-is_accepted.false)
+    ]
 
-pub returns : goal.returns
-returns c =
+pub returns-else-part_good : goal.returns-else-part_good
+returns-else-part_good c =
     let a = c.args.area.now in
-    open_good a c.requires.0 _ _ c.read_catalog.ensures (octets a (λ i. (c.shared_slice_known-1.given i).fits))
-    (sym c.is_accepted.ensures ∙ c.if-not-is_accepted.false) c.args.rows.now c.part_good.result (c.if-not-part_good.false) c.part_good.ensures c.mirror_part.result c.mirror_part.ensures
+    elim c.if-is_accepted.branch [
+      | then-is_accepted w ↦ rw c.if-part_good.false (open_bad a c.requires.0 _ _ c.read_catalog.ensures (octets a (λ i. (c.type_inv.area i).fits))
+          (sym c.is_accepted.ensures ∙ w.if-is_accepted.true) (sym (sym w.value-is ∙ c.if-part_good.false) ∙ w.part_good.ensures.good))
+      | else-is_accepted w ↦ rw c.if-part_good.false (open_refused a c.requires.0 _ _ c.read_catalog.ensures (sym c.is_accepted.ensures ∙ w.if-is_accepted.false))
+    ]

@@ -6,55 +6,31 @@ use mathlib.Core.Logic.{⊎_elim}
 use Prim.Native.Nat.{◌≤◌}
 use native.Mathlib.Omega.{arith}
 use lib.ListN.{length}
-use lib.Seq.{length-take-le}
 use Rattle.model.specs.Faults.{is_fine, Judged}
 use Rattle.model.specs.Mutations.{Mutation}
 use Rattle.model.specs.Catalog.{column_from}
-use Rattle.model.proofs.FaultLaws.{earlier_first, earlier_fine}
+use Rattle.model.proofs.FaultLaws.{earlier_fine}
 use Rattle.nav.proofs.Walk.{walk_fine, walk_less}
 use Rattle.mutations.specs.Mutating.{mutation_at, mutations_at}
 use Rattle.mutations.proofs.Faulty.{got_on, mutations_end, worst_on, worst_end}
-use Rattle.mutations.proofs.Rowwise.{walked_none, walked_on, walked_by, mutated}
+use Rattle.mutations.proofs.Rowwise.{walked_on, walked_by, mutated}
 use Rattle.mutations.proofs.mutate_rows.Goals as goal
 
-pub loop-g-init : goal.loop-g-init
-loop-g-init c =
-    let a = c.args in
-    (c.requires.f_value, sym (earlier_first _), walked_none (map column_from a.columns.now) a.marks.now a.n a.rows.now (mutations_at a.text.now a.names.now a.columns.now a.f).got)
-
 pub read_mutation-m-requires : goal.read_mutation-m-requires
-read_mutation-m-requires c = record { running = c.requires.running; at_value = (walk_fine c.args.text.now c.in-At.is c.loop-g.invariant.0).0 }
-
-pub slice_bounds-mutate_marked-end : goal.slice_bounds-mutate_marked-end
-slice_bounds-mutate_marked-end c =
-    let room : c.args.n ≤ length c.args.marks.now = omega (arith, c.all-1, c.requires.n_le_most_rows.0) in
-    sym (length-take-le c.loop-g.e c.args.marks.now (omega (arith, room, c.loop-g.invariant.2.sound.few)))
-
-pub mutate_marked-s-requires : goal.mutate_marked-s-requires
-mutate_marked-s-requires c =
-    let room : c.args.n ≤ length c.args.marks.now = omega (arith, c.all-1, c.requires.n_le_most_rows.0) in
-    let fine : let a = c.args in is_fine c.earlier-w.result ≡ true → (is_fine c.loop-g.w ≡ true) × (is_fine (mutation_at a.text.now a.names.now a.columns.now c.in-At.p).fault ≡ true) = λ y. let p = earlier_fine c.loop-g.w c.read_mutation-m.result.fault (ap is_fine (sym c.earlier-w.ensures) ∙ y) in
-    (p.0, ap is_fine (sym c.read_mutation-m.ensures.fault) ∙ p.1) in
-    let y = (fine (sym c.is_fine-ok.ensures ∙ c.if-ok.true)).1 in
-    let few = c.loop-g.invariant.2.sound.few in
-    let size = length-take-le c.loop-g.e c.args.marks.now (omega (arith, room, few)) in
-    record { running = c.requires.running; ready = c.read_mutation-m.ensures.ready y; place_in_bounds = (c.read_mutation-m.ensures.place y, c.requires.columns_len_bound); marks_len_bound = (omega (arith, size, few, c.requires.n_le_most_rows.0), omega (arith, size, few, c.requires.n_le_most_rows.1, c.loop-g.invariant.2.sound.size)) }
-
-pub next_item-g-requires : goal.next_item-g-requires
-next_item-g-requires c = c.requires.running.says
+read_mutation-m-requires c = record { running = c.requires.running; at_value = (walk_fine c.args.text.now c.in-Some.is c.loop-g.invariant.0).0 }
 
 pub loop-g-smaller : goal.loop-g-smaller
 loop-g-smaller c =
     let a = c.args in
-    rw c.next_item-g.ensures (walk_less a.text.now c.in-At.is)
+    rw c.next_item-g.ensures (walk_less a.text.now c.in-Some.is)
 
 pub loop-g-preserved : goal.loop-g-preserved
 loop-g-preserved c =
     let room : c.args.n ≤ length c.args.marks.now = omega (arith, c.all-1, c.requires.n_le_most_rows.0) in
-    let fine : let a = c.args in is_fine c.earlier-w.result ≡ true → (is_fine c.loop-g.w ≡ true) × (is_fine (mutation_at a.text.now a.names.now a.columns.now c.in-At.p).fault ≡ true) = λ y. let p = earlier_fine c.loop-g.w c.read_mutation-m.result.fault (ap is_fine (sym c.earlier-w.ensures) ∙ y) in
+    let fine : let a = c.args in is_fine c.earlier-w.result ≡ true → (is_fine c.loop-g.w ≡ true) × (is_fine (mutation_at a.text.now a.names.now a.columns.now c.in-Some.p).fault ≡ true) = λ y. let p = earlier_fine c.loop-g.w c.read_mutation-m.result.fault (ap is_fine (sym c.earlier-w.ensures) ∙ y) in
     (p.0, ap is_fine (sym c.read_mutation-m.ensures.fault) ∙ p.1) in
     let a = c.args in
-    let h = c.in-At.is in
+    let h = c.in-Some.is in
     let z = map column_from a.columns.now in
     rw c.next_item-g.ensures (
       (walk_fine a.text.now h c.loop-g.invariant.0).1,
@@ -67,12 +43,9 @@ loop-g-preserved c =
           c.if-ok.branch-raw,
     )
 
-pub shape_of-rows-in-Nothing : goal.shape_of-rows-in-Nothing
-shape_of-rows-in-Nothing c = c.loop-g.invariant.2.sound.size
-
-pub returns-in-Nothing : goal.returns-in-Nothing
-returns-in-Nothing c =
+pub returns : goal.returns
+returns c =
     let a = c.args in
-    let n = c.in-Nothing.is in
+    let n = c.in_default.is in
     mutated (map column_from a.columns.now) a.marks.now a.n a.rows.now c.requires.n_le_most_rows.1 (mutations_at a.text.now a.names.now a.columns.now a.f) c.loop-g.invariant.2
     (ap (λ (q : Judged (List Mutation)). q.got) (mutations_end a.text.now a.names.now a.columns.now n)) (worst_end a.text.now a.names.now a.columns.now _ c.loop-g.w c.loop-g.invariant.1 n) c.fault_or.ensures

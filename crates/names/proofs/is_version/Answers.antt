@@ -1,52 +1,28 @@
 -- `names::is_version` meets its contract.
-use mathlib.Core.Path.{refl, sym, ◌∙◌}
-use mathlib.Core.Logic.{⊎_elim}
-use native.Mathlib.Omega.{arith}
-use borrow.Author.Tests.{eq-eqb, ne_eqb}
+use Rattle.std.proofs.Common.{get_or, refl, arith}
+use Rattle.std.proofs.lemmas.Grind.{common_steps}
 use Rattle.model.specs.SchemaText.{is_version}
-use Rattle.names.proofs.Versions.{version_digit, version_dot, version_byte, version_spent, version_unseen, version_end, and_all, and_none}
+use Rattle.names.proofs.Versions.{digit_is, version_digit, version_dot, version_byte, version_spent, version_unseen, version_end}
 use Rattle.names.proofs.is_version.Goals as goal
 
-pub loop-i-init : goal.loop-i-init
+pub loop-b-init : goal.loop-b-init
 unfolding is_version
-loop-i-init c = (omega arith, refl)
+loop-b-init c = refl
 
-pub overflow_cast-b : goal.overflow_cast-b
-overflow_cast-b c = omega (arith, c.shared_slice_known-in-loop-i-1.given c.loop-i.i)
-
-pub returns-then-b-ne46 : goal.returns-then-b-ne46
-returns-then-b-ne46 c =
+pub loop-b-preserved : goal.loop-b-preserved
+loop-b-preserved c =
+    let l = c.loop-b in
     let t = c.args.t.now in
-    sym (c.loop-i.invariant.1 ∙ version_byte t c.loop-i.i c.loop-i.dots c.loop-i.seen c.loop-i-test.true (sym c.is_digit-d.ensures ∙ c.if-d.false) c.if-b-ne46.true)
+    grind (arith, common_steps, digit_is (get_or t l.b-index 0), version_digit t l.b-index l.dots l.seen, version_dot t l.b-index l.dots l.seen)
+
+pub returns-else-b-eq46 : goal.returns-else-b-eq46
+returns-else-b-eq46 c =
+    let l = c.loop-b in
+    let t = c.args.t.now in
+    grind (arith, common_steps, digit_is (get_or t l.b-index 0), version_byte t l.b-index l.dots l.seen, version_spent t l.b-index l.dots l.seen, version_unseen t l.b-index l.dots l.seen)
 
 pub returns-then-dots-eq0 : goal.returns-then-dots-eq0
-returns-then-dots-eq0 c =
-    let t = c.args.t.now in
-    sym (c.loop-i.invariant.1 ∙ version_spent t c.loop-i.i c.loop-i.dots c.loop-i.seen c.loop-i-test.true (sym c.is_digit-d.ensures ∙ c.if-d.false) c.if-dots-eq0.true)
+returns-then-dots-eq0 c = grind (arith, common_steps, version_end c.args.t.now c.loop-b.b-index c.loop-b.dots c.loop-b.seen)
 
-pub returns-else-seen : goal.returns-else-seen
-returns-else-seen c =
-    let t = c.args.t.now in
-    sym (c.loop-i.invariant.1 ∙ version_unseen t c.loop-i.i c.loop-i.dots c.loop-i.seen c.loop-i-test.true (sym c.is_digit-d.ensures ∙ c.if-d.false) c.if-seen.false)
-
-pub loop-i-preserved : goal.loop-i-preserved
-loop-i-preserved c =
-    let t = c.args.t.now in
-    let h = c.loop-i-test.true in
-    let d = sym c.is_digit-d.ensures in (
-      omega arith,
-      ⊎_elim
-          (λ w. rw (w.dots-is, w.seen-is) (c.loop-i.invariant.1 ∙ version_digit t c.loop-i.i c.loop-i.dots c.loop-i.seen h (d ∙ w.if-d.true)))
-          (λ w. rw (w.dots-is, w.seen-is) (c.loop-i.invariant.1 ∙ version_dot t c.loop-i.i c.loop-i.dots c.loop-i.seen h (d ∙ w.if-d.false) w.if-b-ne46.false w.if-seen.true w.if-dots-eq0.false))
-          c.if-d.branch-raw,
-    )
-
-pub returns-then-dots-eq0-2 : goal.returns-then-dots-eq0-2
-returns-then-dots-eq0-2 c =
-    let t = c.args.t.now in
-    sym (c.loop-i.invariant.1 ∙ version_end t c.loop-i.i c.loop-i.dots c.loop-i.seen c.loop-i-test.false ∙ rw (eq-eqb c.loop-i.dots 0 c.if-dots-eq0-2.true) (and_all c.loop-i.seen))
-
-pub returns : goal.returns
-returns c =
-    let t = c.args.t.now in
-    sym (c.loop-i.invariant.1 ∙ version_end t c.loop-i.i c.loop-i.dots c.loop-i.seen c.loop-i-test.false ∙ rw (ne_eqb c.loop-i.dots 0 c.if-dots-eq0-2.false) (and_none c.loop-i.seen))
+pub returns-else-dots-eq0 : goal.returns-else-dots-eq0
+returns-else-dots-eq0 c = grind (arith, common_steps, version_end c.args.t.now c.loop-b.b-index c.loop-b.dots c.loop-b.seen)

@@ -16,18 +16,18 @@ returns-in_default c =
 
 pub overflow_cast-cell : goal.overflow_cast-cell
 overflow_cast-cell c =
-    let told : (is_text (kind_of (tree_at c.args.text.now c.args.at)) ≡ true) × (c.in-At.i ≡ spaces_at c.args.text.now c.args.at + 1) = place_text c.args.text.now c.args.at (sym c.body_at-f.ensures ∙ c.in-At.is) in
+    let told : (is_text (kind_of (tree_at c.args.text.now c.args.at)) ≡ true) × (c.in-Some.i ≡ spaces_at c.args.text.now c.args.at + 1) = place_text c.args.text.now c.args.at (sym c.body_at-f.ensures ∙ c.in-Some.is) in
     let a = c.args in
-    omega (arith, (name_short a.text.now a.at (told).0 (told).1 c.decode-w.ensures c.in-To.is).0)
+    omega (arith, (name_short a.text.now a.at (told).0 (told).1 c.decode-w.ensures c.in-Some-w.is).0)
 
-pub returns-in-To : goal.returns-in-To
-returns-in-To c =
-    let told : (is_text (kind_of (tree_at c.args.text.now c.args.at)) ≡ true) × (c.in-At.i ≡ spaces_at c.args.text.now c.args.at + 1) = place_text c.args.text.now c.args.at (sym c.body_at-f.ensures ∙ c.in-At.is) in
+pub returns-in-Some-w : goal.returns-in-Some-w
+returns-in-Some-w c =
+    let told : (is_text (kind_of (tree_at c.args.text.now c.args.at)) ≡ true) × (c.in-Some.i ≡ spaces_at c.args.text.now c.args.at + 1) = place_text c.args.text.now c.args.at (sym c.body_at-f.ensures ∙ c.in-Some.is) in
     let a = c.args in
-    (name_short a.text.now a.at (told).0 (told).1 c.decode-w.ensures c.in-To.is).1
+    (name_short a.text.now a.at (told).0 (told).1 c.decode-w.ensures c.in-Some-w.is).1
 
-pub returns-in-Full : goal.returns-in-Full
-returns-in-Full c =
-    let told : (is_text (kind_of (tree_at c.args.text.now c.args.at)) ≡ true) × (c.in-At.i ≡ spaces_at c.args.text.now c.args.at + 1) = place_text c.args.text.now c.args.at (sym c.body_at-f.ensures ∙ c.in-At.is) in
+pub returns-in-None : goal.returns-in-None
+returns-in-None c =
+    let told : (is_text (kind_of (tree_at c.args.text.now c.args.at)) ≡ true) × (c.in-Some.i ≡ spaces_at c.args.text.now c.args.at + 1) = place_text c.args.text.now c.args.at (sym c.body_at-f.ensures ∙ c.in-Some.is) in
     let a = c.args in
-    name_long a.text.now a.at (told).0 (told).1 c.decode-w.ensures c.in-Full.is
+    name_long a.text.now a.at (told).0 (told).1 c.decode-w.ensures c.in-None.is

@@ -2,10 +2,10 @@
 use Rattle.inner.specs.Positions.{found_of}
 use Rattle.nav.proofs.found.Goals as goal
 
-pub returns-in-More : goal.returns-in-More
+pub returns-in-Continue : goal.returns-in-Continue
 unfolding found_of
-returns-in-More c = rw c.in-More.is
+returns-in-Continue c = rw c.in-Continue.is
 
-pub returns-in-Done : goal.returns-in-Done
+pub returns-in-Break : goal.returns-in-Break
 unfolding found_of
-returns-in-Done c = rw c.in-Done.is
+returns-in-Break c = rw c.in-Break.is

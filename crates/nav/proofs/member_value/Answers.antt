@@ -8,11 +8,8 @@ pub returns-then-v-ne0 : goal.returns-then-v-ne0
 returns-then-v-ne0 c =
     ⊎_elim (λ z. absurd (c.if-v-ne0.true z)) (λ k. sym (ap (end_or c.args.at) k)) c.value_known-v.ensures
 
-pub returns-in-End : goal.returns-in-End
-returns-in-End c = rw (← c.key-r.ensures, c.in-End.is)
+pub returns-in-Ok : goal.returns-in-Ok
+returns-in-Ok c = rw (← c.key-r.ensures, c.in-Ok.is)
 
-pub returns-in-Stop : goal.returns-in-Stop
-returns-in-Stop c = rw (← c.key-r.ensures, c.in-Stop.is)
-
-pub returns-in-Deep : goal.returns-in-Deep
-returns-in-Deep c = rw (← c.key-r.ensures, c.in-Deep.is)
+pub returns-in-Err : goal.returns-in-Err
+returns-in-Err c = rw (← c.key-r.ensures, c.in-Err.is)

@@ -5,12 +5,12 @@ use Rattle.nav.proofs.minus.Goals as goal
 
 pub returns-then-m-eq0 : goal.returns-then-m-eq0
 unfolding minus_of
-returns-then-m-eq0 c = rw (c.in-Size.is, c.if-m-eq0.true)
+returns-then-m-eq0 c = rw (c.in-Some.is, c.if-m-eq0.true)
 
 pub returns-else-m-eq0 : goal.returns-else-m-eq0
 unfolding minus_of
-returns-else-m-eq0 c = rw (c.in-Size.is, minus_of, ne_eqb _ _ c.if-m-eq0.false)
+returns-else-m-eq0 c = rw (c.in-Some.is, minus_of, ne_eqb _ _ c.if-m-eq0.false)
 
-pub returns-in-Bad : goal.returns-in-Bad
+pub returns-in-None : goal.returns-in-None
 unfolding minus_of
-returns-in-Bad c = rw c.in-Bad.is
+returns-in-None c = rw c.in-None.is

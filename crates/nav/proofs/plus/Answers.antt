@@ -5,12 +5,12 @@ use Rattle.nav.proofs.plus.Goals as goal
 
 pub returns-then-m-lt9223372036854775808 : goal.returns-then-m-lt9223372036854775808
 unfolding plus_of
-returns-then-m-lt9223372036854775808 c = rw (c.in-Size.is, plus_of, lt-ltb _ _ c.if-m-lt9223372036854775808.true)
+returns-then-m-lt9223372036854775808 c = rw (c.in-Some.is, plus_of, lt-ltb _ _ c.if-m-lt9223372036854775808.true)
 
 pub returns-else-m-lt9223372036854775808 : goal.returns-else-m-lt9223372036854775808
 unfolding plus_of
-returns-else-m-lt9223372036854775808 c = rw (c.in-Size.is, plus_of, le-ltb _ _ c.if-m-lt9223372036854775808.false)
+returns-else-m-lt9223372036854775808 c = rw (c.in-Some.is, plus_of, le-ltb _ _ c.if-m-lt9223372036854775808.false)
 
-pub returns-in-Bad : goal.returns-in-Bad
+pub returns-in-None : goal.returns-in-None
 unfolding plus_of
-returns-in-Bad c = rw c.in-Bad.is
+returns-in-None c = rw c.in-None.is

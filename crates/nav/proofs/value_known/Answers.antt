@@ -1,4 +1,5 @@
 -- `nav::value_known` meets its contract.
+use Rattle.std.specs.Prelude.{Ok}
 use mathlib.Core.Path.{refl, sym, ap, ◌∙◌}
 use mathlib.Core.Logic.{inl, inr}
 use Prim.Native.Nat.{◌+◌}
@@ -6,7 +7,6 @@ use native.Mathlib.Omega.{arith}
 use borrow.Author.Tests.{eqb-true, eqb-false, not-false}
 use lib.Dec.{eqb}
 use mathlib.Core.Bool.{not}
-use Rattle.model.specs.declared.Read.TheVariants.{End}
 use Rattle.model.specs.Scan.{byte}
 use Rattle.model.proofs.Tests.{or_l, or_r}
 use Rattle.scan.proofs.Bytes.{inside_byte}
@@ -29,7 +29,7 @@ returns-then-c-eq-COLON c =
     inr (key_known s c.args.ends.now c.requires c.args.at c.entry-e.ensures some
     (sym (c.peek-b.ensures ∙ ap (byte s) c.spaces-i.ensures) ∙ quote)
     (sym (c.peek-c.ensures ∙ ap (byte s) c.spaces-j.ensures) ∙ c.if-c-eq-COLON.true)
-    ∙ ap (λ j. End (j + 1)) (sym c.spaces-j.ensures))
+    ∙ ap (λ j. Ok (j + 1)) (sym c.spaces-j.ensures))
 
 pub returns : goal.returns
 returns c = inl refl

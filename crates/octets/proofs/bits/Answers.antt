@@ -1,21 +1,17 @@
 -- `octets::bits` meets its contract.
-use native.Mathlib.Omega.{arith}
+use Rattle.std.proofs.Common.{arith, rules}
 use Rattle.model.specs.Whole.{whole_int}
 use Rattle.octets.proofs.Orders.{twos_minus}
 use Rattle.octets.proofs.bits.Goals as goal
 
-pub returns-then-m-eq0 : goal.returns-then-m-eq0
-unfolding whole_int
-returns-then-m-eq0 c = rw (c.in-Minus.is, c.if-m-eq0.true)
-
 pub returns-in-Plus : goal.returns-in-Plus
 unfolding whole_int
-returns-in-Plus c = rw c.in-Plus.is
+returns-in-Plus c = search rules
 
-pub returns-else-m-eq0 : goal.returns-else-m-eq0
+pub returns-in-Minus : goal.returns-in-Minus
 unfolding whole_int
-returns-else-m-eq0 c = rw c.in-Minus.is (twos_minus _ c.if-m-eq0.false (omega arith))
+returns-in-Minus c = rw c.in-Minus.is (twos_minus c.in-Minus.m c.wrapping_neg.result (omega arith) c.wrapping_neg.ensures (omega arith))
 
 pub returns-in-Other : goal.returns-in-Other
 unfolding whole_int
-returns-in-Other c = rw c.in-Other.is
+returns-in-Other c = search rules

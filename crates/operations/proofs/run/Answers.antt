@@ -27,13 +27,13 @@ put_comma-at-requires c =
     omega (arith, c.loop-g.invariant.2.short, c.loop-g.invariant.2.size, c.put_byte-at.ensures.short)
 
 pub read-call-requires : goal.read-call-requires
-read-call-requires c = record { says = c.requires.running.says; op_value = (walk_fine c.args.text.now c.in-At.is c.loop-g.invariant.2.fine).0; schema_bound = few_tables _ c.requires.accepted }
+read-call-requires c = record { says = c.requires.running.says; op_value = (walk_fine c.args.text.now c.in-Some.is c.loop-g.invariant.2.fine).0; schema_bound = few_tables _ c.requires.accepted }
 
 pub operate-d-requires : goal.operate-d-requires
 operate-d-requires c =
     let short : c.put_comma-at.result ≤ 4000000 = let v = c.loop-g.invariant.2 in omega (arith, v.short, v.size, c.put_comma-at.ensures.short, c.put_byte-at.ensures.short) in
     let v = c.loop-g.invariant in
-    let h = c.in-At.is in
+    let h = c.in-Some.is in
     let e = c.read-call.ensures in
     record {
       begun = record {
@@ -54,25 +54,25 @@ next_item-g-requires c = c.requires.running.says
 pub put_result-at-requires : goal.put_result-at-requires
 put_result-at-requires c =
     let short : c.put_comma-at.result ≤ 4000000 = let v = c.loop-g.invariant.2 in omega (arith, v.short, v.size, c.put_comma-at.ensures.short, c.put_byte-at.ensures.short) in
-    record { result_most_bound = omega (arith, short); fresh_bytes_in_bounds = omega (arith, c.requires.running.size); i_lt_most_operations = going_more c.loop-g.invariant.2 c.in-At.is }
+    record { result_most_bound = omega (arith, short); fresh_bytes_in_bounds = omega (arith, c.requires.running.size); i_lt_most_operations = going_more c.loop-g.invariant.2 c.in-Some.is }
 
 pub overflow_add-i : goal.overflow_add-i
 overflow_add-i c = omega (arith, c.loop-g.invariant.2.size)
 
 pub loop-g-smaller : goal.loop-g-smaller
 loop-g-smaller c =
-    rw c.next_item-g.ensures (walk_less c.args.text.now c.in-At.is)
+    rw c.next_item-g.ensures (walk_less c.args.text.now c.in-Some.is)
 
 pub loop-g-preserved : goal.loop-g-preserved
 loop-g-preserved c =
     let v = c.loop-g.invariant in
-    (c.operate-d.auto.rows ∙ v.0, c.put_result-at.auto.answer ∙ c.operate-d.auto.answer ∙ c.put_comma-at.auto.out ∙ v.1, going_on v.2 c.in-At.is c.requires.listed.places c.put_comma-at.ensures c.read-call.ensures c.operate-d.ensures c.operate-d.auto.rows (sym c.is_fine.ensures ∙ c.if-is_fine.true) c.put_result-at.ensures refl c.next_item-g.ensures c.may_change-pending.ensures)
+    (c.operate-d.auto.rows ∙ v.0, c.put_result-at.auto.answer ∙ c.operate-d.auto.answer ∙ c.put_comma-at.auto.out ∙ v.1, going_on v.2 c.in-Some.is c.requires.listed.places c.put_comma-at.ensures c.read-call.ensures c.operate-d.ensures c.operate-d.auto.rows (sym c.is_fine.ensures ∙ c.if-is_fine.true) c.put_result-at.ensures refl c.next_item-g.ensures c.may_change-pending.ensures)
 
 pub stop-requires : goal.stop-requires
 stop-requires c =
     let short : c.put_comma-at.result ≤ 4000000 = let v = c.loop-g.invariant.2 in omega (arith, v.short, v.size, c.put_comma-at.ensures.short, c.put_byte-at.ensures.short) in
     let v = c.loop-g.invariant.2 in
-    let h = c.in-At.is in
+    let h = c.in-Some.is in
     record {
       says = c.requires.running.says;
       g_value = rw c.next_item-g.ensures (walk_fine c.args.text.now h v.fine).1;
@@ -89,4 +89,4 @@ shape_of-answer-else-is_fine c =
 
 pub returns-else-is_fine : goal.returns-else-is_fine
 returns-else-is_fine c =
-    going_stop c.loop-g.invariant.2 c.in-At.is c.requires.listed.places c.put_comma-at.ensures c.read-call.ensures c.operate-d.ensures c.operate-d.auto.rows c.put_byte-at.ensures (sym c.is_fine.ensures ∙ c.if-is_fine.false) c.next_item-g.ensures c.stop.ensures
+    going_stop c.loop-g.invariant.2 c.in-Some.is c.requires.listed.places c.put_comma-at.ensures c.read-call.ensures c.operate-d.ensures c.operate-d.auto.rows c.put_byte-at.ensures (sym c.is_fine.ensures ∙ c.if-is_fine.false) c.next_item-g.ensures c.stop.ensures

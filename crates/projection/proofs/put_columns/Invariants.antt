@@ -1,14 +1,9 @@
 -- The loop of `projection::put_columns`.
-use mathlib.Core.Path.{◌≡◌}
-use Prim.Native.Nat.{◌+◌, ◌*◌, ◌-◌, ◌≤◌}
-use lib.ListN.{length}
+use Rattle.std.proofs.Common.{◌+◌, ◌*◌, ◌-◌, ◌≤◌}
 use Rattle.json_writer.specs.Texts.{joined}
 use Rattle.json_writer.proofs.Putting.{Due}
 use Rattle.projection.specs.Shown.{shown_from}
 use Rattle.projection.proofs.put_columns.Given as goal
 
 abbrev pub invariant-loop-c : goal.invariant-loop-c
-invariant-loop-c l = (l.c ≤ l.n) × ((length l.out ≡ length l.initial.out) × ((l.r ≤ l.at + 886 * l.c) × Due l.initial.out l.at (joined l.none (shown_from l.schema l.from l.row l.shown 0 l.n)) l.out l.r (joined l.first (shown_from l.schema l.from l.row l.shown l.c (l.n - l.c)))))
-
-abbrev pub decreases-loop-c : goal.decreases-loop-c
-decreases-loop-c l = l.n - l.c
+invariant-loop-c l = (l.r ≤ l.at + 886 * l.c) × Due l.initial.out l.at (joined l.none (shown_from l.schema l.from l.row l.shown 0 l.n)) l.out l.r (joined l.first (shown_from l.schema l.from l.row l.shown l.c (l.n - l.c)))

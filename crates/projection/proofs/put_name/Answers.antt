@@ -7,4 +7,4 @@ use Rattle.projection.proofs.Columns.{colon_is}
 use Rattle.projection.proofs.put_name.Goals as goal
 
 pub returns : goal.returns
-returns c = put_is (put_then c.put_quoted-r.ensures c.put_byte.ensures) (colon_is _ ∙ ap name_text c.name_of-name.ensures.0) (omega (arith, c.name_of-name.ensures.1))
+returns c = put_is (put_then c.put_quoted-r.ensures c.put_byte.ensures) (colon_is _ ∙ ap name_text c.name_of.ensures.0) (omega (arith, c.name_of.ensures.1))

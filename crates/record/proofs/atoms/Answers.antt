@@ -6,5 +6,5 @@ use Rattle.record.proofs.atoms.Goals as goal
 
 pub returns : goal.returns
 returns c =
-    (λ j. c.atom_at-a.ensures j ∷ c.atom_at-b.ensures j ∷ c.atom_at-c.ensures j ∷ c.atom_at-d.ensures j ∷ [])
+    (λ j. c.atom_at.ensures j ∷ c.atom_at-2.ensures j ∷ c.atom_at-3.ensures j ∷ c.atom_at-4.ensures j ∷ [])
     ∙ parts_cut c.args.bytes.now

@@ -11,10 +11,5 @@ use Rattle.record.proofs.four.Goals as goal
 pub overflow_cast-result : goal.overflow_cast-result
 overflow_cast-result c =
     let read : c.number.result ≡ value (part c.args.at 4 c.args.bytes.now) = c.number.ensures ∙ ap (λ (l : List ℕ). value (take 4 l)) (mid_rest c.args.at c.args.bytes.now) in
-    let k = c.shared_slice_known-1.given in
+    let k = c.type_inv.bytes in
     record { fits = rw (read) (part_lt c.args.at 4 c.args.bytes.now (octets c.args.bytes.now (λ i. (k i).fits))) }
-
-pub returns : goal.returns
-returns c =
-    let read : c.number.result ≡ value (part c.args.at 4 c.args.bytes.now) = c.number.ensures ∙ ap (λ (l : List ℕ). value (take 4 l)) (mid_rest c.args.at c.args.bytes.now) in
-    read

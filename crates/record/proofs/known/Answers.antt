@@ -1,12 +1,13 @@
 -- `record::known` meets its contract.
 use mathlib.Core.Path.{sym, ap, ◌∙◌}
 use mathlib.Core.Bool.{not}
+use borrow.Author.Tests.{le-ltb}
 use Rattle.record.proofs.Listings.{known_past, known_id}
 use Rattle.record.proofs.known.Goals as goal
 
-pub returns-then-tables-table : goal.returns-then-tables-table
-returns-then-tables-table c = sym (known_past _ _ _ c.if-tables-table.true)
+pub returns-else-table-tables : goal.returns-else-table-tables
+returns-else-table-tables c = le-ltb c.args.table c.args.tables c.if-table-tables.false ∙ sym (known_past _ _ _ c.if-table-tables.false)
 
-pub returns : goal.returns
-returns c =
-    ap not c.is_nil.ensures ∙ sym (known_id c.args.tables c.args.table c.args.id.now c.if-tables-table.false c.requires (λ i. (c.shared_slice_known-1.given i).fits))
+pub returns-then-table-tables : goal.returns-then-table-tables
+returns-then-table-tables c =
+    ap not c.is_nil.ensures ∙ sym (known_id c.args.tables c.args.table c.args.id.now c.if-table-tables.true c.requires (λ i. (c.type_inv.id i).fits))

@@ -20,4 +20,4 @@ returns c =
     let e2 = write_next d id xs _ _ 10 (length id) refl e1 c.put_bytes.ensures in
     e2
     ∙ ap (λ (n : ℕ). (d ++ id) ++ drop (10 + n) xs) c.requires.1
-    ∙ ap (λ (l : List ℕ). (d ++ l) ++ drop 26 xs) (id_bytes_lem id c.requires.1 (λ i. (c.shared_slice_known-1.given i).fits))
+    ∙ ap (λ (l : List ℕ). (d ++ l) ++ drop 26 xs) (id_bytes_lem id c.requires.1 (λ i. (c.type_inv.id i).fits))

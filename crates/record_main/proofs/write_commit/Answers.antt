@@ -3,7 +3,6 @@ use mathlib.Core.Path.{◌≡◌, refl, ap}
 use mathlib.Core.List.{[], ◌++◌}
 use native.Mathlib.Omega.{arith}
 use lib.ListN.{length}
-use borrow.Author.Rules.{rules}
 use Rattle.model.specs.Octets.{value}
 use Rattle.model.specs.Records.{born, column, end, numbered, encode}
 use Rattle.octets.proofs.Rests.{write_next}

@@ -1,31 +1,28 @@
 -- `references::column_names` meets its contract.
+use Rattle.std.specs.Prelude.{Option, Some}
 use mathlib.Core.Path.{◌≡◌, sym, ap, ◌∙◌}
 use mathlib.Core.List.{List}
-use mathlib.Core.Option.{Option, some}
 use Prim.Native.Nat.{ℕ, min}
 use lib.Dec.{eqb}
 use Rattle.model.specs.Base.{any}
 use Rattle.model.specs.Value.{elements}
 use Rattle.model.specs.Commit.{keys_of}
 use Rattle.inner.specs.Working.{key_in, value_in}
-use Rattle.references.specs.Links.{target_table}
 use Rattle.references.proofs.Links.{elements_few}
 use Rattle.references.proofs.column_names.Goals as goal
 
-pub returns-in-Table : goal.returns-in-Table
-unfolding target_table
-returns-in-Table c =
+pub returns-in-Some : goal.returns-in-Some
+returns-in-Some c =
     let a = c.args in
     let v = value_in a.c a.row.now in
     let p = c.atoms_in.ensures in
-    let t = c.in-Table.t in
+    let t = c.in-Some.t in
     let n : c.size.result ≡ min v.count 4 = c.size.ensures ∙ ap (λ (k : ℕ). min k 4) c.count_of.ensures in
     c.one_names.ensures
-    ∙ ap (λ (l : List (List ℕ)). any (eqb (key_in a.other.now)) (keys_of (some t) l)) (elements_few v c.atoms_in.result.now c.size.result p.0 p.1 n)
-    ∙ ap (λ (o : Option ℕ). any (eqb (key_in a.other.now)) (keys_of o (elements v))) (sym (ap target_table c.in-Table.is))
+    ∙ ap (λ (l : List (List ℕ)). any (eqb (key_in a.other.now)) (keys_of (Some t) l)) (elements_few v c.atoms_in.result.now c.size.result p.0 p.1 n)
+    ∙ ap (λ (o : Option ℕ). any (eqb (key_in a.other.now)) (keys_of o (elements v))) (sym c.in-Some.is)
 
-pub returns-in-Nothing : goal.returns-in-Nothing
-unfolding target_table
-returns-in-Nothing c =
+pub returns-in-None : goal.returns-in-None
+returns-in-None c =
     let a = c.args in
-    ap (λ (o : Option ℕ). any (eqb (key_in a.other.now)) (keys_of o (elements (value_in a.c a.row.now)))) (sym (ap target_table c.in-Nothing.is))
+    ap (λ (o : Option ℕ). any (eqb (key_in a.other.now)) (keys_of o (elements (value_in a.c a.row.now)))) (sym c.in-None.is)

@@ -1,5 +1,4 @@
 -- The loop of `references::keep_named`.
-use Prim.Native.Nat.{◌-◌, ◌≤◌}
 use Rattle.model.specs.Schema.{Schema}
 use Rattle.model.specs.Commit.{present}
 use Rattle.inner.specs.Working.{working}
@@ -7,7 +6,4 @@ use Rattle.references.proofs.Keeping.{Sofar}
 use Rattle.references.proofs.keep_named.Given as goal
 
 abbrev pub invariant-loop-k : goal.invariant-loop-k
-invariant-loop-k l = (l.k ≤ l.count) × ((s : Schema) → Sofar (present (working s l.n l.rows) l.table) l.atoms l.initial.out l.out l.k l.kept)
-
-abbrev pub decreases-loop-k : goal.decreases-loop-k
-decreases-loop-k l = l.count - l.k
+invariant-loop-k l = (s : Schema) → Sofar (present (working s l.n l.rows) l.table) l.atoms l.initial.out l.out l.k l.kept

@@ -1,28 +1,17 @@
 -- `references::picked` meets its contract.
-use Rattle.references.proofs.Links.{pick_plain, pick_strong, pick_not_weak, pick_weak, pick_not_strong}
+use Rattle.references.proofs.Links.{pick_plain, pick_some, pick_other}
 use Rattle.references.proofs.picked.Goals as goal
+use Rattle.references.proofs.picked.Goals.{else-kind-ne0-via-then-kind-ne0+else-kind-how, else-kind-ne0-via-else-kind-ne0}
 
-pub returns-then-kind-eq0 : goal.returns-then-kind-eq0
-returns-then-kind-eq0 c =
+pub returns-then-kind-how : goal.returns-then-kind-how
+returns-then-kind-how c =
     let a = c.args in
-    pick_plain a.how a.kind a.table c.if-kind-eq0.true
+    pick_some a.how a.kind a.table c.if-kind-ne0.true c.if-kind-how.true
 
-pub returns-then-how-eq1 : goal.returns-then-how-eq1
-returns-then-how-eq1 c =
+pub returns-else-kind-ne0 : goal.returns-else-kind-ne0
+returns-else-kind-ne0 c =
     let a = c.args in
-    pick_strong a.how a.kind a.table c.if-kind-eq1.true c.if-how-eq1.true
-
-pub returns-then-kind-eq1 : goal.returns-then-kind-eq1
-returns-then-kind-eq1 c =
-    let a = c.args in
-    pick_not_weak a.how a.kind a.table c.if-kind-eq1.true c.if-how-eq1.false
-
-pub returns-then-how-eq1-2 : goal.returns-then-how-eq1-2
-returns-then-how-eq1-2 c =
-    let a = c.args in
-    pick_not_strong a.how a.kind a.table c.if-kind-eq0.false c.if-kind-eq1.false c.if-how-eq1-2.true
-
-pub returns : goal.returns
-returns c =
-    let a = c.args in
-    pick_weak a.how a.kind a.table c.if-kind-eq0.false c.if-kind-eq1.false c.if-how-eq1-2.false
+    elim c.else-kind-ne0.branch [
+      | else-kind-ne0-via-then-kind-ne0+else-kind-how w ↦ pick_other a.how a.kind a.table w.if-kind-ne0.true w.if-kind-how.false
+      | else-kind-ne0-via-else-kind-ne0 w ↦ pick_plain a.how a.kind a.table w.if-kind-ne0.false
+    ]

@@ -9,7 +9,7 @@ use Rattle.model.specs.Schema.{columns_of}
 use Rattle.model.specs.Commit.{strongly}
 use Rattle.model.specs.Catalog.{packed_tables}
 use Rattle.inner.specs.Working.{key_in, table_in}
-use Rattle.references.specs.Links.{pick, target_table}
+use Rattle.references.specs.Links.{pick}
 use Rattle.references.proofs.Packs.{few_columns_lem}
 use Rattle.references.proofs.Links.{here, rest_all, rest_end, any_rest_here, any_rest_on, here_target}
 use Rattle.references.proofs.refers_to.Goals as goal
@@ -21,7 +21,7 @@ pub loop-c-init : goal.loop-c-init
 unfolding pick
 loop-c-init c =
     let a = c.args in
-    (omega arith, ap (any (eqb (key_in a.other.now))) (rest_all strongly a.schema.now a.row.now))
+    ap (any (eqb (key_in a.other.now))) (rest_all strongly a.schema.now a.row.now)
 
 pub refers-to-requires : goal.refers-to-requires
 refers-to-requires c = record { accepted = c.requires; c_in_bounds = omega (arith, c.width-w.ensures, c.loop-c-test.true) }
@@ -36,12 +36,8 @@ returns-then-column_names c =
     let table : c.table_of-table.result ≡ table_in c.args.row.now = c.table_of-table.ensures in
     let within : at < length (columns_of (packed_tables c.args.schema.now) (table_in c.args.row.now)) = omega (arith, c.loop-c-test.true, c.width-w.ensures, ap (λ (t : ℕ). length (columns_of (packed_tables c.args.schema.now) t)) table) in
     let step : any (eqb (key_in c.args.other.now)) (here (pick 1) c.args.schema.now c.args.row.now at) ≡ c.column_names.result = sym (c.column_names.ensures
-    ∙ ap (any (eqb (key_in c.args.other.now))) (here_target c.args.schema.now c.args.row.now 1 c.table_of-table.result at table (target_table c.refers-to.result) c.refers-to.ensures)) in
-    sym (c.loop-c.invariant.1 ∙ any_rest_here (pick 1) c.args.schema.now c.args.row.now c.requires (at) (within) (eqb (key_in c.args.other.now)) (step ∙ c.if-column_names.true))
-
-pub overflow_add-c : goal.overflow_add-c
-overflow_add-c c =
-    omega (arith, few_columns_lem c.args.schema.now c.requires c.table_of-table.result, c.width-w.ensures)
+    ∙ ap (any (eqb (key_in c.args.other.now))) (here_target c.args.schema.now c.args.row.now 1 c.table_of-table.result at table c.refers-to.result c.refers-to.ensures)) in
+    sym (c.loop-c.invariant ∙ any_rest_here (pick 1) c.args.schema.now c.args.row.now c.requires (at) (within) (eqb (key_in c.args.other.now)) (step ∙ c.if-column_names.true))
 
 pub loop-c-preserved : goal.loop-c-preserved
 loop-c-preserved c =
@@ -49,11 +45,11 @@ loop-c-preserved c =
     let table : c.table_of-table.result ≡ table_in c.args.row.now = c.table_of-table.ensures in
     let within : at < length (columns_of (packed_tables c.args.schema.now) (table_in c.args.row.now)) = omega (arith, c.loop-c-test.true, c.width-w.ensures, ap (λ (t : ℕ). length (columns_of (packed_tables c.args.schema.now) t)) table) in
     let step : any (eqb (key_in c.args.other.now)) (here (pick 1) c.args.schema.now c.args.row.now at) ≡ c.column_names.result = sym (c.column_names.ensures
-    ∙ ap (any (eqb (key_in c.args.other.now))) (here_target c.args.schema.now c.args.row.now 1 c.table_of-table.result at table (target_table c.refers-to.result) c.refers-to.ensures)) in
-    (omega arith, c.loop-c.invariant.1 ∙ any_rest_on (pick 1) c.args.schema.now c.args.row.now c.requires (at) (within) (eqb (key_in c.args.other.now)) (step ∙ c.if-column_names.false))
+    ∙ ap (any (eqb (key_in c.args.other.now))) (here_target c.args.schema.now c.args.row.now 1 c.table_of-table.result at table c.refers-to.result c.refers-to.ensures)) in
+    c.loop-c.invariant ∙ any_rest_on (pick 1) c.args.schema.now c.args.row.now c.requires (at) (within) (eqb (key_in c.args.other.now)) (step ∙ c.if-column_names.false)
 
 pub returns : goal.returns
 returns c =
     let l = c.loop-c in
     let w = c.width-w.ensures ∙ ap (λ (t : ℕ). length (columns_of (packed_tables c.args.schema.now) t)) c.table_of-table.ensures in
-    sym (l.invariant.1 ∙ ap (any (eqb (key_in c.args.other.now))) (rest_end (pick 1) c.args.schema.now c.args.row.now l.c (omega (arith, w, c.loop-c-test.false))))
+    sym (l.invariant ∙ ap (any (eqb (key_in c.args.other.now))) (rest_end (pick 1) c.args.schema.now c.args.row.now l.c (omega (arith, w, c.loop-c-test.false))))

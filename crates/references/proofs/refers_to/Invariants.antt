@@ -1,6 +1,5 @@
 -- The loop of `references::refers_to`.
 use mathlib.Core.Path.{◌≡◌}
-use Prim.Native.Nat.{◌-◌, ◌≤◌}
 use lib.Dec.{eqb}
 use Rattle.model.specs.Base.{any}
 use Rattle.model.specs.Commit.{strong_of}
@@ -12,7 +11,4 @@ use Rattle.references.proofs.Links.{rest_of}
 use Rattle.references.proofs.refers_to.Given as goal
 
 abbrev pub invariant-loop-c : goal.invariant-loop-c
-invariant-loop-c l = (l.c ≤ l.w) × (any (eqb (key_in l.other)) (strong_of (packed_tables l.schema) (row_from (packed_tables l.schema) l.row)) ≡ any (eqb (key_in l.other)) (rest_of (pick 1) l.schema l.row l.c))
-
-abbrev pub decreases-loop-c : goal.decreases-loop-c
-decreases-loop-c l = l.w - l.c
+invariant-loop-c l = any (eqb (key_in l.other)) (strong_of (packed_tables l.schema) (row_from (packed_tables l.schema) l.row)) ≡ any (eqb (key_in l.other)) (rest_of (pick 1) l.schema l.row l.c)

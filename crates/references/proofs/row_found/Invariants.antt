@@ -2,7 +2,7 @@
 use mathlib.Core.Path.{◌≡◌}
 use mathlib.Core.Bool.{Bool}
 use mathlib.Core.List.{List}
-use Prim.Native.Nat.{ℕ, ◌-◌, ◌≤◌}
+use Prim.Native.Nat.{ℕ}
 use Rattle.model.specs.Base.{all}
 use Rattle.model.specs.Rows.{has}
 use Rattle.model.specs.Areas.{row_from}
@@ -17,7 +17,4 @@ abbrev pub found : List (List ℕ) → ℕ → List (List (List ℕ)) → ℕ �
 found schema n rows k = has k (working (packed_tables schema) n rows)
 
 abbrev pub invariant-loop-c : goal.invariant-loop-c
-invariant-loop-c l = (l.c ≤ l.w) × (referred (packed_tables l.schema) l.how (working (packed_tables l.schema) l.n l.rows) (row_from (packed_tables l.schema) l.row) ≡ all (found l.schema l.n l.rows) (rest_of (pick l.how) l.schema l.row l.c))
-
-abbrev pub decreases-loop-c : goal.decreases-loop-c
-decreases-loop-c l = l.w - l.c
+invariant-loop-c l = referred (packed_tables l.schema) l.how (working (packed_tables l.schema) l.n l.rows) (row_from (packed_tables l.schema) l.row) ≡ all (found l.schema l.n l.rows) (rest_of (pick l.how) l.schema l.row l.c)

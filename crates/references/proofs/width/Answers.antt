@@ -17,9 +17,9 @@ pub bounds-schema-wide : goal.bounds-schema-wide
 bounds-schema-wide c =
     omega (arith, few_tables c.args.schema.now c.requires, c.table_count.ensures, c.if-table_count-table.false, c.wide.ensures)
 
-pub returns : goal.returns
-returns c =
-    let said : c.wide-2.result ≡ column_count c.args.schema.now c.args.table = c.wide-2.ensures ∙ c.width.ensures
+pub returns-else-table_count-table : goal.returns-else-table_count-table
+returns-else-table_count-table c =
+    let said : c.wide-else-table_count-table.result ≡ column_count c.args.schema.now c.args.table = c.wide-else-table_count-table.ensures ∙ c.width.ensures
     ∙ ap (λ (n : ℕ). get_or (get_or c.args.schema.now (1 + n) []) columns_offset 0) c.wide.ensures in
     let there : c.args.table < table_count c.args.schema.now = omega (arith, c.table_count.ensures, c.if-table_count-table.false) in
     omega (arith, said, width_is c.args.schema.now c.requires c.args.table (there))

@@ -9,26 +9,23 @@ pub loop-g-init : goal.loop-g-init
 loop-g-init c =
     knows_start c.args.text.now (map column_from c.args.columns.now) c.args.at c.requires.at_value c.first-g.ensures
 
-pub returns-in_default : goal.returns-in_default
-returns-in_default c =
+pub returns-in_default-c : goal.returns-in_default-c
+returns-in_default-c c =
     let a = c.args in
     let cs = map column_from a.columns.now in
-    knows_not a.text.now cs c.loop-g.invariant c.in-At.is c.column_at-c.ensures c.in_default.is
-
-pub next_member-g-requires : goal.next_member-g-requires
-next_member-g-requires c = c.requires.says
+    knows_not a.text.now cs c.loop-g.invariant c.in-Some.is c.column_at-c.ensures c.in_default-c.is
 
 pub loop-g-smaller : goal.loop-g-smaller
-loop-g-smaller c = rw c.next_member-g.ensures (pass_less c.args.text.now c.in-At.is)
+loop-g-smaller c = rw c.next_member-g.ensures (pass_less c.args.text.now c.in-Some.is)
 
 pub loop-g-preserved : goal.loop-g-preserved
 loop-g-preserved c =
     let a = c.args in
     let cs = map column_from a.columns.now in
-    knows_on a.text.now cs c.loop-g.invariant c.in-At.is c.column_at-c.ensures c.in-At-c.is c.next_member-g.ensures
+    knows_on a.text.now cs c.loop-g.invariant c.in-Some.is c.column_at-c.ensures c.in-Some-c.is c.next_member-g.ensures
 
-pub returns-in-Nothing : goal.returns-in-Nothing
-returns-in-Nothing c =
+pub returns : goal.returns
+returns c =
     let a = c.args in
     let cs = map column_from a.columns.now in
-    knows_end a.text.now cs c.loop-g.invariant c.in-Nothing.is
+    knows_end a.text.now cs c.loop-g.invariant c.in_default.is

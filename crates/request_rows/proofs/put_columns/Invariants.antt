@@ -1,8 +1,7 @@
 -- The loop of `request_rows::put_columns`.
+use Rattle.std.specs.Prelude.{Option}
 use mathlib.Core.Path.{◌≡◌}
 use mathlib.Core.List.{List}
-use mathlib.Core.Option.{Option}
-use Prim.Native.Nat.{◌-◌, ◌≤◌}
 use lib.ListN.{length}
 use Rattle.model.specs.Value.{Value}
 use Rattle.request_rows.specs.Assigned.{Template}
@@ -10,7 +9,4 @@ use Rattle.request_rows.proofs.Rows.{Assigning}
 use Rattle.request_rows.proofs.put_columns.Given as goal
 
 abbrev pub invariant-loop-c : goal.invariant-loop-c
-invariant-loop-c l = (l.c ≤ l.k) × ((os : List (Option Value)) → length os ≡ l.k → Template os l.row l.given → Assigning os l.initial.to l.c l.to)
-
-abbrev pub decreases-loop-c : goal.decreases-loop-c
-decreases-loop-c l = l.k - l.c
+invariant-loop-c l = (os : List (Option Value)) → length os ≡ l.k → Template os l.row l.given → Assigning os l.initial.to l.c l.to

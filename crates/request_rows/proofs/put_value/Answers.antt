@@ -6,10 +6,6 @@ use Rattle.model.specs.Value.{Value}
 use Rattle.request_rows.proofs.Cells.{column_put, puts_there, puts_not}
 use Rattle.request_rows.proofs.put_value.Goals as goal
 
-pub overflow_cast-n : goal.overflow_cast-n
-overflow_cast-n c =
-    omega (arith, c.requires.count_le_most_elements c.if-v.true)
-
 pub returns-then-v : goal.returns-then-v
 returns-then-v c =
     let a = c.args in

@@ -1,6 +1,4 @@
 -- The loop of `request_rows::read_columns`.
-use Prim.Native.Nat.{◌-◌, ◌≤◌}
-use lib.ListN.{length}
 use Rattle.inner.specs.Positions.{tree_at}
 use Rattle.model.specs.Members.{members_in}
 use Rattle.uuids.specs.Named.{names_at}
@@ -8,7 +6,4 @@ use Rattle.request_rows.proofs.Reading.{Reading}
 use Rattle.request_rows.proofs.read_columns.Given as goal
 
 abbrev pub invariant-loop-c : goal.invariant-loop-c
-invariant-loop-c l = (l.c ≤ length l.columns) × Reading l.insert (names_at l.text l.names) (members_in (tree_at l.text l.at)) l.columns l.initial.row l.c l.f l.row l.given
-
-abbrev pub decreases-loop-c : goal.decreases-loop-c
-decreases-loop-c l = length l.columns - l.c
+invariant-loop-c l = Reading l.insert (names_at l.text l.names) (members_in (tree_at l.text l.at)) l.columns l.initial.row l.c l.f l.row l.given

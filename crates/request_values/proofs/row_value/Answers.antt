@@ -9,14 +9,9 @@ use Rattle.model.specs.Written.{row_fault}
 use Rattle.model.proofs.Tests.{clash}
 use Rattle.uuids.specs.Named.{names_at}
 use Rattle.request_values.specs.Values.{Sorts}
-use Rattle.request_values.proofs.Judging.{first_is, row_is, fits_few}
+use Rattle.request_values.proofs.Judging.{first_is, row_is}
 use Rattle.request_values.proofs.Fits.{row_given}
 use Rattle.request_values.proofs.row_value.Goals as goal
-
-pub sort_atoms-requires : goal.sort_atoms-requires
-sort_atoms-requires c =
-    let x = c.inspect-w.result in
-    fits_few x.count x.short c.if-fits.true
 
 pub returns-then-fits : goal.returns-then-fits
 returns-then-fits c =

@@ -12,4 +12,4 @@ returns-then-n-lt2 c =
 pub returns : goal.returns
 returns c =
     let a = c.args in
-    sorts_all (base_numbered a.kind) a.n a.atoms.now c.sort-s.ensures
+    sorts_all (base_numbered a.kind) a.n a.atoms.now c.sort.ensures

@@ -1,28 +1,21 @@
 -- `row_types::atom_meets` meets its contract.
-use mathlib.Core.Path.{sym, ap, ◌∙◌}
-use native.Mathlib.Omega.{arith}
+use Rattle.std.proofs.Common.{ℕ, List, sym, ap, ◌∙◌, arith}
 use lib.IntN.{pos}
-use mathlib.Core.List.{List}
-use Prim.Native.Nat.{ℕ}
 use Rattle.model.specs.Catalog.{column_from}
 use Rattle.model.specs.Text.{chars}
 use Rattle.model.specs.Value.{in_limits}
 use Rattle.row_types.proofs.Laws.{at_integer, at_text, at_other}
 use Rattle.row_types.proofs.atom_meets.Goals as goal
 
-pub returns-then-kind-eq0 : goal.returns-then-kind-eq0
-returns-then-kind-eq0 c =
-    let a = c.args in
-    c.in_limits.ensures ∙ sym (at_integer a.entry.now a.a.now (omega (arith, c.kind-kind.ensures, c.if-kind-eq0.true)))
+pub returns-in-0 : goal.returns-in-0
+returns-in-0 c = c.in_limits.ensures ∙ sym (at_integer c.args.entry.now c.args.a.now (omega arith))
 
-pub returns-then-kind-eq2 : goal.returns-then-kind-eq2
-returns-then-kind-eq2 c =
+pub returns-in-2 : goal.returns-in-2
+returns-in-2 c =
     let a = c.args in
-    let n = c.size_of-size.ensures ∙ ap (λ (l : List ℕ). pos (chars l)) c.text_of.ensures in
-    c.in_limits-then-kind-eq2.ensures ∙ ap (in_limits (column_from a.entry.now)) n ∙ sym (at_text a.entry.now a.a.now (omega (arith, c.kind-kind.ensures, c.if-kind-eq2.true)))
+    let n = c.size_of.ensures ∙ ap (λ (l : List ℕ). pos (chars l)) c.text_of.ensures in
+    c.in_limits-in-2.ensures ∙ ap (in_limits (column_from a.entry.now)) n ∙ sym (at_text a.entry.now a.a.now (omega arith))
 
-pub returns : goal.returns
-returns c =
-    let a = c.args in
-    let k = c.kind-kind.ensures in
-    sym (at_other a.entry.now a.a.now (λ e. c.if-kind-eq0.false (k ∙ e)) (λ e. c.if-kind-eq2.false (k ∙ e)))
+pub returns-in_default : goal.returns-in_default
+returns-in_default c =
+    sym (at_other c.args.entry.now c.args.a.now (λ e. omega arith) (λ e. omega arith))

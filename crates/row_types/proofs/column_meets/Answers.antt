@@ -1,38 +1,38 @@
 -- `row_types::column_meets` meets its contract.
-use mathlib.Core.Path.{◌≡◌, sym, ◌∙◌}
-use mathlib.Core.Bool.{◌&&◌}
-use mathlib.Core.List.{List}
-use Prim.Native.Nat.{ℕ}
-use native.Mathlib.Omega.{arith}
-use lib.Dec.{leb}
-use lib.ListN.{take}
-use Rattle.model.specs.Catalog.{column_from}
-use Rattle.model.specs.Value.{Value, count_in_limits}
+use Rattle.std.proofs.Common.{◌≡◌, ℕ, List, ◌&&◌, take, leb, sym, ◌∙◌, rules, tests}
+use borrow.Author.Tests.{le-leb, lt-leb}
+use Rattle.model.specs.Value.{Value}
 use Rattle.inner.specs.Working.{value_in}
 use Rattle.row_types.specs.Met.{all_met}
 use Rattle.row_types.proofs.Laws.{met_many, met_count, met_all}
 use Rattle.row_types.proofs.column_meets.Goals as goal
+use Rattle.row_types.proofs.column_meets.Goals.{then-k-le-ELEMENTS, else-k-le-ELEMENTS}
 
-pub returns-then-k-gt-ELEMENTS : goal.returns-then-k-gt-ELEMENTS
-returns-then-k-gt-ELEMENTS c =
-    let a = c.args in
-    sym (met_many a.entry.now (value_in a.c a.row.now) (omega (arith, c.count_of-n.ensures, c.wide-k.ensures, c.if-k-gt-ELEMENTS.true)))
-
-pub returns-then-not-minimum-n : goal.returns-then-not-minimum-n
-returns-then-not-minimum-n c =
+pub returns-then-contains : goal.returns-then-contains
+returns-then-contains c =
     let cell : List ℕ = c.args.entry.now in
     let held : Value = value_in c.args.c c.args.row.now in
-    let counted : c.count_of-n.result ≡ held.count = c.count_of-n.ensures in
-    let limits : count_in_limits (column_from cell) held.count ≡ (leb c.minimum.result c.count_of-n.result && leb c.count_of-n.result c.maximum.result) = λ j. leb (sym c.minimum.ensures j) (sym counted j) && leb (sym counted j) (sym c.maximum.ensures j) in
-    sym (met_count (cell) (held) (limits ∙ c.if-not-minimum-n.true))
+    let n : c.count_of-n.result ≡ held.count = c.count_of-n.ensures in
+    let k : c.wide-k.result ≡ held.count = c.wide-k.ensures ∙ n in
+    elim c.if-k-le-ELEMENTS.branch [
+      | then-k-le-ELEMENTS w ↦
+          let few = (λ j. leb (sym k j) 4) ∙ le-leb _ _ w.if-k-le-ELEMENTS.true in
+          let within : w.contains.result ≡ (leb w.minimum.result c.count_of-n.result && leb c.count_of-n.result w.maximum.result) = search (rules, tests) in
+          let counts = (λ j. leb (sym w.minimum.ensures j) (sym n j) && leb (sym n j) (sym w.maximum.ensures j)) ∙ sym within ∙ sym w.value-is ∙ c.if-contains.true in
+          c.all_meet.ensures ∙ (λ j. all_met cell (take (k j) (c.atoms_in.ensures.0 j))) ∙ sym (met_all cell held few counts)
+      | else-k-le-ELEMENTS w ↦ cc (lt-leb _ _ w.if-k-le-ELEMENTS.false)
+    ]
 
-pub returns : goal.returns
-returns c =
+pub returns-else-contains : goal.returns-else-contains
+returns-else-contains c =
     let cell : List ℕ = c.args.entry.now in
     let held : Value = value_in c.args.c c.args.row.now in
-    let counted : c.count_of-n.result ≡ held.count = c.count_of-n.ensures in
-    let limits : count_in_limits (column_from cell) held.count ≡ (leb c.minimum.result c.count_of-n.result && leb c.count_of-n.result c.maximum.result) = λ j. leb (sym c.minimum.ensures j) (sym counted j) && leb (sym counted j) (sym c.maximum.ensures j) in
-    let n = c.wide-k.ensures ∙ counted in
-    let l = c.atoms_in.ensures.0 in
-    c.all_meet.ensures ∙ (λ j. all_met (cell) (take (n j) (l j)))
-    ∙ sym (met_all (cell) (held) (omega (arith, n, c.if-k-gt-ELEMENTS.false)) (limits ∙ c.if-not-minimum-n.false))
+    let n : c.count_of-n.result ≡ held.count = c.count_of-n.ensures in
+    let k : c.wide-k.result ≡ held.count = c.wide-k.ensures ∙ n in
+    elim c.if-k-le-ELEMENTS.branch [
+      | then-k-le-ELEMENTS w ↦
+          let within : w.contains.result ≡ (leb w.minimum.result c.count_of-n.result && leb c.count_of-n.result w.maximum.result) = search (rules, tests) in
+          let counts = (λ j. leb (sym w.minimum.ensures j) (sym n j) && leb (sym n j) (sym w.maximum.ensures j)) ∙ sym within ∙ sym w.value-is ∙ c.if-contains.false in
+          c.if-contains.false ∙ sym (met_count cell held counts)
+      | else-k-le-ELEMENTS w ↦ c.if-contains.false ∙ sym (met_many cell held ((λ j. leb (sym k j) 4) ∙ lt-leb _ _ w.if-k-le-ELEMENTS.false))
+    ]

@@ -13,4 +13,4 @@ returns c =
     let a = c.args in
     let e : 1 + 4 * a.c + 4 - (1 + 4 * a.c) ≡ 4 = omega arith in
     let r = drop (1 + 4 * a.c) a.row.now in
-    (ap (λ (n : ℕ). take n r) e, ap (λ (n : ℕ). length (take n r)) e ∙ length-take-le 4 r (omega (arith, length-drop (1 + 4 * a.c) a.row.now, c.cells-1.given)))
+    (ap (λ (n : ℕ). take n r) e, ap (λ (n : ℕ). length (take n r)) e ∙ length-take-le 4 r (omega (arith, length-drop (1 + 4 * a.c) a.row.now, c.told-row)))

@@ -1,6 +1,5 @@
 -- The loop of `rows::find_few`.
 use mathlib.Core.Path.{◌≡◌}
-use Prim.Native.Nat.{◌-◌, ◌≤◌}
 use lib.ListN.{drop}
 use Rattle.model.specs.Octets.{value}
 use Rattle.model.specs.Schema.{Schema}
@@ -9,7 +8,4 @@ use Rattle.inner.specs.Working.{working, place_from}
 use Rattle.rows.proofs.find_few.Given as goal
 
 abbrev pub invariant-loop-i : goal.invariant-loop-i
-invariant-loop-i l = (l.i ≤ l.n) × ((s : Schema) → place_from 0 (key_of l.table (value l.id)) (working s l.n l.rows) ≡ place_from l.i (key_of l.table (value l.id)) (drop l.i (working s l.n l.rows)))
-
-abbrev pub decreases-loop-i : goal.decreases-loop-i
-decreases-loop-i l = l.n - l.i
+invariant-loop-i l = (s : Schema) → place_from 0 (key_of l.table (value l.id)) (working s l.n l.rows) ≡ place_from l.i (key_of l.table (value l.id)) (drop l.i (working s l.n l.rows))

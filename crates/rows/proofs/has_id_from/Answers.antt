@@ -1,34 +1,26 @@
 -- `rows::has_id_from` meets its contract.
-use mathlib.Core.Path.{refl, sym, ◌∙◌}
-use native.Mathlib.Omega.{arith}
+use mathlib.Core.Path.{sym, ap, ◌∙◌}
+use mathlib.Core.List.{List, map}
+use Prim.Native.Nat.{ℕ, ◌-◌}
+use lib.Dec.{eqb}
+use lib.ListN.{take, drop}
+use Rattle.std.proofs.Common.{rules, tests}
+use Rattle.std.proofs.lemmas.Iterator.{YieldsList-from_slice}
+use Rattle.std.proofs.lemmas.Iterator.Search.{any_from_yields_List}
+use Rattle.std.proofs.lemmas.List.{drop-map}
 use Rattle.model.specs.Octets.{value}
-use Rattle.inner.proofs.Working.{has_id_here, has_id_on, has_id_end}
+use Rattle.model.specs.Areas.{row_from}
+use Rattle.model.specs.Rows.{has_id}
+use Rattle.inner.specs.Working.{working, id_in}
+use Rattle.std.proofs.lemmas.Slice.{between_is}
+use Rattle.rows.proofs.Search.{any_id}
 use Rattle.rows.proofs.has_id_from.Goals as goal
 
-pub loop-i-init : goal.loop-i-init
-loop-i-init c = (omega arith, λ s. refl)
-
-pub offset_bounds-rows-i : goal.offset_bounds-rows-i
-offset_bounds-rows-i c = omega (arith, c.well_formed)
-
-pub returns-then-has_this_id : goal.returns-then-has_this_id
-returns-then-has_this_id c =
-    λ s.
-    let a = c.args in
-    let l = c.loop-i in
-    sym (l.invariant.1 s ∙ has_id_here s a.rows.now a.n c.requires.1 (value a.id.now) l.i (omega arith) (sym c.has_this_id.ensures ∙ c.if-has_this_id.true))
-
-pub loop-i-preserved : goal.loop-i-preserved
-loop-i-preserved c =
-    let a = c.args in
-    let l = c.loop-i in
-    let h = c.requires.1 in
-    let t = c.loop-i-test.true in
-    (omega arith, λ s. l.invariant.1 s ∙ has_id_on s a.rows.now a.n h (value a.id.now) l.i t (sym c.has_this_id.ensures ∙ c.if-has_this_id.false))
-
 pub returns : goal.returns
+unfolding working
 returns c =
     λ s.
     let a = c.args in
-    let l = c.loop-i in
-    sym (l.invariant.1 s ∙ has_id_end s a.rows.now a.n c.requires.1 (value a.id.now) l.i (omega arith))
+    any_from_yields_List (λ (r : List (List ℕ)). eqb (value a.id.now) (id_in r)) _ _ _ c.any.ensures.ran (YieldsList-from_slice (take (a.n - a.from) (drop a.from a.rows.now)) cc) (λ x b q k. search (rules, tests))
+    ∙ any_id s (value a.id.now) (take (a.n - a.from) (drop a.from a.rows.now))
+    ∙ sym (ap (has_id (value a.id.now)) (drop-map (row_from s) a.from (take a.n a.rows.now) ∙ sym (ap (map (row_from s)) (between_is a.rows.now a.from a.n))))

@@ -1,34 +1,26 @@
 -- `rows::slot_of` meets its contract.
-use mathlib.Core.Path.{sym, ◌∙◌}
+use mathlib.Core.Path.{◌≡◌, refl, sym, ap, ◌∙◌}
+use mathlib.Core.Bool.{true, false}
+use mathlib.Core.List.{List, map}
+use Prim.Native.Nat.{ℕ}
 use native.Mathlib.Omega.{arith}
-use Rattle.inner.specs.Working.{key_in}
-use Rattle.inner.proofs.Working.{slot_here, slot_on, slot_end}
+use lib.Dec.{ltb}
+use lib.ListN.{take}
+use lib.Seq.{length-take-le}
+use Rattle.std.proofs.Common.{rules, tests, unwrap_or}
+use Rattle.std.proofs.lemmas.Iterator.{YieldsList-from_slice, IsFirst-from_position, index_from_first}
+use Rattle.model.specs.Areas.{row_from}
+use Rattle.inner.specs.Working.{working, key_in, slot}
+use Rattle.rows.proofs.Search.{slot_hit, slot_miss}
 use Rattle.rows.proofs.slot_of.Goals as goal
 
-pub loop-i-init : goal.loop-i-init
-loop-i-init c = (omega arith, λ s. omega arith)
-
-pub offset_bounds-rows-i : goal.offset_bounds-rows-i
-offset_bounds-rows-i c = omega (arith, c.well_formed)
-
-pub returns-then-less : goal.returns-then-less
-returns-then-less c =
+pub returns-clause-value : goal.returns-clause-value
+unfolding working
+returns-clause-value c =
+    λ s.
     let a = c.args in
-    let l = c.loop-i in
-    let h = c.requires in
-    let t = c.loop-i-test.true in
-    record { value = λ s. omega (arith, l.invariant.1 s, slot_here s a.rows.now a.n h (key_in a.row.now) l.i t (sym c.less.ensures ∙ c.if-less.true)); upper_bound = omega arith }
-
-pub loop-i-preserved : goal.loop-i-preserved
-loop-i-preserved c =
-    let a = c.args in
-    let l = c.loop-i in
-    let h = c.requires in
-    let t = c.loop-i-test.true in
-    (omega arith, λ s. omega (arith, l.invariant.1 s, slot_on s a.rows.now a.n h (key_in a.row.now) l.i t (sym c.less.ensures ∙ c.if-less.false)))
-
-pub returns : goal.returns
-returns c =
-    let a = c.args in
-    let l = c.loop-i in
-    record { value = λ s. omega (arith, l.invariant.1 s, slot_end s a.rows.now a.n c.requires (key_in a.row.now) l.i (omega arith)); upper_bound = omega arith }
+    let k = key_in a.row.now in
+    let l = take a.n a.rows.now in
+    let first = IsFirst-from_position _ _ c.position.result (λ (r : List (List ℕ)). ltb k (key_in r) ≡ true) (λ (r : List (List ℕ)). ltb k (key_in r) ≡ false) c.position.ensures.ran (YieldsList-from_slice l cc) (λ x q k. search (rules, tests)) (λ x q k. search (rules, tests)) in
+    let e = index_from_first (λ (m : List (List (List ℕ))). slot k (map (row_from s) m)) (λ (r : List (List ℕ)). ltb k (key_in r) ≡ true) (λ (r : List (List ℕ)). ltb k (key_in r) ≡ false) refl (slot_hit s k) (slot_miss s k) l c.position.result first in
+    c.unwrap_or.ensures ∙ sym (e ∙ ap (unwrap_or c.position.result) (length-take-le a.n a.rows.now (omega arith)))

@@ -1,12 +1,10 @@
 -- The loop of `scan::body`.
-use mathlib.Core.Path.{◌≡◌}
-use Rattle.model.specs.Scan.{run}
-use Rattle.model.specs.Strings.{char_turn}
-use Prim.Native.Nat.{◌≤◌, ◌-◌}
+use Rattle.std.proofs.Common.{◌≡◌, ◌-◌, length}
+use Rattle.model.specs.Strings.{body_at}
 use Rattle.scan.proofs.body.Given as goal
 
-abbrev pub invariant-loop-k : goal.invariant-loop-k
-invariant-loop-k l = (l.k ≤ l.k-end) × ((run (char_turn l.text) l.k-end l.at).read ≡ (run (char_turn l.text) (l.k-end - l.k) l.i).read)
+abbrev pub invariant-loop-e : goal.invariant-loop-e
+invariant-loop-e l = (body_at l.text l.at).read ≡ (body_at l.text l.i).read
 
-abbrev pub decreases-loop-k : goal.decreases-loop-k
-decreases-loop-k l = l.k-end - l.k
+abbrev pub decreases-loop-e : goal.decreases-loop-e
+decreases-loop-e l = length l.text - l.i

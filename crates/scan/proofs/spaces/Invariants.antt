@@ -1,11 +1,6 @@
--- The loop of `scan::spaces`.
-use Prim.Native.Nat.{◌≤◌, ◌-◌}
-use mathlib.Core.Path.{◌≡◌}
-use Rattle.model.specs.Scan.{passing, is_space}
+-- The class of the bytes that `scan::spaces` passes.
+use Rattle.model.specs.Scan.{is_space}
 use Rattle.scan.proofs.spaces.Given as goal
 
-abbrev pub invariant-loop-k : goal.invariant-loop-k
-invariant-loop-k l = (l.k ≤ l.k-end) × (passing is_space l.text l.k-end l.at ≡ passing is_space l.text (l.k-end - l.k) l.i)
-
-abbrev pub decreases-loop-k : goal.decreases-loop-k
-decreases-loop-k l = l.k-end - l.k
+abbrev pub ghost-passing : goal.ghost-passing
+ghost-passing a = is_space

@@ -11,22 +11,17 @@ pub fill-requires : goal.fill-requires
 unfolding is_read
 fill-requires c =
     let s = c.args.text.now in
-    let end = ap is_read (sym c.document-r.ensures.value ∙ c.in-End.is) in
+    let end = ap is_read (sym c.document-r.ensures.value ∙ c.in-Ok.is) in
     record { says = c.document-r.ensures.says; text_value = read_well s c.if-text-gt-SCHEMA_TEXT.false end; text_len_bound = c.if-text-gt-SCHEMA_TEXT.false; cells_value = refl }
 
-pub returns-in-End : goal.returns-in-End
+pub returns-in-Ok : goal.returns-in-Ok
 unfolding is_read
-returns-in-End c =
+returns-in-Ok c =
     let s = c.args.text.now in
-    let end = ap is_read (sym c.document-r.ensures.value ∙ c.in-End.is) in
+    let end = ap is_read (sym c.document-r.ensures.value ∙ c.in-Ok.is) in
     read_good s c.if-text-gt-SCHEMA_TEXT.false end c.fill.auto.cells c.fill.ensures
 
-pub returns-in-Stop : goal.returns-in-Stop
+pub returns-in-Err : goal.returns-in-Err
 unfolding is_read
-returns-in-Stop c =
-    read_bad c.args.text.now c.if-text-gt-SCHEMA_TEXT.false (ap is_read (sym c.document-r.ensures.value ∙ c.in-Stop.is))
-
-pub returns-in-Deep : goal.returns-in-Deep
-unfolding is_read
-returns-in-Deep c =
-    read_bad c.args.text.now c.if-text-gt-SCHEMA_TEXT.false (ap is_read (sym c.document-r.ensures.value ∙ c.in-Deep.is))
+returns-in-Err c =
+    read_bad c.args.text.now c.if-text-gt-SCHEMA_TEXT.false (ap is_read (sym c.document-r.ensures.value ∙ c.in-Err.is))

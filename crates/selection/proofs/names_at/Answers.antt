@@ -14,7 +14,7 @@ is_fair-ok-requires c = c.requires.columns_len_bound
 pub returns-then-not-ok : goal.returns-then-not-ok
 returns-then-not-ok c =
     let a = c.args in
-    naming_not a.text.now a.columns.now c.loop-g.invariant c.in-At.is (c.is_fair-ok.ensures c.loop-g.invariant.show c.loop-g.invariant.flagged) (c.if-not-ok.true)
+    naming_not a.text.now a.columns.now c.loop-g.invariant c.in-Some.is (c.is_fair-ok.ensures c.loop-g.invariant.show c.loop-g.invariant.flagged) (c.if-not-ok.true)
 
 pub with_name-more-requires : goal.with_name-more-requires
 with_name-more-requires c = c.requires.columns_len_bound
@@ -24,15 +24,15 @@ next_item-g-requires c = c.requires.says
 
 pub loop-g-smaller : goal.loop-g-smaller
 loop-g-smaller c =
-    rw c.next_item-g.ensures (walk_less c.args.text.now c.in-At.is)
+    rw c.next_item-g.ensures (walk_less c.args.text.now c.in-Some.is)
 
 pub loop-g-preserved : goal.loop-g-preserved
 loop-g-preserved c =
     let a = c.args in
     let v = c.loop-g.invariant in
-    rw c.next_item-g.ensures (naming_on a.text.now a.columns.now v c.in-At.is (c.is_fair-ok.ensures v.show v.flagged) (c.if-not-ok.false) (c.with_name-more.ensures v.show v.flagged))
+    rw c.next_item-g.ensures (naming_on a.text.now a.columns.now v c.in-Some.is (c.is_fair-ok.ensures v.show v.flagged) (c.if-not-ok.false) (c.with_name-more.ensures v.show v.flagged))
 
-pub returns-in-Nothing : goal.returns-in-Nothing
-returns-in-Nothing c =
+pub returns : goal.returns
+returns c =
     let a = c.args in
-    naming_end a.text.now a.columns.now c.loop-g.invariant c.in-Nothing.is
+    naming_end a.text.now a.columns.now c.loop-g.invariant c.in_default.is

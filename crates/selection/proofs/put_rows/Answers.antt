@@ -12,9 +12,6 @@ use Rattle.selection.specs.Picks.{picked_from}
 use Rattle.selection.proofs.Picks.{rows_next, rows_end}
 use Rattle.selection.proofs.put_rows.Goals as goal
 
-pub columns_of-columns-requires : goal.columns_of-columns-requires
-columns_of-columns-requires c = (c.requires.rows_most_bound.1, c.requires.rows_most_bound.2)
-
 pub loop-i-init : goal.loop-i-init
 loop-i-init c =
     let a = c.args in
@@ -32,40 +29,10 @@ loop-i-init c =
       ),
     )
 
-pub repeats-again-requires : goal.repeats-again-requires
-repeats-again-requires c =
-    let t = c.loop-i-test.true in
-    (t, omega (arith, t, c.requires.rows_len_bound), c.columns_of-columns.ensures.1)
-
-pub bounds-marks-i : goal.bounds-marks-i
-bounds-marks-i c =
-    omega (arith, c.requires.rows_len_bound, c.loop-i-test.true)
-
-pub offset_bounds-rows-i : goal.offset_bounds-rows-i
-offset_bounds-rows-i c =
-    omega (arith, c.requires.rows_len_bound, c.loop-i-test.true)
-
-pub bounds-rows-i : goal.bounds-rows-i
-bounds-rows-i c = c.loop-i-test.true
-
-pub put_picked-r-requires : goal.put_picked-r-requires
-put_picked-r-requires c =
-    (omega (arith, c.requires.rows_most_bound.0, c.requires.rows_len_bound, c.loop-i-test.true, c.loop-i.invariant.1.1.0), c.requires.rows_most_bound.1, c.requires.rows_most_bound.2)
-
-pub overflow_add-i : goal.overflow_add-i
-overflow_add-i c =
-    omega (arith, c.requires.rows_len_bound, c.loop-i-test.true)
-
-pub loop-i-smaller : goal.loop-i-smaller
-loop-i-smaller c = omega (arith, c.loop-i-test.true)
-
 pub loop-i-preserved : goal.loop-i-preserved
 loop-i-preserved c =
     let a = c.args in
     (omega (arith, c.loop-i-test.true), (c.put_picked-r.auto.out ∙ c.loop-i.invariant.1.0, (omega (arith, c.put_picked-r.ensures.short, c.loop-i.invariant.1.1.0), due_next (due_is c.loop-i.invariant.1.1.1 (rows_next a.schema.now a.table a.flags.now (length c.columns_of-columns.result.now) a.marks.now a.rows.now c.loop-i.first c.loop-i.i (length a.rows.now) c.loop-i-test.true c.repeats-again.ensures)) c.put_picked-r.ensures)))
-
-pub shape_of-out : goal.shape_of-out
-shape_of-out c = c.loop-i.invariant.1.0
 
 pub returns : goal.returns
 returns c =

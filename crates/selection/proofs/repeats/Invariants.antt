@@ -8,6 +8,3 @@ use Rattle.selection.proofs.repeats.Given as goal
 
 abbrev pub invariant-loop-j : goal.invariant-loop-j
 invariant-loop-j l = (l.j ≤ l.i) × (repeated l.flags l.k l.marks l.rows (get_or l.rows l.i []) l.i ≡ repeated l.flags l.k l.marks l.rows (get_or l.rows l.i []) l.j)
-
-abbrev pub decreases-loop-j : goal.decreases-loop-j
-decreases-loop-j l = l.j

@@ -13,27 +13,18 @@ loop-c-init c =
     let e : a.k ≡ a.k - 0 = omega arith in
     (omega arith, ap (same_from a.flags.now a.x.now a.y.now 0) e)
 
-pub overflow_add-c : goal.overflow_add-c
-overflow_add-c c = omega (arith, c.requires)
-
-pub bounds-flags-c : goal.bounds-flags-c
-bounds-flags-c c = omega (arith, c.requires)
-
-pub differ-d-requires : goal.differ-d-requires
-differ-d-requires c = omega (arith, c.requires)
-
-pub returns-then-d : goal.returns-then-d
-returns-then-d c =
+pub returns-then-differ : goal.returns-then-differ
+returns-then-differ c =
     let a = c.args in
-    sym (c.loop-c.invariant.1 ∙ columns_step a.flags.now a.x.now a.y.now c.loop-c.c a.k c.loop-c-test.true c.differ-d.ensures
-    ∙ ap (λ (b : Bool). not b && same_from a.flags.now a.x.now a.y.now (c.loop-c.c + 1) (a.k - (c.loop-c.c + 1))) c.if-d.true)
+    sym (c.loop-c.invariant.1 ∙ columns_step a.flags.now a.x.now a.y.now c.loop-c.c a.k c.loop-c-test.true c.differ.ensures
+    ∙ ap (λ (b : Bool). not b && same_from a.flags.now a.x.now a.y.now (c.loop-c.c + 1) (a.k - (c.loop-c.c + 1))) c.if-differ.true)
 
 pub loop-c-preserved : goal.loop-c-preserved
 loop-c-preserved c =
     let a = c.args in (
       omega arith,
-      c.loop-c.invariant.1 ∙ columns_step a.flags.now a.x.now a.y.now c.loop-c.c a.k c.loop-c-test.true c.differ-d.ensures
-          ∙ ap (λ (b : Bool). not b && same_from a.flags.now a.x.now a.y.now (c.loop-c.c + 1) (a.k - (c.loop-c.c + 1))) c.if-d.false,
+      c.loop-c.invariant.1 ∙ columns_step a.flags.now a.x.now a.y.now c.loop-c.c a.k c.loop-c-test.true c.differ.ensures
+          ∙ ap (λ (b : Bool). not b && same_from a.flags.now a.x.now a.y.now (c.loop-c.c + 1) (a.k - (c.loop-c.c + 1))) c.if-differ.false,
     )
 
 pub returns : goal.returns

@@ -6,6 +6,3 @@ use Rattle.selection.proofs.same_columns.Given as goal
 
 abbrev pub invariant-loop-c : goal.invariant-loop-c
 invariant-loop-c l = (l.c ≤ l.k) × (same_from l.flags l.x l.y 0 l.k ≡ same_from l.flags l.x l.y l.c (l.k - l.c))
-
-abbrev pub decreases-loop-c : goal.decreases-loop-c
-decreases-loop-c l = l.k - l.c

@@ -13,32 +13,6 @@ loop-c-init c =
     let a = c.args in
     (omega arith, adding_none (tree_at a.text.now a.at) a.columns.now a.flags c.well_formed.1.1.1.0.1.0.1 c.is_word-id.ensures)
 
-pub offset_bounds-columns-c : goal.offset_bounds-columns-c
-offset_bounds-columns-c c = omega (arith, c.loop-c-test.true, c.requires)
-
-pub overflow_add-more : goal.overflow_add-more
-overflow_add-more c =
-    omega (arith, c.loop-c-test.true, c.requires)
-
-pub bounds-flags-c : goal.bounds-flags-c
-bounds-flags-c c =
-    omega (arith, c.loop-c-test.true, c.requires)
-
-pub overflow_add-more-in-loop-c : goal.overflow_add-more-in-loop-c
-overflow_add-more-in-loop-c c =
-    omega (arith, c.loop-c-test.true, c.requires)
-
-pub bounds-more-c : goal.bounds-more-c
-bounds-more-c c =
-    omega (arith, c.loop-c-test.true, c.requires)
-
-pub overflow_add-c : goal.overflow_add-c
-overflow_add-c c =
-    omega (arith, c.loop-c-test.true, c.requires)
-
-pub loop-c-smaller : goal.loop-c-smaller
-loop-c-smaller c = omega (arith, c.loop-c-test.true)
-
 pub loop-c-preserved : goal.loop-c-preserved
 loop-c-preserved c =
     let a = c.args in

@@ -1,5 +1,5 @@
 -- The loop of `selection::with_name`.
-use Prim.Native.Nat.{◌-◌, ◌≤◌}
+use Prim.Native.Nat.{◌≤◌}
 use lib.ListN.{length}
 use Rattle.inner.specs.Positions.{tree_at}
 use Rattle.selection.proofs.Names.{Adding}
@@ -7,6 +7,3 @@ use Rattle.selection.proofs.with_name.Given as goal
 
 abbrev pub invariant-loop-c : goal.invariant-loop-c
 invariant-loop-c l = (l.c ≤ length l.columns) × Adding (tree_at l.text l.at) l.columns l.flags l.c l.more
-
-abbrev pub decreases-loop-c : goal.decreases-loop-c
-decreases-loop-c l = length l.columns - l.c

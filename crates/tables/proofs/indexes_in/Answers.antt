@@ -15,9 +15,6 @@ returns-then-p-eq0 c =
     let s = c.args.text.now in
     indexes_none s (members_in (tree_at s c.args.q)) (map entry_name c.args.columns.now) c.args.cell.now c.if-p-eq0.true
 
-pub fits-ok-requires : goal.fits-ok-requires
-fits-ok-requires c = record { says = c.requires.says; at_value = c.requires.p_value (ne_eqb c.args.p 0 c.if-p-eq0.false); columns_value = c.requires.q_value; columns_value_2 = c.requires.q_value_2 }
-
 pub put-requires : goal.put-requires
 put-requires c =
     let s = c.args.text.now in

@@ -1,5 +1,5 @@
 -- `tables::read_table` meets its contract.
-use mathlib.Core.Path.{◌≡◌, refl, sym, ap, subst, ◌∙◌}
+use mathlib.Core.Path.{◌≡◌, refl, ap, subst, ◌∙◌}
 use mathlib.Core.List.{List, map}
 use mathlib.Core.Bool.{not}
 use Prim.Native.Nat.{ℕ}
@@ -30,20 +30,6 @@ unfolding words_of words_from
 returns-then-n-gt-COLUMNS c =
     let s = c.args.text.now in
     table_none s (map entry_name c.args.tables.now) (tree_at s c.args.at) c.fields-f.result c.fields-f.ensures c.columns_in-n.ensures c.if-n-gt-COLUMNS.true _ _
-
-pub slice_bounds-indexes_in-end : goal.slice_bounds-indexes_in-end
-slice_bounds-indexes_in-end c =
-    let k = c.columns_in-n.auto.cells in
-    let l = c.if-n-gt-COLUMNS.false in
-    let p = c.requires.most_columns_in_bounds in
-    omega (arith, k, l, p)
-
-pub slice_bounds-indexes_in-end-2 : goal.slice_bounds-indexes_in-end-2
-slice_bounds-indexes_in-end-2 c =
-    let k = c.columns_in-n.auto.cells in
-    let l = c.if-n-gt-COLUMNS.false in
-    let p = c.requires.most_columns_in_bounds in
-    sym (length-take-le c.columns_in-n.result c.columns_in-n.new.cells (omega (arith, k, l, p)))
 
 pub indexes_in-b-requires : goal.indexes_in-b-requires
 unfolding words_of words_from

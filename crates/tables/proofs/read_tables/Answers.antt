@@ -1,9 +1,7 @@
 -- `tables::read_tables` meets its contract.
 use Prim.Native.Nat.{◌≤◌}
-use mathlib.Core.Path.{sym}
 use native.Mathlib.Omega.{arith}
 use lib.ListN.{length}
-use lib.Seq.{length-take-le}
 use Rattle.inner.specs.Positions.{tree_at}
 use Rattle.tables.proofs.All.{too_many, heads_are, all_good, all_bad}
 use Rattle.tables.proofs.read_tables.Goals as goal
@@ -13,32 +11,26 @@ returns-then-n-gt-TABLES c =
     let s = c.args.text.now in
     too_many s (tree_at s c.args.at) c.args.cells.now c.collect-n.ensures c.if-n-gt-TABLES.true
 
-pub slice_bounds-read_each-end-2 : goal.slice_bounds-read_each-end-2
-slice_bounds-read_each-end-2 c =
-    let z = c.name_cells-heads.ensures.0 in
-    let l = c.if-n-gt-TABLES.false in
-    sym (length-take-le c.collect-n.result c.name_cells-heads.result (omega (arith, z, l)))
-
-pub read_each-ok-requires : goal.read_each-ok-requires
-read_each-ok-requires c =
+pub read_each-requires : goal.read_each-requires
+read_each-requires c =
     let s = c.args.text.now in
     let l = c.if-n-gt-TABLES.false in
     let k = c.collect-n.auto.places in
     let room : c.collect-n.result ≤ length c.collect-n.new.places = omega (arith, k, l) in
     record { says = c.requires.says; heads = heads_are s (tree_at s c.args.at) c.args.cells.now c.collect-n.ensures l room c.name_cells-heads.result c.name_cells-heads.ensures.0 c.name_cells-heads.ensures.1; cells_len = c.requires.cells_len }
 
-pub returns-then-ok : goal.returns-then-ok
-returns-then-ok c =
+pub returns-then-read_each : goal.returns-then-read_each
+returns-then-read_each c =
     let s = c.args.text.now in
     let l = c.if-n-gt-TABLES.false in
     let k = c.collect-n.auto.places in
     let room : c.collect-n.result ≤ length c.collect-n.new.places = omega (arith, k, l) in
-    all_good s (tree_at s c.args.at) c.args.cells.now c.collect-n.ensures l room c.name_cells-heads.result c.name_cells-heads.ensures.0 c.name_cells-heads.ensures.1 c.read_each-ok.ensures c.if-ok.true
+    all_good s (tree_at s c.args.at) c.args.cells.now c.collect-n.ensures l room c.name_cells-heads.result c.name_cells-heads.ensures.0 c.name_cells-heads.ensures.1 c.read_each.ensures c.if-read_each.true
 
-pub returns : goal.returns
-returns c =
+pub returns-else-read_each : goal.returns-else-read_each
+returns-else-read_each c =
     let s = c.args.text.now in
     let l = c.if-n-gt-TABLES.false in
     let k = c.collect-n.auto.places in
     let room : c.collect-n.result ≤ length c.collect-n.new.places = omega (arith, k, l) in
-    all_bad s (tree_at s c.args.at) c.args.cells.now c.collect-n.ensures l room c.name_cells-heads.result c.name_cells-heads.ensures.0 c.name_cells-heads.ensures.1 c.read_each-ok.ensures c.if-ok.false
+    all_bad s (tree_at s c.args.at) c.args.cells.now c.collect-n.ensures l room c.name_cells-heads.result c.name_cells-heads.ensures.0 c.name_cells-heads.ensures.1 c.read_each.ensures c.if-read_each.false

@@ -22,31 +22,31 @@ loop-x-init c =
 
 pub counted-n-requires : goal.counted-n-requires
 counted-n-requires c =
-    omega (arith, c.loop-x.invariant.1, bytes_less c.args.text.now c.in-Byte.is)
+    omega (arith, c.loop-x.invariant.1, bytes_less c.args.text.now c.in-Some.is)
 
-pub next_byte-x-requires-in-Byte : goal.next_byte-x-requires-in-Byte
-next_byte-x-requires-in-Byte c =
-    going_on c.args.text.now c.in-Byte.is c.loop-x.invariant.2
+pub next_byte-x-requires-in-Some : goal.next_byte-x-requires-in-Some
+next_byte-x-requires-in-Some c =
+    going_on c.args.text.now c.in-Some.is c.loop-x.invariant.2
 
 pub loop-x-smaller : goal.loop-x-smaller
 loop-x-smaller c =
-    rw c.next_byte-x-in-Byte.ensures.bytes (bytes_less c.args.text.now c.in-Byte.is)
+    rw c.next_byte-x-in-Some.ensures.bytes (bytes_less c.args.text.now c.in-Some.is)
 
 pub loop-x-preserved : goal.loop-x-preserved
 loop-x-preserved c =
     let s = c.args.text.now in
-    let e = c.in-Byte in
+    let e = c.in-Some in
     let n = c.loop-x.n in
     let b = begins e.b in
     let r : c.counted-n.result ≡ cond b (1 + n) n = c.counted-n.ensures ∙ ap (λ q. cond q (1 + n) n) c.begins_here.ensures in
-    let x = c.next_byte-x-in-Byte.ensures in (
+    let x = c.next_byte-x-in-Some.ensures in (
       rw x.bytes (ap (λ (m : ℕ). m + chars (drop e.a (body_from s e.i))) r ∙ chars_on s e.is n ∙ c.loop-x.invariant.0),
       rw x.bytes (omega (arith, r, counted_less b n, bytes_less s e.is, c.loop-x.invariant.1)),
       x.going,
     )
 
-pub returns-in-End : goal.returns-in-End
-returns-in-End c =
+pub returns : goal.returns
+returns c =
     let s = c.args.text.now in
-    let z : c.loop-x.n ≡ c.loop-x.n + chars (bytes_of s c.loop-x.x) = omega (arith, chars_end s c.in-End.is) in
+    let z : c.loop-x.n ≡ c.loop-x.n + chars (bytes_of s c.loop-x.x) = omega (arith, chars_end s c.in_default.is) in
     z ∙ c.loop-x.invariant.0

@@ -1,4 +1,6 @@
 -- `text::body_is` meets its contract.
+use Rattle.std.specs.declared.ops.ControlFlow.TheVariants.{Continue}
+use Rattle.std.specs.Prelude.{Some, None}
 use Rattle.scan.proofs.Items.{turn_tree, done_tree, spent_tree}
 use Rattle.scan.proofs.Past.{PastNext, char_past}
 use Rattle.scan.proofs.Bytes.{inside_byte}
@@ -11,8 +13,6 @@ use mathlib.Core.Logic.{⊎_elim}
 use Prim.Native.Nat.{suc, ◌+◌}
 use native.Mathlib.Omega.{arith}
 use native.Mathlib.Nat.{sub-zero}
-use Rattle.model.specs.declared.Next.TheVariants.{More}
-use Rattle.model.specs.declared.Found.TheVariants.{At, Nothing}
 use Rattle.model.specs.Scan.{byte}
 use Rattle.model.specs.Strings.{char_turn, char_adds, char_bytes}
 use Rattle.text.proofs.body_is.Goals as goal
@@ -28,7 +28,7 @@ returns-then-b-c c =
     let i = c.loop-k.i in
     let plain = sym (c.is_plain-plain.ensures ∙ ap is_plain c.peek-b.ensures) ∙ c.if-plain.true in
     let q = plain_next s i (byte s i) plain in
-    let m : matched (char_bytes s i (i + 1) (byte s i)) a.word.now c.loop-k.o ≡ Nothing = rw (plain_bytes s i plain) (matched_other _ _ _ (λ h. c.if-b-c.true (c.peek-b.ensures ∙ h ∙ sym c.peek-c.ensures))) in
+    let m : matched (char_bytes s i (i + 1) (byte s i)) a.word.now c.loop-k.o ≡ None = rw (plain_bytes s i plain) (matched_other _ _ _ (λ h. c.if-b-c.true (c.peek-b.ensures ∙ h ∙ sym c.peek-c.ensures))) in
     sym (c.loop-k.invariant.2 ∙ rw (turn_tree (char_turn s) _ _ _ c.loop-k-test.true q, q) (eq_matched (char_bytes s i _ (byte s i)) _ a.word.now c.loop-k.o ∙ ap (going_on _ a.word.now) m))
 
 pub overflow_add-o : goal.overflow_add-o
@@ -54,22 +54,22 @@ returns-then-b-eq-QUOTE c =
 pub char_is-m-requires : goal.char_is-m-requires
 char_is-m-requires c =
     let s = c.args.text.now in
-    (subst (PastNext s (suc c.loop-k.i)) (sym c.character-n.ensures ∙ c.in-More.is) (char_past s c.loop-k.i)).1
+    (subst (PastNext s (suc c.loop-k.i)) (sym c.character-n.ensures ∙ c.in-Continue.is) (char_past s c.loop-k.i)).1
 
-pub returns-in-Nothing : goal.returns-in-Nothing
+pub returns-in-None : goal.returns-in-None
 unfolding char_adds going_on
-returns-in-Nothing c =
+returns-in-None c =
     let a = c.args in
     let s = a.text.now in
-    let q = sym c.character-n.ensures ∙ c.in-More.is in
-    sym (c.loop-k.invariant.2 ∙ rw (turn_tree (char_turn s) _ _ _ c.loop-k-test.true q, q) (eq_matched (char_bytes s c.loop-k.i _ (byte s c.loop-k.i)) _ a.word.now c.loop-k.o ∙ ap (going_on _ a.word.now) (sym c.char_is-m.ensures ∙ c.in-Nothing.is)))
+    let q = sym c.character-n.ensures ∙ c.in-Continue.is in
+    sym (c.loop-k.invariant.2 ∙ rw (turn_tree (char_turn s) _ _ _ c.loop-k-test.true q, q) (eq_matched (char_bytes s c.loop-k.i _ (byte s c.loop-k.i)) _ a.word.now c.loop-k.o ∙ ap (going_on _ a.word.now) (sym c.char_is-m.ensures ∙ c.in-None.is)))
 
-pub returns-in-Done : goal.returns-in-Done
+pub returns-in-Break : goal.returns-in-Break
 unfolding char_adds
-returns-in-Done c =
+returns-in-Break c =
     let a = c.args in
     let s = a.text.now in
-    let q = sym c.character-n.ensures ∙ c.in-Done.is in
+    let q = sym c.character-n.ensures ∙ c.in-Break.is in
     sym (c.loop-k.invariant.2 ∙ rw (done_tree (char_turn s) _ _ _ c.loop-k-test.true q, q) (eq_rest a.word.now c.loop-k.o c.loop-k.invariant.1))
 
 pub loop-k-preserved : goal.loop-k-preserved
@@ -80,13 +80,13 @@ loop-k-preserved c =
     let i = c.loop-k.i in
     let bs = char_bytes s i c.if-plain.i (byte s i) in
     let is = c.is_plain-plain.ensures ∙ ap is_plain c.peek-b.ensures in
-    let on : (char_turn s i).next ≡ More c.if-plain.i = ⊎_elim
-    (λ w. plain_next s i (byte s i) (sym is ∙ w.if-plain.true) ∙ ap More (sym w.i-is))
-    (λ w. sym w.character-n.ensures ∙ w.in-More.is ∙ ap More (sym w.i-is))
+    let on : (char_turn s i).next ≡ Continue c.if-plain.i = ⊎_elim
+    (λ w. plain_next s i (byte s i) (sym is ∙ w.if-plain.true) ∙ ap Continue (sym w.i-is))
+    (λ w. sym w.character-n.ensures ∙ w.in-Continue.is ∙ ap Continue (sym w.i-is))
     c.if-plain.branch-raw in
-    let m : matched bs a.word.now c.loop-k.o ≡ At c.if-plain.o = ⊎_elim
+    let m : matched bs a.word.now c.loop-k.o ≡ Some c.if-plain.o = ⊎_elim
     (λ w. let plain = sym is ∙ w.if-plain.true in rw (w.i-is, w.o-is, plain_bytes s i plain) (matched_byte _ _ _ (omega (arith, (plain_is (byte s i) plain).1)) (sym c.peek-b.ensures ∙ w.if-b-c.false ∙ w.peek-c.ensures)))
-    (λ w. rw (w.i-is, w.o-is) (sym w.char_is-m.ensures ∙ w.in-At.is))
+    (λ w. rw (w.i-is, w.o-is) (sym w.char_is-m.ensures ∙ w.in-Some.is))
     c.if-plain.branch-raw in
     (omega arith, matched_le bs a.word.now c.loop-k.o _ c.loop-k.invariant.1 m, c.loop-k.invariant.2 ∙ rw (turn_tree (char_turn s) _ _ _ c.loop-k-test.true on, on) (eq_matched bs _ a.word.now c.loop-k.o ∙ ap (going_on _ a.word.now) m))
 

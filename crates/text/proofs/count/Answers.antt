@@ -2,10 +2,10 @@
 use Rattle.text.specs.Push.{count_of}
 use Rattle.text.proofs.count.Goals as goal
 
-pub returns-in-To : goal.returns-in-To
+pub returns-in-Some : goal.returns-in-Some
 unfolding count_of
-returns-in-To c = rw c.in-To.is
+returns-in-Some c = rw c.in-Some.is
 
-pub returns-in-Full : goal.returns-in-Full
+pub returns-in-None : goal.returns-in-None
 unfolding count_of
-returns-in-Full c = rw c.in-Full.is
+returns-in-None c = rw c.in-None.is

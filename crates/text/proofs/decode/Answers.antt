@@ -1,11 +1,11 @@
 -- `text::decode` meets its contract.
+use Rattle.std.specs.declared.ops.ControlFlow.TheVariants.{Continue}
 use Prim.Native.Nat.{suc}
 use mathlib.Core.Path.{◌≡◌, refl, sym, ap, subst, ◌∙◌}
 use mathlib.Core.Logic.{⊎_elim}
 use native.Mathlib.Omega.{arith}
 use native.Mathlib.Nat.{sub-zero}
 use lib.ListN.{length}
-use Rattle.model.specs.declared.Next.TheVariants.{More}
 use Rattle.model.specs.Scan.{byte}
 use Rattle.model.specs.Strings.{char_turn, char_adds, char_bytes}
 use Rattle.scan.specs.Strings.{is_plain}
@@ -44,16 +44,16 @@ pub emit-x-requires : goal.emit-x-requires
 emit-x-requires c =
     let s = c.args.text.now in
     let i = c.loop-k.i in
-    (subst (PastNext s (suc i)) (sym c.character-n.ensures ∙ c.in-More.is) (char_past s i)).1
+    (subst (PastNext s (suc i)) (sym c.character-n.ensures ∙ c.in-Continue.is) (char_past s i)).1
 
-pub shape_of-out-in-Done : goal.shape_of-out-in-Done
-shape_of-out-in-Done c = c.loop-k.invariant.1.0
+pub shape_of-out-in-Break : goal.shape_of-out-in-Break
+shape_of-out-in-Break c = c.loop-k.invariant.1.0
 
-pub returns-in-Done : goal.returns-in-Done
+pub returns-in-Break : goal.returns-in-Break
 unfolding char_adds
-returns-in-Done c =
+returns-in-Break c =
     let s = c.args.text.now in
-    let q = sym c.character-n.ensures ∙ c.in-Done.is in
+    let q = sym c.character-n.ensures ∙ c.in-Break.is in
     c.loop-k.invariant.1.1 _ _ (rw (done_tree (char_turn s) _ _ _ c.loop-k-test.true q, q) (pushed_none _ _))
 
 pub loop-k-preserved : goal.loop-k-preserved
@@ -62,9 +62,9 @@ loop-k-preserved c =
     let s = c.args.text.now in
     let i = c.loop-k.i in
     let is = c.is_plain-plain.ensures ∙ ap is_plain c.peek-b.ensures in
-    let on : (char_turn s i).next ≡ More c.if-plain.i = ⊎_elim
-    (λ w. plain_next s i (byte s i) (sym is ∙ w.if-plain.true) ∙ ap More (sym w.i-is))
-    (λ w. sym w.character-n.ensures ∙ w.in-More.is ∙ ap More (sym w.i-is))
+    let on : (char_turn s i).next ≡ Continue c.if-plain.i = ⊎_elim
+    (λ w. plain_next s i (byte s i) (sym is ∙ w.if-plain.true) ∙ ap Continue (sym w.i-is))
+    (λ w. sym w.character-n.ensures ∙ w.in-Continue.is ∙ ap Continue (sym w.i-is))
     c.if-plain.branch-raw in
     let put : Pushed c.loop-k.out c.loop-k.x (char_bytes s i c.if-plain.i (byte s i)) c.if-plain.x c.if-plain.out = ⊎_elim
     (λ w. rw (w.out-is, w.i-is, w.x-is, plain_bytes s i (sym is ∙ w.if-plain.true), ← c.peek-b.ensures) w.push-x.ensures)

@@ -17,17 +17,17 @@ next_member-g-requires c = c.requires.says
 
 pub loop-g-smaller : goal.loop-g-smaller
 loop-g-smaller c =
-    rw c.next_member-g.ensures (pass_less c.args.text.now c.in-At.is)
+    rw c.next_member-g.ensures (pass_less c.args.text.now c.in-Some.is)
 
 pub loop-g-preserved : goal.loop-g-preserved
 loop-g-preserved c =
     let a = c.args in
     ⊎_elim
-    (λ w. sofar_named a.text.now a.word.now c.loop-g.invariant c.in-At.is (sym c.is_word-same.ensures ∙ w.if-same.true) w.member_value-v.ensures w.last-is c.next_member-g.ensures)
-    (λ w. sofar_other a.text.now a.word.now c.loop-g.invariant c.in-At.is (sym c.is_word-same.ensures ∙ w.if-same.false) w.last-is c.next_member-g.ensures)
+    (λ w. sofar_named a.text.now a.word.now c.loop-g.invariant c.in-Some.is (sym c.is_word-same.ensures ∙ w.if-same.true) w.member_value-v.ensures w.last-is c.next_member-g.ensures)
+    (λ w. sofar_other a.text.now a.word.now c.loop-g.invariant c.in-Some.is (sym c.is_word-same.ensures ∙ w.if-same.false) w.last-is c.next_member-g.ensures)
     c.if-same.branch-raw
 
-pub returns-in-Nothing : goal.returns-in-Nothing
-returns-in-Nothing c =
+pub returns : goal.returns
+returns c =
     let a = c.args in
-    sofar_end a.text.now a.word.now c.loop-g.invariant c.in-Nothing.is
+    sofar_end a.text.now a.word.now c.loop-g.invariant c.in_default.is

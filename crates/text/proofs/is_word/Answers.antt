@@ -12,4 +12,4 @@ returns-in_default c =
 pub returns : goal.returns
 returns c =
     let a = c.args in
-    c.body_is.ensures ∙ word_text a.word.now _ (place_tree a.text.now a.at (sym c.body_at-f.ensures ∙ c.in-At.is))
+    c.body_is.ensures ∙ word_text a.word.now _ (place_tree a.text.now a.at (sym c.body_at-f.ensures ∙ c.in-Some.is))

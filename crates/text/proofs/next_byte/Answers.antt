@@ -9,17 +9,17 @@ pub char_step-requires : goal.char_step-requires
 char_step-requires c =
     let a = c.args in
     let s = a.text.now in
-    let q = sym c.character-n.ensures ∙ c.in-More.is in
+    let q = sym c.character-n.ensures ∙ c.in-Continue.is in
     record { e_in_bounds = (subst (PastNext s (suc a.at)) q (char_past s a.at)).1; off_in_bounds = offset_in s a.at a.off _ c.requires q }
 
-pub returns-in-More : goal.returns-in-More
-returns-in-More c =
+pub returns-in-Continue : goal.returns-in-Continue
+returns-in-Continue c =
     let a = c.args in
     let s = a.text.now in
-    let q = sym c.character-n.ensures ∙ c.in-More.is in
+    let q = sym c.character-n.ensures ∙ c.in-Continue.is in
     picked_steps s a.at _ a.off q (offset_in s a.at a.off _ c.requires q) c.char_step.ensures
 
-pub returns-in-Done : goal.returns-in-Done
-returns-in-Done c =
+pub returns-in-Break : goal.returns-in-Break
+returns-in-Break c =
     let a = c.args in
-    done_steps a.text.now a.at a.off c.requires (sym c.character-n.ensures ∙ c.in-Done.is)
+    done_steps a.text.now a.at a.off c.requires (sym c.character-n.ensures ∙ c.in-Break.is)

@@ -2,14 +2,10 @@
 use Rattle.inner.specs.Positions.{quote_end}
 use Rattle.text.proofs.quote_end.Goals as goal
 
-pub returns-in-End : goal.returns-in-End
+pub returns-in-Ok : goal.returns-in-Ok
 unfolding quote_end
-returns-in-End c = rw c.in-End.is
+returns-in-Ok c = rw c.in-Ok.is
 
-pub returns-in-Stop : goal.returns-in-Stop
+pub returns-in-Err : goal.returns-in-Err
 unfolding quote_end
-returns-in-Stop c = rw c.in-Stop.is
-
-pub returns-in-Deep : goal.returns-in-Deep
-unfolding quote_end
-returns-in-Deep c = rw c.in-Deep.is
+returns-in-Err c = rw c.in-Err.is

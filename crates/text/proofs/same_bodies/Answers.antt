@@ -16,38 +16,38 @@ loop-x-init c =
 pub returns-then-b-c : goal.returns-then-b-c
 returns-then-b-c c =
     let a = c.args in
-    sym (c.loop-x.invariant.0 ∙ same_off a.text.now c.in-Byte.is c.in-Byte-y.is c.if-b-c.true)
+    sym (c.loop-x.invariant.0 ∙ same_off a.text.now c.in-Some.is c.in-Some-y.is c.if-b-c.true)
 
-pub next_byte-x-requires-in-Byte-y : goal.next_byte-x-requires-in-Byte-y
-next_byte-x-requires-in-Byte-y c =
-    going_on c.args.text.now c.in-Byte.is c.loop-x.invariant.1
+pub next_byte-x-requires-in-Some-y : goal.next_byte-x-requires-in-Some-y
+next_byte-x-requires-in-Some-y c =
+    going_on c.args.text.now c.in-Some.is c.loop-x.invariant.1
 
-pub next_byte-y-requires-in-Byte-y : goal.next_byte-y-requires-in-Byte-y
-next_byte-y-requires-in-Byte-y c =
-    going_on c.args.text.now c.in-Byte-y.is c.loop-x.invariant.2
+pub next_byte-y-requires-in-Some-y : goal.next_byte-y-requires-in-Some-y
+next_byte-y-requires-in-Some-y c =
+    going_on c.args.text.now c.in-Some-y.is c.loop-x.invariant.2
 
 pub loop-x-smaller : goal.loop-x-smaller
 loop-x-smaller c =
     let a = c.args in
-    rw c.next_byte-x-in-Byte-y.ensures.bytes (bytes_less a.text.now c.in-Byte.is)
+    rw c.next_byte-x-in-Some-y.ensures.bytes (bytes_less a.text.now c.in-Some.is)
 
 pub loop-x-preserved : goal.loop-x-preserved
 loop-x-preserved c =
     let a = c.args in
-    let h = same_on a.text.now c.in-Byte.is c.in-Byte-y.is c.if-b-c.false in
-    (c.loop-x.invariant.0 ∙ h ∙ rw (c.next_byte-x-in-Byte-y.ensures.bytes, c.next_byte-y-in-Byte-y.ensures.bytes), c.next_byte-x-in-Byte-y.ensures.going, c.next_byte-y-in-Byte-y.ensures.going)
+    let h = same_on a.text.now c.in-Some.is c.in-Some-y.is c.if-b-c.false in
+    (c.loop-x.invariant.0 ∙ h ∙ rw (c.next_byte-x-in-Some-y.ensures.bytes, c.next_byte-y-in-Some-y.ensures.bytes), c.next_byte-x-in-Some-y.ensures.going, c.next_byte-y-in-Some-y.ensures.going)
 
-pub returns-in-End-y : goal.returns-in-End-y
-returns-in-End-y c =
+pub returns-in-None-y : goal.returns-in-None-y
+returns-in-None-y c =
     let a = c.args in
-    sym (c.loop-x.invariant.0 ∙ same_short a.text.now c.in-Byte.is c.in-End-y.is)
+    sym (c.loop-x.invariant.0 ∙ same_short a.text.now c.in-Some.is c.in-None-y.is)
 
-pub returns-in-Byte-y-2 : goal.returns-in-Byte-y-2
-returns-in-Byte-y-2 c =
+pub returns-in-Some-y-2 : goal.returns-in-Some-y-2
+returns-in-Some-y-2 c =
     let a = c.args in
-    sym (c.loop-x.invariant.0 ∙ same_long a.text.now c.in-Byte-y-2.is c.in-End.is)
+    sym (c.loop-x.invariant.0 ∙ same_long a.text.now c.in-Some-y-2.is c.in-None.is)
 
-pub returns-in-End-y-2 : goal.returns-in-End-y-2
-returns-in-End-y-2 c =
+pub returns-in-None-y-2 : goal.returns-in-None-y-2
+returns-in-None-y-2 c =
     let a = c.args in
-    sym (c.loop-x.invariant.0 ∙ same_end a.text.now c.in-End.is c.in-End-y-2.is)
+    sym (c.loop-x.invariant.0 ∙ same_end a.text.now c.in-None.is c.in-None-y-2.is)

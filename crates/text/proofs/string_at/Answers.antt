@@ -15,17 +15,17 @@ returns-in_default c =
 
 pub overflow_sub-result : goal.overflow_sub-result
 overflow_sub-result c =
-    let told : (is_text (kind_of (tree_at c.args.text.now c.args.at)) ≡ true) × (c.in-At.j ≡ spaces_at c.args.text.now c.args.at + 1) = place_text c.args.text.now c.args.at (sym c.body_at-f.ensures ∙ c.in-At.is) in
+    let told : (is_text (kind_of (tree_at c.args.text.now c.args.at)) ≡ true) × (c.in-Some.j ≡ spaces_at c.args.text.now c.args.at + 1) = place_text c.args.text.now c.args.at (sym c.body_at-f.ensures ∙ c.in-Some.is) in
     let a = c.args in
-    plain_from a.text.now a.at (told).0 (told).1 (sym c.quote-q.ensures ∙ c.in-At-q.is)
+    plain_from a.text.now a.at (told).0 (told).1 (sym c.quote-q.ensures ∙ c.in-Some-q.is)
 
-pub returns-in-At-q : goal.returns-in-At-q
-returns-in-At-q c =
-    let told : (is_text (kind_of (tree_at c.args.text.now c.args.at)) ≡ true) × (c.in-At.j ≡ spaces_at c.args.text.now c.args.at + 1) = place_text c.args.text.now c.args.at (sym c.body_at-f.ensures ∙ c.in-At.is) in
+pub returns-in-Some-q : goal.returns-in-Some-q
+returns-in-Some-q c =
+    let told : (is_text (kind_of (tree_at c.args.text.now c.args.at)) ≡ true) × (c.in-Some.j ≡ spaces_at c.args.text.now c.args.at + 1) = place_text c.args.text.now c.args.at (sym c.body_at-f.ensures ∙ c.in-Some.is) in
     let a = c.args in
-    plain_held a.text.now a.at (told).0 (told).1 _ (sym c.quote-q.ensures ∙ c.in-At-q.is)
+    plain_held a.text.now a.at (told).0 (told).1 _ (sym c.quote-q.ensures ∙ c.in-Some-q.is)
 
-pub returns-in-Nothing : goal.returns-in-Nothing
-returns-in-Nothing c =
-    let told : (is_text (kind_of (tree_at c.args.text.now c.args.at)) ≡ true) × (c.in-At.j ≡ spaces_at c.args.text.now c.args.at + 1) = place_text c.args.text.now c.args.at (sym c.body_at-f.ensures ∙ c.in-At.is) in
-    decoded_held c.args.text.now c.args.at (told).0 (told).1 (sym c.quote-q.ensures ∙ c.in-Nothing.is) c.requires c.decode-w.ensures c.count.ensures
+pub returns-in-None : goal.returns-in-None
+returns-in-None c =
+    let told : (is_text (kind_of (tree_at c.args.text.now c.args.at)) ≡ true) × (c.in-Some.j ≡ spaces_at c.args.text.now c.args.at + 1) = place_text c.args.text.now c.args.at (sym c.body_at-f.ensures ∙ c.in-Some.is) in
+    decoded_held c.args.text.now c.args.at (told).0 (told).1 (sym c.quote-q.ensures ∙ c.in-None.is) c.requires c.decode-w.ensures c.count.ensures

@@ -13,19 +13,19 @@ returns-in_default c =
 pub returns-in_default-u : goal.returns-in_default-u
 returns-in_default-u c =
     let a = c.args in
-    entry_no_name a.text.now (members_in (tree_at a.text.now a.at)) c.find-o.ensures c.in-At.is c.is_word-i.ensures c.if-i.true c.find-u.ensures c.in_default-u.is
+    entry_no_name a.text.now (members_in (tree_at a.text.now a.at)) c.find-o.ensures c.in-Some.is c.is_word-i.ensures c.if-i.true c.find-u.ensures c.in_default-u.is
 
 pub overflow_add-result : goal.overflow_add-result
 overflow_add-result c =
     let a = c.args in
-    omega (arith, entry_below a.text.now (members_in (tree_at a.text.now a.at)) c.find-o.ensures c.in-At.is c.is_word-i.ensures c.if-i.true c.find-u.ensures c.in-At-u.is, c.requires.text_len_bound)
+    omega (arith, entry_below a.text.now (members_in (tree_at a.text.now a.at)) c.find-o.ensures c.in-Some.is c.is_word-i.ensures c.if-i.true c.find-u.ensures c.in-Some-u.is, c.requires.text_len_bound)
 
 pub returns-then-i : goal.returns-then-i
 returns-then-i c =
     let a = c.args in
-    entry_some a.text.now (members_in (tree_at a.text.now a.at)) c.find-o.ensures c.in-At.is c.is_word-i.ensures c.if-i.true c.find-u.ensures c.in-At-u.is c.requires.text_len_bound
+    entry_some a.text.now (members_in (tree_at a.text.now a.at)) c.find-o.ensures c.in-Some.is c.is_word-i.ensures c.if-i.true c.find-u.ensures c.in-Some-u.is c.requires.text_len_bound
 
 pub returns : goal.returns
 returns c =
     let a = c.args in
-    entry_no_insert a.text.now (members_in (tree_at a.text.now a.at)) c.find-o.ensures c.in-At.is c.is_word-i.ensures c.if-i.false
+    entry_no_insert a.text.now (members_in (tree_at a.text.now a.at)) c.find-o.ensures c.in-Some.is c.is_word-i.ensures c.if-i.false

@@ -20,23 +20,23 @@ returns-in_default c =
 
 pub slice_bounds-buf-end : goal.slice_bounds-buf-end
 slice_bounds-buf-end c =
-    let f = fitted {before = replicate 36 0} c.decode-w.ensures c.in-To.is in
+    let f = fitted {before = replicate 36 0} c.decode-w.ensures c.in-Some-w.is in
     omega (arith, f.0, f.1)
 
 pub slice_bounds-id_of-end : goal.slice_bounds-id_of-end
 slice_bounds-id_of-end c =
-    let f = fitted {before = replicate 36 0} c.decode-w.ensures c.in-To.is in
+    let f = fitted {before = replicate 36 0} c.decode-w.ensures c.in-Some-w.is in
     f.0 ∙ sym (ap length f.2)
 
-pub returns-in-To : goal.returns-in-To
-returns-in-To c =
-    let tree : tree_at c.args.text.now c.args.at ≡ str (body_at c.args.text.now c.in-At.i).tree = place_tree c.args.text.now c.args.at (sym c.body_at-f.ensures ∙ c.in-At.is) in
-    let f = fitted {before = replicate 36 0} c.decode-w.ensures c.in-To.is in
+pub returns-in-Some-w : goal.returns-in-Some-w
+returns-in-Some-w c =
+    let tree : tree_at c.args.text.now c.args.at ≡ str (body_at c.args.text.now c.in-Some.i).tree = place_tree c.args.text.now c.args.at (sym c.body_at-f.ensures ∙ c.in-Some.is) in
+    let f = fitted {before = replicate 36 0} c.decode-w.ensures c.in-Some-w.is in
     subst (Spells c.id_of.result) (ap (uuid_from 0 0) f.2 ∙ sym (id_string (tree))) c.id_of.ensures
 
-pub returns-in-Full : goal.returns-in-Full
+pub returns-in-None : goal.returns-in-None
 unfolding Spells
-returns-in-Full c =
-    let tree : tree_at c.args.text.now c.args.at ≡ str (body_at c.args.text.now c.in-At.i).tree = place_tree c.args.text.now c.args.at (sym c.body_at-f.ensures ∙ c.in-At.is) in
-    let g = over {before = replicate 36 0} c.decode-w.ensures c.in-Full.is in
-    id_string (tree) ∙ not_36 0 0 (body_at c.args.text.now c.in-At.i).tree (λ e. omega (arith, e, g))
+returns-in-None c =
+    let tree : tree_at c.args.text.now c.args.at ≡ str (body_at c.args.text.now c.in-Some.i).tree = place_tree c.args.text.now c.args.at (sym c.body_at-f.ensures ∙ c.in-Some.is) in
+    let g = over {before = replicate 36 0} c.decode-w.ensures c.in-None.is in
+    id_string (tree) ∙ not_36 0 0 (body_at c.args.text.now c.in-Some.i).tree (λ e. omega (arith, e, g))

@@ -13,18 +13,15 @@ returns-then-t-ne-CHARACTERS c =
     not_36 0 0 t (λ e. c.if-t-ne-CHARACTERS.true (omega (arith, e)))
 
 pub loop-at-init : goal.loop-at-init
-loop-at-init c = (omega arith, sofar_start c.args.t.now)
-
-pub bounds-t-at : goal.bounds-t-at
-bounds-t-at c = omega (arith, c.if-t-ne-CHARACTERS.false)
+loop-at-init c = sofar_start c.args.t.now
 
 pub loop-at-preserved : goal.loop-at-preserved
 loop-at-preserved c =
     let l = c.loop-at in
     let t = c.args.t.now in
-    (omega arith, subst (Sofar t (l.at + 1)) (sym c.spell-i.ensures) (sofar_on t l.at l.i (omega (arith, c.if-t-ne-CHARACTERS.false)) l.invariant.1))
+    subst (Sofar t (l.at + 1)) (sym c.spell-i.ensures) (sofar_on t l.at l.i (omega (arith, c.if-t-ne-CHARACTERS.false)) l.invariant)
 
 pub returns : goal.returns
 returns c =
     let l = c.loop-at in
-    sofar_end c.args.t.now l.at l.i c.if-t-ne-CHARACTERS.false (omega arith) l.invariant.1
+    sofar_end c.args.t.now l.at l.i c.if-t-ne-CHARACTERS.false (omega arith) l.invariant

@@ -1,7 +1,7 @@
 -- `value::equal` meets its contract.
 use mathlib.Core.Path.{refl, sym, ◌∙◌}
 use native.Mathlib.Omega.{arith}
-use Rattle.atom.proofs.Cells.{lists_on, lists_off, lists_end, lists_length}
+use Rattle.value.proofs.Alike.{lists_on, lists_off, lists_end, lists_length}
 use Rattle.value.proofs.equal.Goals as goal
 
 pub returns-then-l-m : goal.returns-then-l-m

@@ -1,24 +1,18 @@
 -- `value::place` meets its contract.
-use mathlib.Core.Path.{sym, ◌∙◌}
-use native.Mathlib.Omega.{arith}
+use Rattle.std.proofs.Common.{◌≡◌, ℕ, List, true, false, refl, sym, ◌∙◌, rules, tests, arith}
+use Rattle.std.proofs.lemmas.Iterator.{YieldsList-from_slice, IsFirst-from_position, index_from_first}
+use Rattle.model.specs.Value.{less_atom}
 use Rattle.model.specs.Catalog.{base_numbered}
-use Rattle.value.proofs.Order.{place_on, place_off, place_end}
+use Rattle.value.specs.Places.{place_in}
 use Rattle.value.proofs.place.Goals as goal
-
-pub loop-i-init : goal.loop-i-init
-loop-i-init c = (omega arith, omega arith)
-
-pub returns-then-less : goal.returns-then-less
-returns-then-less c =
-    let o = c.loop-i in
-    omega (arith, o.invariant.1, place_off (base_numbered c.args.kind) c.args.x.now c.args.l.now o.i (omega arith) (sym c.less.ensures ∙ c.if-less.true))
-
-pub loop-i-preserved : goal.loop-i-preserved
-loop-i-preserved c =
-    let o = c.loop-i in
-    (omega arith, o.invariant.1 ∙ place_on (base_numbered c.args.kind) c.args.x.now c.args.l.now o.i (omega arith) (sym c.less.ensures ∙ c.if-less.false))
 
 pub returns : goal.returns
 returns c =
-    let o = c.loop-i in
-    omega (arith, o.invariant.1, place_end (base_numbered c.args.kind) c.args.x.now c.args.l.now o.i c.loop-i-test.false)
+    let k = base_numbered c.args.kind in
+    let x = c.args.x.now in
+    let l = c.args.l.now in
+    let yes = λ (e : List ℕ). less_atom k x e ≡ true in
+    let no = λ (e : List ℕ). less_atom k x e ≡ false in
+    c.unwrap_or.ensures
+    ∙ sym (index_from_first (place_in k x) yes no refl (λ y ys h. rw h) (λ y ys h. rw h (omega arith)) l c.position.result
+    (IsFirst-from_position _ _ c.position.result yes no c.position.ensures.ran (YieldsList-from_slice l cc) (λ e q h. search (rules, tests)) (λ e q h. search (rules, tests))))

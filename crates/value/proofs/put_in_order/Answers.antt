@@ -1,14 +1,8 @@
 -- `value::put_in_order` meets its contract.
-use mathlib.Core.Path.{◌∙◌}
-use native.Mathlib.Omega.{arith}
-use lib.ListN.{length-take}
+use Rattle.std.proofs.Common.{◌∙◌}
 use Rattle.model.specs.Catalog.{base_numbered}
 use Rattle.value.proofs.Fours.{put_placed}
 use Rattle.value.proofs.put_in_order.Goals as goal
-
-pub slice_bounds-place-end : goal.slice_bounds-place-end
-slice_bounds-place-end c =
-    omega (arith, c.well_formed.1.0.1.0.1, c.requires, length-take c.args.n c.args.atoms)
 
 pub insert_at-requires : goal.insert_at-requires
 insert_at-requires c =

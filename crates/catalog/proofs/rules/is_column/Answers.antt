@@ -1,12 +1,17 @@
 -- `catalog::rules::is_column` meets its contract.
+use Rattle.std.proofs.Common.{arith}
+use Rattle.std.proofs.lemmas.Grind.{common_steps}
 use Rattle.model.proofs.Octets.{octets}
 use Rattle.catalog.specs.Judging.{column_test}
 use Rattle.catalog.proofs.Columns.{column_is}
 use Rattle.catalog.proofs.rules.is_column.Goals as goal
 
-pub returns : goal.returns
+pub returns-then-entry-le1 : goal.returns-then-entry-le1
 unfolding column_test
-returns c =
-    let a = c.args in
-    let o = octets a.entry.now (λ i. (c.shared_slice_known-1.given i).fits) in
-    rw (← column_is a.entry.now c.e-1.given o a.n, c.has_name-name.ensures, c.refers_well-refers.ensures, c.counts_well-counts.ensures, c.limits_well-limits.ensures, c.number_at-low.ensures, c.number_at-high.ensures)
+returns-then-entry-le1 c =
+    rw (← column_is c.args.entry.now c.told-entry (octets _ c.fits-entry) c.args.n) (grind (arith, common_steps))
+
+pub returns-else-entry-le1 : goal.returns-else-entry-le1
+unfolding column_test
+returns-else-entry-le1 c =
+    rw (← column_is c.args.entry.now c.told-entry (octets _ c.fits-entry) c.args.n) (grind (arith, common_steps))

@@ -1,35 +1,26 @@
 -- `catalog::rules::is_id` meets its contract.
-use mathlib.Core.Path.{sym, ◌∙◌}
-use native.Mathlib.Omega.{arith}
-use Rattle.model.specs.SchemaText.{is_id_byte}
-use Rattle.catalog.proofs.Ids.{all_here, all_not, all_end, id_none, id_long, id_other, id_rest}
+use Rattle.std.proofs.Common.{◌≡◌, ◌≤◌, length, get_or, drop, true, rules, tests, arith, sym, ◌∙◌}
+use Rattle.std.proofs.Math.Seq.{take_all}
+use Rattle.std.proofs.lemmas.Grind.{common_steps}
+use Rattle.std.proofs.lemmas.Iterator.{YieldsList-from_slice}
+use Rattle.std.proofs.lemmas.Iterator.Search.{all_from_yields_List}
+use Rattle.std.proofs.lemmas.List.{length-drop}
+use Rattle.model.specs.SchemaText.{is_letter, is_id_byte}
+use Rattle.catalog.proofs.Ids.{all_is, id_none, id_long, id_other, id_rest}
 use Rattle.catalog.proofs.rules.is_id.Goals as goal
 
-pub returns-then-t-eq0 : goal.returns-then-t-eq0
-returns-then-t-eq0 c = sym (id_none c.args.t.now c.if-t-eq0.true)
+pub returns-in-empty : goal.returns-in-empty
+returns-in-empty c = sym (id_none _ (omega arith))
 
-pub returns-then-t-gt-TEXT : goal.returns-then-t-gt-TEXT
-returns-then-t-gt-TEXT c = sym (id_long c.args.t.now c.if-t-gt-TEXT.true)
-
-pub loop-i-init : goal.loop-i-init
-loop-i-init c =
-    (omega arith, id_rest c.args.t.now (sym c.is_letter-l.ensures ∙ c.if-l.true) (omega arith) c.if-t-gt-TEXT.false)
-
-pub loop-i-preserved : goal.loop-i-preserved
-loop-i-preserved c =
+pub returns-then-is_letter : goal.returns-then-is_letter
+returns-then-is_letter c =
     let t = c.args.t.now in
-    (omega arith, c.loop-i.invariant.1 ∙ all_here t c.loop-i.i is_id_byte c.loop-i-test.true (sym c.is_id_byte-b.ensures ∙ c.if-b.true))
+    let rest = c.iter.ensures.rest ∙ take_all _ (drop 1 t) (omega (arith, length-drop 1 t)) in
+    let all = all_from_yields_List {all = drop 1 t} is_id_byte _ _ c.all.result c.all.ensures.ran (YieldsList-from_slice _ rest) (λ x b q k. search (rules, tests)) ∙ all_is is_id_byte (drop 1 t) in
+    let fits : length t ≤ 24 = grind (arith, common_steps) in
+    let letter : is_letter (get_or t 0 0) ≡ true = grind (arith, common_steps) in
+    all ∙ sym (id_rest t letter (omega arith) fits)
 
-pub returns-else-b : goal.returns-else-b
-returns-else-b c =
-    let t = c.args.t.now in
-    sym (c.loop-i.invariant.1 ∙ all_not t c.loop-i.i is_id_byte c.loop-i-test.true (sym c.is_id_byte-b.ensures ∙ c.if-b.false))
-
-pub returns-then-l : goal.returns-then-l
-returns-then-l c =
-    let t = c.args.t.now in
-    sym (c.loop-i.invariant.1 ∙ all_end t c.loop-i.i is_id_byte c.loop-i-test.false)
-
-pub returns : goal.returns
-returns c =
-    sym (id_other c.args.t.now (sym c.is_letter-l.ensures ∙ c.if-l.false) (omega arith))
+pub returns-else-is_letter : goal.returns-else-is_letter
+returns-else-is_letter c =
+    grind (arith, common_steps, id_long c.args.t.now, id_other c.args.t.now)

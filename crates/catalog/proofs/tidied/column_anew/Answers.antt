@@ -1,21 +1,22 @@
 -- `catalog::tidied::column_anew` meets its contract.
-use mathlib.Core.Path.{sym, ◌∙◌}
-use native.Mathlib.Omega.{arith}
+use Rattle.std.proofs.Common.{arith, sym, ◌∙◌}
 use Rattle.catalog.proofs.Anew.{column_anew, column_blank, column_none, column_short}
 use Rattle.catalog.proofs.tidied.column_anew.Goals as goal
+use Rattle.catalog.proofs.tidied.column_anew.Goals.{else-t-tables-via-then-t-tables+else-c-wide, else-t-tables-via-else-t-tables}
 
 pub column_of-requires : goal.column_of-requires
 column_of-requires c =
-    column_short c.requires.readable c.args.t c.args.c (omega (arith, c.wide.ensures ∙ c.table_count.ensures, c.if-t-wide.true)) c.requires.t_lt_most_tables.1 (omega (arith, c.wide-then-t-wide.ensures ∙ c.width.ensures, c.if-c-wide.true))
+    column_short c.requires.readable c.args.t c.args.c (omega arith) c.requires.t_lt_most_tables.1 (omega arith)
 
 pub returns-then-c-wide : goal.returns-then-c-wide
 returns-then-c-wide c =
-    c.column_of.ensures ∙ sym (column_anew c.requires.readable c.args.t c.args.c (omega (arith, c.wide.ensures ∙ c.table_count.ensures, c.if-t-wide.true)) c.requires.t_lt_most_tables.1 (omega (arith, c.wide-then-t-wide.ensures ∙ c.width.ensures, c.if-c-wide.true)))
+    c.column_of.ensures ∙ sym (column_anew c.requires.readable c.args.t c.args.c (omega arith) c.requires.t_lt_most_tables.1 (omega arith))
 
-pub returns-else-c-wide : goal.returns-else-c-wide
-returns-else-c-wide c =
-    sym (column_blank c.requires.readable c.args.t c.args.c (omega (arith, c.wide.ensures ∙ c.table_count.ensures, c.if-t-wide.true)) c.requires.t_lt_most_tables.1 (omega (arith, c.wide-then-t-wide.ensures ∙ c.width.ensures, c.if-c-wide.false)))
-
-pub returns-else-t-wide : goal.returns-else-t-wide
-returns-else-t-wide c =
-    sym (column_none c.requires.readable c.args.t c.args.c (omega (arith, c.wide.ensures ∙ c.table_count.ensures, c.if-t-wide.false)) c.requires.t_lt_most_tables.0 c.requires.t_lt_most_tables.1)
+pub returns-else-t-tables : goal.returns-else-t-tables
+returns-else-t-tables c =
+    let a = c.args in
+    let few = c.requires.t_lt_most_tables in
+    elim c.else-t-tables.branch [
+      | else-t-tables-via-then-t-tables+else-c-wide w ↦ sym (column_blank c.requires.readable a.t a.c (omega arith) few.1 (omega arith))
+      | else-t-tables-via-else-t-tables w ↦ sym (column_none c.requires.readable a.t a.c (omega arith) few.0 few.1)
+    ]

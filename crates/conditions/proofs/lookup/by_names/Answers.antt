@@ -1,16 +1,16 @@
 -- `conditions::lookup::by_names` meets its contract.
+use Rattle.std.specs.Prelude.{Some, None}
 use mathlib.Core.Path.{◌≡◌, sym, ap, ◌∙◌}
 use mathlib.Core.Bool.{Bool, true, false, ◌&&◌}
 use Prim.Native.Nat.{ℕ}
 use Rattle.inner.specs.Positions.{tree_at}
 use Rattle.model.specs.Nav.{kind_of, is_text}
-use Rattle.conditions.specs.declared.lookup.Triple.TheVariants.{Of, Other}
 use Rattle.conditions.specs.Lookup.{by_names}
 use Rattle.conditions.proofs.lookup.by_names.Goals as goal
 
-chosen : (x y p q t : Bool) (a b c : ℕ) → x ≡ p → y ≡ q → (x && y) ≡ t → (elim t [ true ↦ Of a b c | false ↦ Other ]) ≡ by_names p q a b c
+chosen : (x y p q t : Bool) (a b c : ℕ) → x ≡ p → y ≡ q → (x && y) ≡ t → (elim t [ true ↦ Some (a, b, c) | false ↦ None ]) ≡ by_names p q a b c
 unfolding by_names
-chosen x y p q t a b c e f h = ap (λ z. elim z [ true ↦ Of a b c | false ↦ Other ]) (sym h ∙ ap (λ z. z && y) e ∙ ap (λ z. p && z) f)
+chosen x y p q t a b c e f h = ap (λ z. elim z [ true ↦ Some (a, b, c) | false ↦ None ]) (sym h ∙ ap (λ z. z && y) e ∙ ap (λ z. p && z) f)
 
 pub returns-then-x-y : goal.returns-then-x-y
 returns-then-x-y c =

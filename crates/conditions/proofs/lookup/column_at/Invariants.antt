@@ -1,17 +1,11 @@
 -- The loop of `conditions::lookup::column_at`.
 use mathlib.Core.Path.{◌≡◌}
 use mathlib.Core.List.{map}
-use Prim.Native.Nat.{◌≤◌, ◌-◌}
-use lib.ListN.{length}
 use Rattle.inner.specs.Positions.{tree_at}
 use Rattle.model.specs.Catalog.{column_from}
-use Rattle.catalog.specs.Entries.{found_at}
 use Rattle.conditions.specs.Lookup.{column_in}
 use Rattle.conditions.proofs.Columns.{column_found}
 use Rattle.conditions.proofs.lookup.column_at.Given as goal
 
 abbrev pub invariant-loop-i : goal.invariant-loop-i
-invariant-loop-i l = (l.i ≤ length l.columns) × (found_at (column_in (map column_from l.columns) (tree_at l.text l.at)) ≡ column_found l.columns (tree_at l.text l.at) l.i)
-
-abbrev pub decreases-loop-i : goal.decreases-loop-i
-decreases-loop-i l = length l.columns - l.i
+invariant-loop-i l = (column_in (map column_from l.columns) (tree_at l.text l.at)) ≡ column_found l.columns (tree_at l.text l.at) l.i

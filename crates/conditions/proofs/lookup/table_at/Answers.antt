@@ -4,7 +4,6 @@ use mathlib.Core.Path.{◌≡◌, ap, ◌∙◌}
 use mathlib.Core.List.{map}
 use lib.ListN.{length, take, drop}
 use Rattle.model.specs.Catalog.{column_from}
-use Rattle.catalog.specs.Entries.{found_at}
 use Rattle.conditions.specs.Lookup.{column_in}
 use native.Mathlib.Omega.{arith}
 use Rattle.inner.specs.Positions.{tree_at}
@@ -19,4 +18,4 @@ returns c =
     let j = tree_at c.args.text.now c.args.at in
     let e : 1 + n - 1 ≡ n = omega arith in
     let l : 1 + n ≤ length cells = omega (arith, c.all-1.given, c.requires, k) in
-    c.column_at.ensures ∙ ap (λ (k : ℕ). found_at (column_in (map column_from (take k (drop 1 cells))) j)) e ∙ table_named_lem cells n k l j
+    c.column_at.ensures ∙ ap (λ (k : ℕ). (column_in (map column_from (take k (drop 1 cells))) j)) e ∙ table_named_lem cells n k l j

@@ -9,16 +9,16 @@ returns-in_default c =
 
 pub returns-in_default-g : goal.returns-in_default-g
 returns-in_default-g c =
-    no_second c.args.text.now c.args.at c.requires.at_value (sym c.first-f.ensures ∙ c.in-At.is) (sym c.next_item-g.ensures ∙ c.in_default-g.is)
+    no_second c.args.text.now c.args.at c.requires.at_value (sym c.first-f.ensures ∙ c.in-Some.is) (sym c.next_item-g.ensures ∙ c.in_default-g.is)
 
 pub returns-in_default-h : goal.returns-in_default-h
 returns-in_default-h c =
-    no_third c.args.text.now c.args.at c.requires.at_value (sym c.first-f.ensures ∙ c.in-At.is) (sym c.next_item-g.ensures ∙ c.in-At-g.is) (sym c.next_item-h.ensures ∙ c.in_default-h.is)
+    no_third c.args.text.now c.args.at c.requires.at_value (sym c.first-f.ensures ∙ c.in-Some.is) (sym c.next_item-g.ensures ∙ c.in-Some-g.is) (sym c.next_item-h.ensures ∙ c.in_default-h.is)
 
-pub returns-in-At-l : goal.returns-in-At-l
-returns-in-At-l c =
-    some_fourth c.args.text.now c.args.at c.requires.at_value (sym c.first-f.ensures ∙ c.in-At.is) (sym c.next_item-g.ensures ∙ c.in-At-g.is) (sym c.next_item-h.ensures ∙ c.in-At-h.is) (sym c.next_item-l.ensures ∙ c.in-At-l.is)
+pub returns-in-Some-l : goal.returns-in-Some-l
+returns-in-Some-l c =
+    some_fourth c.args.text.now c.args.at c.requires.at_value (sym c.first-f.ensures ∙ c.in-Some.is) (sym c.next_item-g.ensures ∙ c.in-Some-g.is) (sym c.next_item-h.ensures ∙ c.in-Some-h.is) (sym c.next_item-l.ensures ∙ c.in-Some-l.is)
 
-pub returns-in-Nothing : goal.returns-in-Nothing
-returns-in-Nothing c =
-    no_fourth c.args.text.now c.args.at c.requires.at_value (sym c.first-f.ensures ∙ c.in-At.is) (sym c.next_item-g.ensures ∙ c.in-At-g.is) (sym c.next_item-h.ensures ∙ c.in-At-h.is) (sym c.next_item-l.ensures ∙ c.in-Nothing.is) c.by_names.ensures
+pub returns-in-None : goal.returns-in-None
+returns-in-None c =
+    no_fourth c.args.text.now c.args.at c.requires.at_value (sym c.first-f.ensures ∙ c.in-Some.is) (sym c.next_item-g.ensures ∙ c.in-Some-g.is) (sym c.next_item-h.ensures ∙ c.in-Some-h.is) (sym c.next_item-l.ensures ∙ c.in-None.is) c.by_names.ensures

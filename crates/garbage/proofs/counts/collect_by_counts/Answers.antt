@@ -1,7 +1,6 @@
 -- `garbage::counts::collect_by_counts` meets its contract.
-use mathlib.Core.Path.{◌≡◌, sym, ◌∙◌}
+use mathlib.Core.Path.{sym, ◌∙◌}
 use native.Mathlib.Omega.{arith}
-use lib.ListN.{length}
 use Rattle.model.specs.Catalog.{packed_tables}
 use Rattle.garbage.specs.Counts.{PartlySwept}
 use Rattle.garbage.proofs.Marking.{collected_roots, collected_left}
@@ -10,16 +9,6 @@ use Rattle.garbage.proofs.counts.collect_by_counts.Goals as goal
 pub returns-then-not-any_not_root : goal.returns-then-not-any_not_root
 returns-then-not-any_not_root c =
     collected_roots (packed_tables c.args.schema.now) c.args.n c.args.rows.now c.requires.ordered (sym c.any_not_root.ensures ∙ c.if-not-any_not_root.true)
-
-pub sweep_noted-requires : goal.sweep_noted-requires
-sweep_noted-requires c =
-    let z : length c.count_all.new.counts ≡ 32 = c.count_all.auto.counts in
-    record { accepted = c.requires.accepted; ordered = (c.requires.ordered, omega (arith, c.if-n-gt-ROWS.false), omega (arith, c.if-n-gt-ROWS.false, z)) }
-
-pub sweep-requires : goal.sweep-requires
-sweep-requires c =
-    let z : length c.count_all.new.counts ≡ 32 = c.count_all.auto.counts in
-    record { accepted = c.requires.accepted; ordered = (c.requires.ordered, omega (arith, c.if-n-gt-ROWS.false, c.sweep_noted.auto.marks), omega (arith, c.if-n-gt-ROWS.false, c.sweep_noted.auto.counts, z)) }
 
 pub returns : goal.returns
 unfolding PartlySwept

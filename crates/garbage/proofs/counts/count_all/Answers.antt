@@ -12,21 +12,12 @@ loop-i-init c =
     let a = c.args in
     (omega arith, refl, adding_none (packed_tables a.schema.now) a.n a.rows.now a.counts.now c.requires.ordered.2)
 
-pub offset_bounds-rows-i : goal.offset_bounds-rows-i
-offset_bounds-rows-i c = omega (arith, c.requires.ordered.1)
-
-pub bounds-rows-i : goal.bounds-rows-i
-bounds-rows-i c = omega (arith, c.requires.ordered.0.there)
-
 pub count_row-requires : goal.count_row-requires
 count_row-requires c =
     let a = c.args in
     let l = c.loop-i in
     let z : length a.counts.now ≡ 32 = ap length c.requires.ordered.2 in
     record { accepted = c.requires.accepted; ordered = (c.requires.ordered.0, omega (arith, c.requires.ordered.1, l.invariant.1, z)); room = adding_room (packed_tables a.schema.now) a.n a.rows.now c.requires.ordered.0 l.i c.loop-i-test.true l.counts l.invariant.2 c.requires.ordered.1 (few_columns_lem a.schema.now c.requires.accepted) }
-
-pub overflow_add-i : goal.overflow_add-i
-overflow_add-i c = omega (arith, c.requires.ordered.1)
 
 pub loop-i-preserved : goal.loop-i-preserved
 loop-i-preserved c =
@@ -37,9 +28,6 @@ loop-i-preserved c =
       c.count_row.auto.counts ∙ l.invariant.1,
       adding_on (packed_tables a.schema.now) a.n a.rows.now c.requires.ordered.0 l.i t l.counts l.invariant.2 c.count_row.new.counts c.count_row.ensures,
     )
-
-pub shape_of-counts : goal.shape_of-counts
-shape_of-counts c = c.loop-i.invariant.1
 
 pub returns : goal.returns
 returns c =

@@ -1,4 +1,5 @@
 -- `garbage::counts::count_named` meets its contract.
+use Rattle.std.specs.Prelude.{Some}
 use mathlib.Core.Path.{◌≡◌, sym, ◌∙◌}
 use mathlib.Core.List.{[], ◌∷◌}
 use Prim.Native.Nat.{ℕ, ◌<◌}
@@ -7,7 +8,6 @@ use lib.ListN.{set}
 use Rattle.model.specs.Value.{uuid_of}
 use Rattle.model.specs.Rows.{key_of}
 use Rattle.inner.specs.Working.{working, place}
-use Rattle.model.specs.declared.Found.TheVariants.{At}
 use Rattle.garbage.specs.Counts.{Counted}
 use Rattle.garbage.proofs.Counting.{counted_none, counted_own, counted_one, place_within, one_room}
 use Rattle.garbage.proofs.counts.count_named.Goals as goal
@@ -20,16 +20,16 @@ returns-in_default c =
 pub returns-then-i-own : goal.returns-then-i-own
 returns-then-i-own c =
     let key : ℕ = key_of c.args.table (uuid_of c.args.atom.now) in
-    let spot : ℕ = c.in-At.i in
-    let found_at_lem : place key (working [] c.args.n c.args.rows.now) ≡ At spot = sym (c.find_key-found.ensures []) ∙ c.in-At.is in
+    let spot : ℕ = c.in-Some.i in
+    let found_at_lem : place key (working [] c.args.n c.args.rows.now) ≡ Some spot = sym (c.find_key-found.ensures []) ∙ c.in-Some.is in
     let a = c.args in
     counted_own a.n a.rows.now c.requires.ordered.0 (key) a.up a.own a.counts.now (spot) (found_at_lem) c.if-i-own.true
 
 pub offset_bounds-counts-i : goal.offset_bounds-counts-i
 offset_bounds-counts-i c =
     let key : ℕ = key_of c.args.table (uuid_of c.args.atom.now) in
-    let spot : ℕ = c.in-At.i in
-    let found_at_lem : place key (working [] c.args.n c.args.rows.now) ≡ At spot = sym (c.find_key-found.ensures []) ∙ c.in-At.is in
+    let spot : ℕ = c.in-Some.i in
+    let found_at_lem : place key (working [] c.args.n c.args.rows.now) ≡ Some spot = sym (c.find_key-found.ensures []) ∙ c.in-Some.is in
     let within : spot < c.args.n = let a = c.args in
     place_within a.n a.rows.now c.requires.ordered.0 (key) a.up a.own a.counts.now (spot) (found_at_lem) c.if-i-own.false in
     omega (arith, within, c.requires.ordered.1, c.well_formed)
@@ -37,8 +37,8 @@ offset_bounds-counts-i c =
 pub bounds-counts-i : goal.bounds-counts-i
 bounds-counts-i c =
     let key : ℕ = key_of c.args.table (uuid_of c.args.atom.now) in
-    let spot : ℕ = c.in-At.i in
-    let found_at_lem : place key (working [] c.args.n c.args.rows.now) ≡ At spot = sym (c.find_key-found.ensures []) ∙ c.in-At.is in
+    let spot : ℕ = c.in-Some.i in
+    let found_at_lem : place key (working [] c.args.n c.args.rows.now) ≡ Some spot = sym (c.find_key-found.ensures []) ∙ c.in-Some.is in
     let within : spot < c.args.n = let a = c.args in
     place_within a.n a.rows.now c.requires.ordered.0 (key) a.up a.own a.counts.now (spot) (found_at_lem) c.if-i-own.false in
     omega (arith, within, c.requires.ordered.1)
@@ -46,16 +46,16 @@ bounds-counts-i c =
 pub moved-d-requires : goal.moved-d-requires
 moved-d-requires c =
     let key : ℕ = key_of c.args.table (uuid_of c.args.atom.now) in
-    let spot : ℕ = c.in-At.i in
-    let found_at_lem : place key (working [] c.args.n c.args.rows.now) ≡ At spot = sym (c.find_key-found.ensures []) ∙ c.in-At.is in
+    let spot : ℕ = c.in-Some.i in
+    let found_at_lem : place key (working [] c.args.n c.args.rows.now) ≡ Some spot = sym (c.find_key-found.ensures []) ∙ c.in-Some.is in
     let a = c.args in
     one_room a.n a.rows.now c.requires.ordered.0 (key) a.up a.own a.counts.now (spot) (found_at_lem) c.if-i-own.false c.requires.room
 
 pub offset_bounds-counts-i-2 : goal.offset_bounds-counts-i-2
 offset_bounds-counts-i-2 c =
     let key : ℕ = key_of c.args.table (uuid_of c.args.atom.now) in
-    let spot : ℕ = c.in-At.i in
-    let found_at_lem : place key (working [] c.args.n c.args.rows.now) ≡ At spot = sym (c.find_key-found.ensures []) ∙ c.in-At.is in
+    let spot : ℕ = c.in-Some.i in
+    let found_at_lem : place key (working [] c.args.n c.args.rows.now) ≡ Some spot = sym (c.find_key-found.ensures []) ∙ c.in-Some.is in
     let within : spot < c.args.n = let a = c.args in
     place_within a.n a.rows.now c.requires.ordered.0 (key) a.up a.own a.counts.now (spot) (found_at_lem) c.if-i-own.false in
     omega (arith, within, c.requires.ordered.1, c.well_formed)
@@ -63,8 +63,8 @@ offset_bounds-counts-i-2 c =
 pub bounds-counts-i-2 : goal.bounds-counts-i-2
 bounds-counts-i-2 c =
     let key : ℕ = key_of c.args.table (uuid_of c.args.atom.now) in
-    let spot : ℕ = c.in-At.i in
-    let found_at_lem : place key (working [] c.args.n c.args.rows.now) ≡ At spot = sym (c.find_key-found.ensures []) ∙ c.in-At.is in
+    let spot : ℕ = c.in-Some.i in
+    let found_at_lem : place key (working [] c.args.n c.args.rows.now) ≡ Some spot = sym (c.find_key-found.ensures []) ∙ c.in-Some.is in
     let within : spot < c.args.n = let a = c.args in
     place_within a.n a.rows.now c.requires.ordered.0 (key) a.up a.own a.counts.now (spot) (found_at_lem) c.if-i-own.false in
     omega (arith, within, c.requires.ordered.1)
@@ -72,17 +72,17 @@ bounds-counts-i-2 c =
 pub returns-then-d-eq0 : goal.returns-then-d-eq0
 returns-then-d-eq0 c =
     let key : ℕ = key_of c.args.table (uuid_of c.args.atom.now) in
-    let spot : ℕ = c.in-At.i in
-    let found_at_lem : place key (working [] c.args.n c.args.rows.now) ≡ At spot = sym (c.find_key-found.ensures []) ∙ c.in-At.is in
+    let spot : ℕ = c.in-Some.i in
+    let found_at_lem : place key (working [] c.args.n c.args.rows.now) ≡ Some spot = sym (c.find_key-found.ensures []) ∙ c.in-Some.is in
     let counted : let a = c.args in Counted a.up a.n a.rows.now a.own (key ∷ []) a.counts.now (set a.counts.now (spot) c.moved-d.result) = let a = c.args in
     counted_one a.n a.rows.now c.requires.ordered.0 (key) a.up a.own a.counts.now (spot) (found_at_lem) c.if-i-own.false c.requires.ordered.1 c.moved-d.result c.moved-d.ensures in
     counted
 
-pub returns : goal.returns
-returns c =
+pub returns-else-d-eq0 : goal.returns-else-d-eq0
+returns-else-d-eq0 c =
     let key : ℕ = key_of c.args.table (uuid_of c.args.atom.now) in
-    let spot : ℕ = c.in-At.i in
-    let found_at_lem : place key (working [] c.args.n c.args.rows.now) ≡ At spot = sym (c.find_key-found.ensures []) ∙ c.in-At.is in
+    let spot : ℕ = c.in-Some.i in
+    let found_at_lem : place key (working [] c.args.n c.args.rows.now) ≡ Some spot = sym (c.find_key-found.ensures []) ∙ c.in-Some.is in
     let counted : let a = c.args in Counted a.up a.n a.rows.now a.own (key ∷ []) a.counts.now (set a.counts.now (spot) c.moved-d.result) = let a = c.args in
     counted_one a.n a.rows.now c.requires.ordered.0 (key) a.up a.own a.counts.now (spot) (found_at_lem) c.if-i-own.false c.requires.ordered.1 c.moved-d.result c.moved-d.ensures in
     counted

@@ -9,7 +9,7 @@ use Rattle.model.specs.Value.{elements}
 use Rattle.model.specs.Commit.{keys_of, strongly}
 use Rattle.model.specs.Catalog.{packed_tables}
 use Rattle.inner.specs.Working.{table_in, value_in}
-use Rattle.references.specs.Links.{pick, target_table}
+use Rattle.references.specs.Links.{pick}
 use Rattle.references.proofs.Packs.{few_columns_lem}
 use Rattle.references.proofs.Links.{rest_of, here, rest_all, rest_end, rest_on, here_target}
 use Rattle.garbage.specs.Counts.{Room, Counted}
@@ -17,26 +17,20 @@ use Rattle.garbage.proofs.Counting.{left_start, left_on, left_end, room_on}
 use Rattle.garbage.proofs.counts.count_row.Invariants.{strong_in}
 use Rattle.garbage.proofs.counts.count_row.Goals as goal
 
-pub width-w-requires : goal.width-w-requires
-width-w-requires c = c.requires.accepted
-
 pub loop-c-init : goal.loop-c-init
 unfolding pick
 loop-c-init c =
     let a = c.args in
     (omega arith, refl, left_start a.up a.n a.rows.now a.own (strong_in a.schema.now a.row.now) a.counts.now (rest_of strongly a.schema.now a.row.now 0) (rest_all strongly a.schema.now a.row.now))
 
-pub refers-to-requires : goal.refers-to-requires
-refers-to-requires c = record { accepted = c.requires.accepted; c_in_bounds = omega (arith, c.width-w.ensures, c.loop-c-test.true) }
-
-pub count_column-z-requires : goal.count_column-z-requires
-count_column-z-requires c =
+pub count_column-zeros-requires : goal.count_column-zeros-requires
+count_column-zeros-requires c =
     let schema : List (List ℕ) = c.args.schema.now in
     let row : List (List ℕ) = c.args.row.now in
     let at : ℕ = c.loop-c.c in
     let few : at < 6 = omega (arith, few_columns_lem schema c.requires.accepted c.table_of-table.result, c.width-w.ensures, c.loop-c-test.true) in
     let within : at < length (columns_of (packed_tables schema) (table_in row)) = omega (arith, c.loop-c-test.true, c.width-w.ensures, ap (λ (t : ℕ). length (columns_of (packed_tables schema) t)) c.table_of-table.ensures) in
-    let same : keys_of (target_table c.refers-to.result) (elements (value_in at row)) ≡ here (pick 1) schema row at = here_target schema row 1 c.table_of-table.result at c.table_of-table.ensures (target_table c.refers-to.result) c.refers-to.ensures in
+    let same : keys_of c.refers-to.result (elements (value_in at row)) ≡ here (pick 1) schema row at = here_target schema row 1 c.table_of-table.result at c.table_of-table.ensures c.refers-to.result c.refers-to.ensures in
     let keys : rest_of (pick 1) schema row at ≡ here (pick 1) schema row at ++ rest_of (pick 1) schema row (at + 1) = rest_on (pick 1) schema row c.requires.accepted at within in
     let a = c.args in
     let l = c.loop-c in
@@ -46,32 +40,22 @@ count_column-z-requires c =
           (room_on a.up a.n a.rows.now a.own (strong_in (schema) (row)) a.counts.now (rest_of (pick 1) (schema) (row) (at)) (here (pick 1) (schema) (row) (at)) (rest_of (pick 1) (schema) (row) (at + 1)) l.counts (keys) l.invariant.2 c.requires.room);
     }
 
-pub overflow_add-c : goal.overflow_add-c
-overflow_add-c c =
-    let schema : List (List ℕ) = c.args.schema.now in
-    let at : ℕ = c.loop-c.c in
-    let few : at < 6 = omega (arith, few_columns_lem schema c.requires.accepted c.table_of-table.result, c.width-w.ensures, c.loop-c-test.true) in
-    omega (arith, few)
-
 pub loop-c-preserved : goal.loop-c-preserved
 loop-c-preserved c =
     let schema : List (List ℕ) = c.args.schema.now in
     let row : List (List ℕ) = c.args.row.now in
     let at : ℕ = c.loop-c.c in
     let within : at < length (columns_of (packed_tables schema) (table_in row)) = omega (arith, c.loop-c-test.true, c.width-w.ensures, ap (λ (t : ℕ). length (columns_of (packed_tables schema) t)) c.table_of-table.ensures) in
-    let same : keys_of (target_table c.refers-to.result) (elements (value_in at row)) ≡ here (pick 1) schema row at = here_target schema row 1 c.table_of-table.result at c.table_of-table.ensures (target_table c.refers-to.result) c.refers-to.ensures in
+    let same : keys_of c.refers-to.result (elements (value_in at row)) ≡ here (pick 1) schema row at = here_target schema row 1 c.table_of-table.result at c.table_of-table.ensures c.refers-to.result c.refers-to.ensures in
     let keys : rest_of (pick 1) schema row at ≡ here (pick 1) schema row at ++ rest_of (pick 1) schema row (at + 1) = rest_on (pick 1) schema row c.requires.accepted at within in
     let a = c.args in
     let l = c.loop-c in
-    let next = c.count_column-z.new.counts in (
+    let next = c.count_column-zeros.new.counts in (
       omega (arith, c.loop-c-test.true),
-      c.count_column-z.auto.counts ∙ l.invariant.1,
+      c.count_column-zeros.auto.counts ∙ l.invariant.1,
       left_on a.up a.n a.rows.now a.own (strong_in (schema) (row)) a.counts.now (rest_of (pick 1) (schema) (row) (at)) (here (pick 1) (schema) (row) (at)) (rest_of (pick 1) (schema) (row) (at + 1)) l.counts (keys) l.invariant.2 next
-          (subst (λ (ks : List ℕ). Counted a.up a.n a.rows.now a.own ks l.counts next) (same) c.count_column-z.ensures),
+          (subst (λ (ks : List ℕ). Counted a.up a.n a.rows.now a.own ks l.counts next) (same) c.count_column-zeros.ensures),
     )
-
-pub shape_of-counts : goal.shape_of-counts
-shape_of-counts c = c.loop-c.invariant.1
 
 pub returns : goal.returns
 returns c =

@@ -1,7 +1,7 @@
 -- The loop of `garbage::counts::count_row`.
 use mathlib.Core.Path.{◌≡◌}
 use mathlib.Core.List.{List}
-use Prim.Native.Nat.{ℕ, ◌-◌, ◌≤◌}
+use Prim.Native.Nat.{ℕ, ◌≤◌}
 use lib.ListN.{length}
 use Rattle.model.specs.Commit.{strong_of}
 use Rattle.model.specs.Areas.{row_from}
@@ -17,6 +17,3 @@ strong_in schema row = strong_of (packed_tables schema) (row_from (packed_tables
 
 abbrev pub invariant-loop-c : goal.invariant-loop-c
 invariant-loop-c l = (l.c ≤ l.w) × (length l.counts ≡ length l.initial.counts) × Left l.up l.n l.rows l.own (strong_in l.schema l.row) l.initial.counts (rest_of (pick 1) l.schema l.row l.c) l.counts
-
-abbrev pub decreases-loop-c : goal.decreases-loop-c
-decreases-loop-c l = l.w - l.c

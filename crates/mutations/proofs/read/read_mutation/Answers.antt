@@ -12,23 +12,23 @@ returns-in_default c =
 
 pub offset_bounds-columns-i : goal.offset_bounds-columns-i
 offset_bounds-columns-i c =
-    let parts : let a = c.args in Parted a.text.now a.columns.now a.at c.in-Of.i c.in-Of.m c.in-Of.v = let a = c.args in
-    parted a.text.now a.names.now a.columns.now a.at c.parts_at-t.ensures c.in-Of.is in
+    let parts : let a = c.args in Parted a.text.now a.columns.now a.at c.in-Some.i c.in-Some.m c.in-Some.v = let a = c.args in
+    parted a.text.now a.names.now a.columns.now a.at c.parts_at-t.ensures c.in-Some.is in
     omega (arith, c.well_formed, (parts).place)
 
 pub bounds-columns-i : goal.bounds-columns-i
 bounds-columns-i c =
-    let parts : let a = c.args in Parted a.text.now a.columns.now a.at c.in-Of.i c.in-Of.m c.in-Of.v = let a = c.args in
-    parted a.text.now a.names.now a.columns.now a.at c.parts_at-t.ensures c.in-Of.is in
+    let parts : let a = c.args in Parted a.text.now a.columns.now a.at c.in-Some.i c.in-Some.m c.in-Some.v = let a = c.args in
+    parted a.text.now a.names.now a.columns.now a.at c.parts_at-t.ensures c.in-Some.is in
     (parts).place
 
 pub mutation_value-g-requires : goal.mutation_value-g-requires
 mutation_value-g-requires c =
-    let parts : let a = c.args in Parted a.text.now a.columns.now a.at c.in-Of.i c.in-Of.m c.in-Of.v = let a = c.args in
-    parted a.text.now a.names.now a.columns.now a.at c.parts_at-t.ensures c.in-Of.is in
+    let parts : let a = c.args in Parted a.text.now a.columns.now a.at c.in-Some.i c.in-Some.m c.in-Some.v = let a = c.args in
+    parted a.text.now a.names.now a.columns.now a.at c.parts_at-t.ensures c.in-Some.is in
     record { running = c.requires.running; at_value = (parts).well }
 
 pub returns : goal.returns
 returns c =
     let a = c.args in
-    read_is a.text.now a.names.now a.columns.now a.at c.parts_at-t.ensures c.in-Of.is c.mutation_value-g.ensures c.column_fault-f.ensures
+    read_is a.text.now a.names.now a.columns.now a.at c.parts_at-t.ensures c.in-Some.is c.mutation_value-g.ensures c.column_fault-f.ensures

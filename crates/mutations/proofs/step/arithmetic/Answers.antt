@@ -4,7 +4,7 @@ use mathlib.Core.List.{List}
 use Prim.Native.Nat.{ℕ, min}
 use native.Mathlib.Omega.{arith}
 use lib.IntN.{ℤ}
-use lib.ListN.{length, take, length-take}
+use lib.ListN.{length, take}
 use lib.Seq.{length-take-le}
 use Rattle.model.specs.Value.{int_of}
 use Rattle.model.specs.Faults.{Judged}
@@ -16,12 +16,6 @@ use Rattle.mutations.specs.Steps.{elements_of, arithmetic_on}
 use Rattle.mutations.proofs.Calculating.{int_in_lem, arithmetic_value}
 use Rattle.mutations.proofs.Stepping.{stepped_set, stepped_stop, stepped_as}
 use Rattle.mutations.proofs.step.arithmetic.Goals as goal
-
-pub slice_bounds-results-end : goal.slice_bounds-results-end
-slice_bounds-results-end c = sym (length-take-le c.size-n.result c.atoms_in-atoms.result.now (omega (arith, c.size-n.ensures, c.atoms_in-atoms.ensures.1)))
-
-pub results-f-requires : goal.results-f-requires
-results-f-requires c = omega (arith, length-take c.size-n.result c.atoms_in-atoms.result.now, c.atoms_in-atoms.ensures.1)
 
 pub returns-then-ok : goal.returns-then-ok
 unfolding elements_of

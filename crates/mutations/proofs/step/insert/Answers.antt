@@ -1,10 +1,9 @@
 -- `mutations::step::insert` meets its contract.
-use mathlib.Core.Path.{◌≡◌, sym, ap, ◌∙◌, refl}
+use mathlib.Core.Path.{◌≡◌, ap, ◌∙◌, refl}
 use mathlib.Core.List.{List}
 use Prim.Native.Nat.{ℕ, min}
 use native.Mathlib.Omega.{arith}
 use lib.ListN.{length, take}
-use lib.Seq.{length-take-le}
 use Rattle.model.specs.Catalog.{base_numbered}
 use Rattle.model.specs.Value.{union}
 use Rattle.model.specs.Catalog.{column_from}
@@ -15,9 +14,6 @@ use Rattle.mutations.specs.Steps.{elements_of, inserted_on}
 use Rattle.value.proofs.Fours.{padded}
 use Rattle.mutations.proofs.Stepping.{stepped_set, stepped_stop, insert_many, insert_most_lem, insert_good, insert_value}
 use Rattle.mutations.proofs.step.insert.Goals as goal
-
-pub slice_bounds-union_count-end : goal.slice_bounds-union_count-end
-slice_bounds-union_count-end c = sym (length-take-le c.size-n.result c.atoms_of-atoms.result (omega (arith, c.size-n.ensures, c.atoms_of-atoms.type_inv)))
 
 pub returns-then-u-gt-ELEMENTS : goal.returns-then-u-gt-ELEMENTS
 unfolding elements_of
@@ -44,11 +40,6 @@ returns-then-max-u c =
     let a = c.args in
     let z = column_from a.column.now in
     stepped_stop (inserted_on z a.more.now (elements_of a.c a.row.now)) a.c Constraint a.row.now (insert_most_lem z a.more.now (elements_of a.c a.row.now) c.union_count-u.result (count) c.if-u-gt-ELEMENTS.false (omega (arith, c.if-max-u.true, c.wide-max.ensures, c.maximum.ensures))) refl
-
-pub unite-all-requires : goal.unite-all-requires
-unite-all-requires c =
-    let a = c.args in
-    record { n_le_most_elements = omega (arith, c.size-n.ensures); more_len_bound = omega (arith, c.union_count-u.ensures (base_numbered c.kind-kind.result), c.if-u-gt-ELEMENTS.false) }
 
 pub returns : goal.returns
 unfolding elements_of

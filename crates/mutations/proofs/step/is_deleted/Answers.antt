@@ -1,7 +1,5 @@
 -- `mutations::step::is_deleted` meets its contract.
 use mathlib.Core.Path.{sym, ap, ◌∙◌}
-use native.Mathlib.Omega.{arith}
-use lib.Seq.{length-take-le}
 use Rattle.model.specs.Base.{member}
 use Rattle.model.specs.Catalog.{base_numbered}
 use Rattle.uuids.specs.Named.{names_at}
@@ -10,18 +8,10 @@ use Rattle.request_values.specs.Values.{atoms_as}
 use Rattle.mutations.proofs.Stepping.{read_held, read_text}
 use Rattle.mutations.proofs.step.is_deleted.Goals as goal
 
-pub slice_bounds-member-end : goal.slice_bounds-member-end
-slice_bounds-member-end c =
-    let a = c.args in
-    sym (length-take-le a.m.count a.atoms.now (omega (arith, c.well_formed, c.requires.ready.few c.if-m.true)))
-
 pub returns-then-m : goal.returns-then-m
 returns-then-m c =
     let a = c.args in
     c.member.ensures ∙ ap (member a.x.now) (sym (read_held a.text.now a.names.now (base_numbered a.kind) a.m a.atoms.now c.if-m.true))
-
-pub elements_at-e-requires : goal.elements_at-e-requires
-elements_at-e-requires c = record { says = c.requires.running.says; at_value = c.requires.ready.well c.if-m.false }
 
 pub returns : goal.returns
 unfolding atoms_as

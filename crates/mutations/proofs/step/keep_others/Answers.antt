@@ -1,5 +1,5 @@
 -- `mutations::step::keep_others` meets its contract.
-use mathlib.Core.Path.{refl, sym, ap, subst, ◌∙◌}
+use mathlib.Core.Path.{sym, ap, subst, ◌∙◌}
 use mathlib.Core.Bool.{not}
 use mathlib.Core.List.{List, [], ◌∷◌}
 use mathlib.Core.Logic.{⊎_elim}
@@ -16,72 +16,47 @@ use Rattle.mutations.specs.Steps.{Kept}
 use Rattle.mutations.specs.Mutating.{elements_read}
 use Rattle.mutations.proofs.step.keep_others.Goals as goal
 
-pub loop-i-init : goal.loop-i-init
-loop-i-init c = (omega arith, record { size = refl; cells = refl })
+pub is_deleted-requires : goal.is_deleted-requires
+is_deleted-requires c = record { running = c.requires.running; ready = c.requires.ready }
 
-pub is_deleted-gone-requires : goal.is_deleted-gone-requires
-is_deleted-gone-requires c = record { running = c.requires.running; ready = c.requires.ready }
+-- fewer are kept than were seen, and so fewer than four
+room : (g xs : List (List ℕ)) (i n : ℕ) {out : List (List ℕ)} → i < length xs → length xs ≤ 4 → Kept (without g (take i xs)) n out → n < 4
+room g xs i n h f k = omega (arith, k.size, length_keep (λ (y : List ℕ). not (member y g)) (take i xs), length-take-le i xs (omega arith))
 
 pub offset_bounds-out-n : goal.offset_bounds-out-n
-offset_bounds-out-n c =
-    let few : c.loop-i.n ≤ c.loop-i.i = let a = c.args in
-    let o = c.loop-i in
-    omega (arith, o.invariant.1.size, length_keep (λ (y : List ℕ). not (member y (elements_read a.text.now a.names.now (base_numbered a.kind) a.m a.atoms.now))) (take o.i a.xs.now), length-take-le o.i a.xs.now o.invariant.0) in
-    let room : c.loop-i.n < 4 = omega (arith, few, c.loop-i-test.true, c.requires.xs_len_bound) in
-    omega (arith, room)
+offset_bounds-out-n c = let few = room _ _ _ c.loop-x.n c.loop-x-test.true c.requires.xs_len_bound c.loop-x.invariant in omega (arith, few)
 
 pub bounds-out-n : goal.bounds-out-n
-bounds-out-n c =
-    let few : c.loop-i.n ≤ c.loop-i.i = let a = c.args in
-    let o = c.loop-i in
-    omega (arith, o.invariant.1.size, length_keep (λ (y : List ℕ). not (member y (elements_read a.text.now a.names.now (base_numbered a.kind) a.m a.atoms.now))) (take o.i a.xs.now), length-take-le o.i a.xs.now o.invariant.0) in
-    let room : c.loop-i.n < 4 = omega (arith, few, c.loop-i-test.true, c.requires.xs_len_bound) in
-    room
+bounds-out-n c = room _ _ _ c.loop-x.n c.loop-x-test.true c.requires.xs_len_bound c.loop-x.invariant
 
 pub overflow_add-n : goal.overflow_add-n
-overflow_add-n c =
-    let few : c.loop-i.n ≤ c.loop-i.i = let a = c.args in
-    let o = c.loop-i in
-    omega (arith, o.invariant.1.size, length_keep (λ (y : List ℕ). not (member y (elements_read a.text.now a.names.now (base_numbered a.kind) a.m a.atoms.now))) (take o.i a.xs.now), length-take-le o.i a.xs.now o.invariant.0) in
-    let room : c.loop-i.n < 4 = omega (arith, few, c.loop-i-test.true, c.requires.xs_len_bound) in
-    omega (arith, room)
+overflow_add-n c = let few = room _ _ _ c.loop-x.n c.loop-x-test.true c.requires.xs_len_bound c.loop-x.invariant in omega (arith, few)
 
-pub overflow_add-i : goal.overflow_add-i
-overflow_add-i c = omega (arith, c.loop-i-test.true, c.requires.xs_len_bound)
-
-pub loop-i-smaller : goal.loop-i-smaller
-loop-i-smaller c = omega (arith, c.loop-i-test.true)
-
-pub loop-i-preserved : goal.loop-i-preserved
-loop-i-preserved c =
-    let few : c.loop-i.n ≤ c.loop-i.i = let a = c.args in
-    let o = c.loop-i in
-    omega (arith, o.invariant.1.size, length_keep (λ (y : List ℕ). not (member y (elements_read a.text.now a.names.now (base_numbered a.kind) a.m a.atoms.now))) (take o.i a.xs.now), length-take-le o.i a.xs.now o.invariant.0) in
-    let room : c.loop-i.n < 4 = omega (arith, few, c.loop-i-test.true, c.requires.xs_len_bound) in
+pub loop-x-preserved : goal.loop-x-preserved
+loop-x-preserved c =
     let a = c.args in
-    let o = c.loop-i in
+    let o = c.loop-x in
     let g = elements_read a.text.now a.names.now (base_numbered a.kind) a.m a.atoms.now in
-    let h = c.loop-i-test.true in
-    let x = get_or a.xs.now o.i [] in
-    let r = without g (take o.i a.xs.now) in
-    let k = o.invariant.1 in
+    let h = c.loop-x-test.true in
+    let x = get_or a.xs.now o.x-index [] in
+    let r = without g (take o.x-index a.xs.now) in
+    let k = o.invariant in
+    let few : o.n < 4 = room g a.xs.now o.x-index o.n h c.requires.xs_len_bound k in
     ⊎_elim
     (λ w.
-    let e = left_in g a.xs.now o.i h (sym c.is_deleted-gone.ensures ∙ w.if-not-gone.true) in (
-      omega (arith, h),
-      record {
-        size = w.n-is ∙ sym (ap length e ∙ length-append r (x ∷ []) ∙ ap (λ (j : ℕ). j + 1) (sym k.size));
-        cells = w.out-is ∙ set_padded r o.out o.n x k.cells k.size (omega (arith, room, k.size)) ∙ ap padded (sym e);
-      },
-    ))
+    let e = left_in g a.xs.now o.x-index h (sym c.is_deleted.ensures ∙ w.if-not-is_deleted.true) in
+    record {
+      size = w.n-is ∙ sym (ap length e ∙ length-append r (x ∷ []) ∙ ap (λ (j : ℕ). j + 1) (sym k.size));
+      cells = w.out-is ∙ set_padded r o.out o.n x k.cells k.size (omega (arith, few, k.size)) ∙ ap padded (sym e);
+    })
     (λ w.
-    let e = left_out g a.xs.now o.i h (sym c.is_deleted-gone.ensures ∙ w.if-not-gone.false) in
-    (omega (arith, h), record { size = w.n-is ∙ k.size ∙ ap length (sym e); cells = w.out-is ∙ k.cells ∙ ap padded (sym e) }))
-    c.if-not-gone.branch-raw
+    let e = left_out g a.xs.now o.x-index h (sym c.is_deleted.ensures ∙ w.if-not-is_deleted.false) in
+    record { size = w.n-is ∙ k.size ∙ ap length (sym e); cells = w.out-is ∙ k.cells ∙ ap padded (sym e) })
+    c.if-not-is_deleted.branch-raw
 
 pub returns : goal.returns
 returns c =
     let a = c.args in
-    let o = c.loop-i in
+    let o = c.loop-x in
     let g = elements_read a.text.now a.names.now (base_numbered a.kind) a.m a.atoms.now in
-    subst (λ (y : List (List ℕ)). Kept (without g y) o.n o.out) (take_all o.i a.xs.now c.loop-i-test.false) o.invariant.1
+    subst (λ (y : List (List ℕ)). Kept (without g y) o.n o.out) (take_all o.x-index a.xs.now c.loop-x-test.false) o.invariant

@@ -2,11 +2,9 @@
 use mathlib.Core.Path.{◌≡◌, sym, ap, ◌∙◌}
 use mathlib.Core.Bool.{true}
 use mathlib.Core.List.{List, []}
-use Prim.Native.Nat.{ℕ, ◌<◌}
-use native.Mathlib.Omega.{arith}
+use Prim.Native.Nat.{ℕ}
 use lib.IntN.{ℤ}
 use lib.ListN.{get_or}
-use lib.Seq.{length-take-le}
 use Rattle.model.specs.Catalog.{column_from}
 use Rattle.model.specs.Conditions.{first_int}
 use Rattle.mutations.specs.Steps.{elements_of, arithmetic_on, inserted_on}
@@ -14,36 +12,6 @@ use Rattle.mutations.specs.Mutating.{elements_read}
 use Rattle.mutations.proofs.Stepping.{stepped_as, insert_arm, delete_arm, arithmetic_arm, read_held, insert_held, five_held}
 use Rattle.mutations.proofs.Rowing.{row_stepped}
 use Rattle.mutations.proofs.step.mutate_row.Goals as goal
-
-pub offset_bounds-columns-c : goal.offset_bounds-columns-c
-offset_bounds-columns-c c =
-    let inside : c.args.m.place < 6 = omega (arith, c.requires.place_in_bounds.0, c.requires.place_in_bounds.1) in
-    omega (arith, inside)
-
-pub bounds-columns-c : goal.bounds-columns-c
-bounds-columns-c c = c.requires.place_in_bounds.0
-
-pub slice_bounds-insert-end : goal.slice_bounds-insert-end
-slice_bounds-insert-end c =
-    let held : c.args.m.fits ≡ true = insert_held c.args.text.now c.args.m c.args.atoms.now c.requires.ready c.in-Insert.is in
-    sym (length-take-le c.args.m.count c.args.atoms.now (omega (arith, c.well_formed, c.requires.ready.few (held))))
-
-pub insert-requires : goal.insert-requires
-insert-requires c =
-    let held : c.args.m.fits ≡ true = insert_held c.args.text.now c.args.m c.args.atoms.now c.requires.ready c.in-Insert.is in
-    let inside : c.args.m.place < 6 = omega (arith, c.requires.place_in_bounds.0, c.requires.place_in_bounds.1) in
-    let few = c.requires.ready.few (held) in
-    record { c_lt_most_columns = inside; more_len_bound = omega (arith, few, length-take-le c.args.m.count c.args.atoms.now (omega (arith, c.well_formed, few))) }
-
-pub delete-requires : goal.delete-requires
-delete-requires c =
-    let inside : c.args.m.place < 6 = omega (arith, c.requires.place_in_bounds.0, c.requires.place_in_bounds.1) in
-    record { running = c.requires.running; ready = c.requires.ready; place_lt_most_columns = inside }
-
-pub arithmetic-requires : goal.arithmetic-requires
-arithmetic-requires c =
-    let inside : c.args.m.place < 6 = omega (arith, c.requires.place_in_bounds.0, c.requires.place_in_bounds.1) in
-    inside
 
 pub returns-in-Insert : goal.returns-in-Insert
 returns-in-Insert c =

@@ -6,14 +6,14 @@ use Rattle.operations.proofs.clauses.taken_fault.Goals as goal
 pub returns-then-k-i : goal.returns-then-k-i
 returns-then-k-i c =
     let a = c.args in
-    taken_before a.text.now a.names.now a.i (word_in (tree_at a.text.now a.p)) c.place_of-f.ensures c.in-At.is c.if-k-i.true
+    taken_before a.text.now a.names.now a.i (word_in (tree_at a.text.now a.p)) c.place_of-f.ensures c.in-Some.is c.if-k-i.true
 
 pub returns-else-k-i : goal.returns-else-k-i
 returns-else-k-i c =
     let a = c.args in
-    taken_later a.text.now a.names.now a.i (word_in (tree_at a.text.now a.p)) c.place_of-f.ensures c.in-At.is c.if-k-i.false
+    taken_later a.text.now a.names.now a.i (word_in (tree_at a.text.now a.p)) c.place_of-f.ensures c.in-Some.is c.if-k-i.false
 
-pub returns-in-Nothing : goal.returns-in-Nothing
-returns-in-Nothing c =
+pub returns-in-None : goal.returns-in-None
+returns-in-None c =
     let a = c.args in
-    taken_never a.text.now a.names.now a.i (word_in (tree_at a.text.now a.p)) c.place_of-f.ensures c.in-Nothing.is
+    taken_never a.text.now a.names.now a.i (word_in (tree_at a.text.now a.p)) c.place_of-f.ensures c.in-None.is

@@ -14,4 +14,4 @@ pub returns : goal.returns
 unfolding words_of words_from
 returns c =
     let a = c.args in
-    operation_there a.text.now (members_in (tree_at a.text.now a.op)) c.find-f.ensures c.in-At.is c.choose-k.ensures c.operation_of.ensures
+    operation_there a.text.now (members_in (tree_at a.text.now a.op)) c.find-f.ensures c.in-Some.is c.choose-k.ensures c.operation_of.ensures
