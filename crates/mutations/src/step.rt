@@ -180,7 +180,8 @@ fn delete(
     let xs = rows::atoms_of(row, c);
     let mut left = [[0u8; ATOM]; ELEMENTS];
     let k = keep_others(text, ends, names, kind, m, atoms, &xs[..n], &mut left);
-    if k < min {
+    let few = k < min;
+    if few {
         return Fault::Constraint;
     }
     rows::set_column(row, c, k as u8, &left);

@@ -1,7 +1,7 @@
 // What several programs share: the texts in what one reads, and what is printed of bytes and of a status.
 #![tactic(auto)]
 
-ghost use Rattle.std.specs.Prelude.{◌≡◌, ◌≢◌, ℕ, ◌-◌, ◌<◌, ◌≤◌, true, false, length, take, slice_index, MatchOption};
+ghost use Rattle.std.specs.Prelude.{◌≡◌, ◌≢◌, ℕ, ◌-◌, ◌*◌, ◌/◌, ◌<◌, ◌≤◌, min, true, false, length, take, slice_index, MatchOption};
 ghost use Rattle.std.specs.Iterator.{at_most};
 ghost use Rattle.model.specs.Refusals.{number_of, is_refusal};
 ghost use Rattle.programs.specs.Texts.{LeadsTo, IsCut};
@@ -32,10 +32,35 @@ pub fn put(bytes: &[u8]) {
     io::write_all(1, bytes);
 }
 
-// Bytes in hexadecimal.
+// The hexadecimal digit of a number below 16.
+fn digit(n: u8) -> u8
+    requires { n < 16 }
+{
+    match n {
+        0..=9 => b'0' + n,
+        _ => b'a' + (n - 10),
+    }
+}
+
+// Bytes in hexadecimal at the start of a buffer, as far as there is room.
+fn hex<'a>(bytes: &[u8], out: &'a mut [u8]) -> &'a [u8]
+    ensures { length result.now ≡ 2 * min (length bytes.now) (length out.old / 2) }
+{
+    let n = bytes.len().min(out.len() / 2);
+    let out = &mut out[..2 * n];
+    for (pair, byte) in out.as_chunks_mut().0.iter_mut().zip(bytes) {
+        *pair = [digit(*byte / 16), digit(*byte % 16)];
+    }
+    out
+}
+
+// Bytes that are turned into hexadecimal at a time, so that as many are written at a time.
+const PART: usize = 1024;
+
+// Bytes in hexadecimal, to standard output.
 pub fn put_hex(bytes: &[u8]) {
-    for byte in bytes {
-        io::print_hex(1, u64::from(*byte), 2);
+    for part in bytes.chunks(PART) {
+        put(hex(part, &mut [0; 2 * PART]));
     }
 }
 

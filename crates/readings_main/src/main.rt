@@ -7,13 +7,18 @@
 //     lacking CALL         a call on an area that lacks its last byte
 #![tactic(auto)]
 
-ghost use Rattle.std.specs.Prelude.{◌<◌, ◌≤◌};
+ghost use Rattle.std.specs.Prelude.{◌≡◌, ◌/◌, ◌<◌, ◌≤◌, min, length};
 
 use model::{STORE_BYTES, Status};
 use programs::{put, put_hex, refusal_of, used};
-use std::alloc::{AllocError, Global};
 
-// Bytes of a call's records and of its answer, at most.
+// Bytes of a schema, a request and its fresh ids, of a call's records and of its answer, at most.
+const SCHEMA: usize = 5000;
+
+const REQUEST: usize = 9000;
+
+const FRESH: usize = 300;
+
 const RECORDS: usize = 26349;
 
 const ANSWER: usize = 20000;
@@ -66,15 +71,18 @@ fn value_of(digit: u8) -> u8
     }
 }
 
-// The bytes that a field stands for.
-fn bytes(alloc: Global, field: &[u8]) -> Result<Vec<u8>, AllocError> {
-    let mut bytes = Vec::new(alloc);
-    for pair in field.chunks_exact(2) {
+// The bytes that a field stands for, at the start of a buffer, as far as there is room.
+fn bytes<'a>(field: &[u8], out: &'a mut [u8]) -> &'a [u8]
+    ensures { length result.now ≡ min (length out.old) (length field.now / 2) }
+{
+    let n = out.len().min(field.len() / 2);
+    let out = &mut out[..n];
+    for (byte, pair) in out.iter_mut().zip(field.chunks_exact(2)) {
         if let [high, low] = pair {
-            bytes.push(16 * value_of(*high) + value_of(*low))?;
+            *byte = 16 * value_of(*high) + value_of(*low);
         }
     }
-    Ok(bytes)
+    out
 }
 
 // The number that a field stands for, or the largest.
@@ -92,32 +100,48 @@ fn at_most(field: &[u8], most: usize) -> usize
     most.min(number(field) as usize)
 }
 
-fn start(alloc: Global, area: &mut [u8], fields: &[u8]) -> Result<(), AllocError> {
+fn start(area: &mut [u8], fields: &[u8]) {
     let (schema, fields) = cut(fields);
     let (run, _) = cut(fields);
-    let schema = bytes(alloc, schema)?;
-    let status = store::start(area, schema.as_slice(), number(run));
+    let mut space = [0; SCHEMA];
+    let status = store::start(area, bytes(schema, &mut space), number(run));
     put(b"start ");
     put_status(status);
-    Ok(())
+}
+
+// Records that a call has to write over.
+fn old_records() -> [u8; RECORDS] {
+    [255; RECORDS]
+}
+
+// An answer that a call has to write over.
+fn old_answer() -> [u8; ANSWER] {
+    [255; ANSWER]
+}
+
+// A request with its fresh ids on buffers of two lengths.
+fn call(area: &mut [u8], request: &[u8], fresh: &[u8], lengths: &[u8]) {
+    let (length, lengths) = cut(lengths);
+    let mut records = old_records();
+    let records = &mut records[..at_most(length, RECORDS)];
+    let (length, _) = cut(lengths);
+    let mut answer = old_answer();
+    let answer = &mut answer[..at_most(length, ANSWER)];
+    let status = store::transact(area, request, fresh, records, answer);
+    put(b"transact ");
+    put_status(status);
+    put_text(answer);
+    put_bytes(records);
 }
 
 // A request with its fresh ids, and the lengths of the buffers, which a call has to write over.
-fn transact(alloc: Global, area: &mut [u8], fields: &[u8]) -> Result<(), AllocError> {
+fn transact(area: &mut [u8], fields: &[u8]) {
     let (request, fields) = cut(fields);
-    let (fresh, fields) = cut(fields);
-    let (length, fields) = cut(fields);
-    let mut records = vec![in alloc; 255u8; at_most(length, RECORDS)]?;
-    let (length, _) = cut(fields);
-    let mut answer = vec![in alloc; 255u8; at_most(length, ANSWER)]?;
-    let request = bytes(alloc, request)?;
-    let fresh = bytes(alloc, fresh)?;
-    let status = store::transact(area, &request, &fresh, &mut records, &mut answer);
-    put(b"transact ");
-    put_status(status);
-    put_text(&answer);
-    put_bytes(&records);
-    Ok(())
+    let (fresh, lengths) = cut(fields);
+    let mut space = [0; REQUEST];
+    let request = bytes(request, &mut space);
+    let mut space = [0; FRESH];
+    call(area, request, bytes(fresh, &mut space), lengths);
 }
 
 fn mark(area: &[u8], fields: &[u8]) {
@@ -131,48 +155,42 @@ fn mark(area: &[u8], fields: &[u8]) {
 }
 
 // Bytes put at a place of the area, as far as it has room.
-fn put_at(alloc: Global, area: &mut [u8], fields: &[u8]) -> Result<(), AllocError> {
+fn put_at(area: &mut [u8], fields: &[u8]) {
     let (place, fields) = cut(fields);
     let (field, _) = cut(fields);
-    let bytes = bytes(alloc, field)?;
     let at = at_most(place, area.len());
-    let room = &mut area[at..];
-    let n = bytes.len().min(room.len());
-    room[..n].copy_from_slice(&bytes[..n]);
+    let n = bytes(field, &mut area[at..]).len();
     put(b"put ");
     io::print_decimal(1, n as u64);
-    Ok(())
 }
 
 // One call, by its first letter.
-fn one(alloc: Global, area: &mut [u8], line: &[u8]) -> Result<(), AllocError> {
+fn one(area: &mut [u8], line: &[u8]) {
     let (_, fields) = cut(line);
     match line {
-        [b's', ..] => start(alloc, area, fields)?,
-        [b't', ..] => transact(alloc, area, fields)?,
+        [b's', ..] => start(area, fields),
+        [b't', ..] => transact(area, fields),
         [b'm', ..] => mark(area, fields),
         _ => put(line),
     }
-    Ok(())
 }
 
 // A line: a call on the area, bytes put into it, or a call on it without its last byte.
-fn line(alloc: Global, area: &mut [u8; STORE_BYTES], line: &[u8]) -> Result<(), AllocError> {
+fn line(area: &mut [u8; STORE_BYTES], line: &[u8]) {
     let (_, rest) = cut(line);
     match line {
-        [b'p', ..] => put_at(alloc, area, rest),
-        [b'l', ..] => one(alloc, &mut area[..STORE_BYTES - 1], rest),
-        _ => one(alloc, area, line),
+        [b'p', ..] => put_at(area, rest),
+        [b'l', ..] => one(&mut area[..STORE_BYTES - 1], rest),
+        _ => one(area, line),
     }
 }
 
 // The lines, one after another.
-fn each(alloc: Global, lines: &[u8], area: &mut [u8; STORE_BYTES]) -> Result<(), AllocError> {
+fn each(lines: &[u8], area: &mut [u8; STORE_BYTES]) {
     for text in lines.split_inclusive(|b| *b == b'\n') {
-        line(alloc, area, text.strip_suffix(b"\n").unwrap_or(text))?;
+        line(area, text.strip_suffix(b"\n").unwrap_or(text));
         put(b"\n");
     }
-    Ok(())
 }
 
 // Space for the lines.
@@ -180,9 +198,9 @@ fn space() -> [u8; 300000] {
     [0; 300000]
 }
 
-fn main(rt: HostRuntime) -> Result<(), AllocError> {
+fn main() {
     let mut space = space();
     let n = io::read_full(0, &mut space);
     let mut area = [0; STORE_BYTES];
-    each(rt.alloc(), &space[..n], &mut area)
+    each(&space[..n], &mut area);
 }

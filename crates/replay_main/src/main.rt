@@ -3,7 +3,7 @@
 #![tactic(auto)]
 
 ghost use Rattle.model.specs.Limits.{most_tables, column_record_bytes};
-ghost use Rattle.std.specs.Prelude.{◌≡◌, ◌<◌, ◌≤◌, length};
+ghost use Rattle.std.specs.Prelude.{◌≡◌, ◌<◌, ◌≤◌, length, IfSome};
 ghost use Rattle.std.specs.Iterator.{at_most};
 
 use model::{
@@ -15,9 +15,6 @@ use std::env::{Env, FillError};
 use std::fs::File;
 use std::io::Read;
 use std::str;
-
-// Bytes of a file, at most.
-const FILE: usize = 65535;
 
 // To standard error.
 fn say(s: &[u8]) {
@@ -58,16 +55,30 @@ fn say_error(rt: &HostRuntime, path: &[u8], error: &std::io::Error) {
     let _ = eprintln!(rt; "{error}");
 }
 
-// The bytes of an open file, to its end or to the first that is too many; what fails at once is said.
-fn read_open(rt: &HostRuntime, path: &[u8], file: File) -> Option<Vec<u8>> {
-    let mut bytes = Vec::new(rt.alloc());
-    match file.take(FILE as u64 + 1).read_to_end(&mut bytes) {
-        Err(error) if bytes.is_empty() => {
-            say_error(rt, path, &error);
-            None
+// The bytes of an open file, to its end or as far as a buffer has room, at the buffer's start; what fails at once is said.
+fn read_open<'a>(
+    rt: &HostRuntime,
+    path: &[u8],
+    mut file: File,
+    buf: &'a mut [u8],
+) -> Option<&'a [u8]>
+    ensures { IfSome result (λ bytes. length bytes.now ≤ length buf.old) }
+{
+    let mut size = 0;
+    while size < buf.len() {
+        match file.read(&mut buf[size..]) {
+            Ok(0) => break,
+            Ok(n) => size += n,
+            Err(error) => {
+                if size == 0 {
+                    say_error(rt, path, &error);
+                    return None;
+                }
+                break;
+            }
         }
-        _ => Some(bytes),
     }
+    Some(&buf[..size])
 }
 
 // The file of a path, which is text; what fails is said.
@@ -82,10 +93,13 @@ fn open(rt: &HostRuntime, path: &[u8]) -> Option<File> {
         .ok()
 }
 
-// The bytes of the file of a path; what fails is said.
-fn read_path(rt: &HostRuntime, path: &[u8]) -> Option<Vec<u8>> {
-    let bytes = read_open(rt, path, open(rt, path)?)?;
-    if bytes.len() <= FILE {
+// The bytes of the file of a path, which are fewer than a buffer has room for; what fails is said.
+fn read_path<'a>(rt: &HostRuntime, path: &[u8], buf: &'a mut [u8]) -> Option<&'a [u8]>
+    ensures { IfSome result (λ bytes. length bytes.now < length buf.old) }
+{
+    let room = buf.len();
+    let bytes = read_open(rt, path, open(rt, path)?, buf)?;
+    if bytes.len() < room {
         return Some(bytes);
     }
     say(path);
@@ -94,7 +108,9 @@ fn read_path(rt: &HostRuntime, path: &[u8]) -> Option<Vec<u8>> {
 }
 
 // An argument at the start of a buffer; empty where it is missing or longer.
-fn argument<'a>(rt: &HostRuntime, i: usize, buf: &'a mut [u8]) -> &'a [u8] {
+fn argument<'a>(rt: &HostRuntime, i: usize, buf: &'a mut [u8]) -> &'a [u8]
+    ensures { length result.now ≤ length buf.old }
+{
     let n = rt.arg(i, buf).unwrap_or(0);
     &buf[..n]
 }
@@ -105,8 +121,10 @@ fn is_given(rt: &HostRuntime, i: usize) -> bool {
 }
 
 // The bytes of the file that an argument names.
-fn read_file(rt: &HostRuntime, i: usize) -> Option<Vec<u8>> {
-    read_path(rt, argument(rt, i, &mut io::buffer()))
+fn read_file<'a>(rt: &HostRuntime, i: usize, buf: &'a mut [u8]) -> Option<&'a [u8]>
+    ensures { IfSome result (λ bytes. length bytes.now < length buf.old) }
+{
+    read_path(rt, argument(rt, i, &mut io::buffer()), buf)
 }
 
 // The run that a text is.
@@ -216,7 +234,9 @@ fn replay_request(store: &mut [u8], whole: &mut [u8], display: &mut [u8], line: 
 }
 
 // The requests, one to a line, and how many lines there are.
-fn replay_lines(store: &mut [u8], whole: &mut [u8], display: &mut [u8], requests: &[u8]) -> usize {
+fn replay_lines(store: &mut [u8], whole: &mut [u8], display: &mut [u8], requests: &[u8]) -> usize
+    ensures { result ≤ length requests.now }
+{
     let lines = requests.split_inclusive(|b| *b == b'\n');
     for (k, line) in lines.enumerate() {
         let line = line.strip_suffix(b"\n").unwrap_or(line);
@@ -351,9 +371,11 @@ fn main(rt: HostRuntime) {
         return;
     }
     let run = read_run(&rt);
-    let text = read_file(&rt, 1);
-    let requests = read_file(&rt, 3);
+    let mut space = io::large_buffer();
+    let text = read_file(&rt, 1, &mut space);
+    let mut space = io::large_buffer();
+    let requests = read_file(&rt, 3, &mut space);
     if let (Some(run), Some(text), Some(requests)) = (run, text, requests) {
-        replay(&text, run, &requests);
+        replay(text, run, requests);
     }
 }

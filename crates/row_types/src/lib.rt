@@ -64,7 +64,7 @@ fn column_meets(entry: &Entry, row: &Row, c: usize) -> bool
     let n = rows::count_of(row, c);
     let k = leaf::wide(n);
     k <= ELEMENTS
-        && (catalog::minimum(entry)..=catalog::maximum(entry)).contains(&n)
+        && (catalog::minimum(entry) <= n) & (n <= catalog::maximum(entry))
         && all_meet(entry, rows::atoms_in(row, c), k)
 }
 

@@ -1,12 +1,11 @@
 -- Atoms in order: each before the next is each before all after it; and the place of one more. Assumes nothing.
 use mathlib.Core.Path.{◌≡◌, refl, sym, ap, ◌∙◌}
-use mathlib.Core.Bool.{Bool, true, false, ◌&&◌}
+use mathlib.Core.Bool.{Bool, true, ◌&&◌}
 use mathlib.Core.List.{List, [], ◌∷◌, ◌++◌}
-use Prim.Native.Nat.{ℕ, zero, suc, ◌+◌, ◌≤◌, ◌<◌}
-use native.Mathlib.Numerals.{add-one}
+use Prim.Native.Nat.{ℕ, suc, ◌+◌, ◌-◌, ◌≤◌, ◌<◌}
 use native.Mathlib.Omega.{arith}
-use lib.ListN.{length, take, drop, get_or}
-use Rattle.std.specs.List.{IsAllAdjacentAnswer}
+use lib.ListN.{length, take, drop, get_or, length-drop}
+use lib.Seq.{drop-cons}
 use Rattle.model.specs.Base.{all}
 use Rattle.model.specs.Schema.{Base}
 use Rattle.model.specs.Value.{less_atom, ascending, placed}
@@ -14,7 +13,7 @@ use Rattle.model.proofs.Tests.{split, and_l}
 use Rattle.model.proofs.Lists.{all_imply}
 use Rattle.model.proofs.AtomOrder.{less_trans}
 use Rattle.value.specs.Places.{place_in}
-use Rattle.atom.proofs.Cells.{and_false}
+use Rattle.atom.proofs.Cells.{and_assoc, and_true, and_false}
 
 -- each is before the next
 abbrev leads : Base → List ℕ → List (List ℕ) → Bool
@@ -41,21 +40,24 @@ module _ (k : Base) where
   chain_ascending (a ∷ []) = refl
   chain_ascending (a ∷ b ∷ l) = ap (λ (t : Bool). less_atom k a b && t) (chain_ascending (b ∷ l)) ∙ link a b l
 
-  -- what the library says of neighbours
-  all_chain : (l : List (List ℕ)) → ((j : ℕ) (d : List ℕ) → j + 1 < length l → true ≡ less_atom k (get_or l j d) (get_or l (j + 1) d)) → chain k l ≡ true
-  all_chain [] h = refl
-  all_chain (a ∷ []) h = refl
-  all_chain (a ∷ b ∷ l) h = rw (sym (h 0 [] (omega arith))) (all_chain (b ∷ l) (λ j d q. rw (add-one j) (rw (add-one (suc j)) at (h (suc j) d (omega arith)))))
+  chain_short : (l : List (List ℕ)) → length l ≤ 1 → chain k l ≡ true
+  chain_short [] h = refl
+  chain_short (a ∷ []) h = refl
+  chain_short (a ∷ b ∷ l) h = absurd (omega arith)
 
-  no_chain : (l : List (List ℕ)) (j : ℕ) → j + 1 < length l → ((d : List ℕ) → false ≡ less_atom k (get_or l j d) (get_or l (j + 1) d)) → chain k l ≡ false
-  no_chain [] j q h = absurd (omega arith)
-  no_chain (a ∷ []) j q h = absurd (omega arith)
-  no_chain (a ∷ b ∷ l) zero q h = rw (sym (h []))
-  no_chain (a ∷ b ∷ l) (suc j) q h = rw (no_chain (b ∷ l) j (omega arith) (λ d. rw (add-one j) (rw (add-one (suc j)) at (h d)))) (and_false (less_atom k a b))
+  module _ (l : List (List ℕ)) (i : ℕ) (ok : Bool) where
+    pub chain_on : 0 < i → i < length l → (ok && chain k (drop (i - 1) l)) ≡ ((ok && less_atom k (get_or l (i - 1) []) (get_or l i [])) && chain k (drop (i + 1 - 1) l))
+    chain_on p h =
+        let e : suc (i - 1) ≡ i = omega arith in
+        let f : i + 1 - 1 ≡ i = omega arith in
+        let c : drop (i - 1) l ≡ get_or l (i - 1) [] ∷ get_or l i [] ∷ drop (suc i) l =
+        drop-cons l (i - 1) [] (omega arith) ∙ ap (λ (n : ℕ). get_or l (i - 1) [] ∷ drop n l) e ∙ ap (λ (r : List (List ℕ)). get_or l (i - 1) [] ∷ r) (drop-cons l i [] h) in
+        ap (λ (r : List (List ℕ)). ok && chain k r) c
+        ∙ and_assoc ok (less_atom k (get_or l (i - 1) []) (get_or l i [])) (chain k (get_or l i [] ∷ drop (suc i) l))
+        ∙ ap (λ (r : List (List ℕ)). (ok && less_atom k (get_or l (i - 1) []) (get_or l i [])) && chain k r) (sym (ap (λ (n : ℕ). drop n l) f ∙ drop-cons l i [] h))
 
-  pub chain_is : (l : List (List ℕ)) (r : Bool) → IsAllAdjacentAnswer (λ a b t. t ≡ less_atom k a b) l r → r ≡ chain k l
-  chain_is l true h = sym (all_chain l h)
-  chain_is l false h = sym (no_chain l h.0 h.1 h.2)
+    pub chain_end : length l ≤ i → (ok && chain k (drop (i - 1) l)) ≡ ok
+    chain_end h = ap (λ (b : Bool). ok && b) (chain_short (drop (i - 1) l) (omega (arith, length-drop (i - 1) l))) ∙ and_true ok
 
   -- ── one more in its place ──
   module _ (x : List ℕ) where

@@ -63,7 +63,12 @@ fn all_blank(l: &[Atom]) -> bool
 pub fn ascending(kind: u8, l: &[Atom]) -> bool
     ensures { result ≡ ascending (base_numbered kind) l.now }
 {
-    l.is_sorted_by(|a, b| atom::less(kind, a, b))
+    for i in 1..l.len() {
+        if !atom::less(kind, &l[i - 1], &l[i]) {
+            return false;
+        }
+    }
+    true
 }
 
 // The place of x among atoms in order: how many stand before the first that x is less than.

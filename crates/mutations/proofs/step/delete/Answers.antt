@@ -13,9 +13,9 @@ use Rattle.mutations.specs.Mutating.{elements_read}
 use Rattle.mutations.proofs.Stepping.{stepped_set, stepped_stop, delete_least, delete_good, delete_value, kept_as_lem}
 use Rattle.mutations.proofs.step.delete.Goals as goal
 
-pub returns-then-k-min : goal.returns-then-k-min
+pub returns-then-few : goal.returns-then-few
 unfolding elements_of
-returns-then-k-min c =
+returns-then-few c =
     let same : let a = c.args in take c.size-n.result c.atoms_of-xs.result ≡ elements_of a.m.place a.row.now = let a = c.args in
     elements_few (value_in a.m.place a.row.now) c.atoms_of-xs.result c.size-n.result c.atoms_of-xs.ensures (omega (arith, c.atoms_of-xs.type_inv)) (c.size-n.ensures ∙ ap (λ (i : ℕ). min i 4) c.count_of.ensures) in
     let left : let a = c.args in Kept (without (elements_read a.text.now a.names.now (column_from a.column.now).base a.m a.atoms.now) (elements_of a.m.place a.row.now)) c.keep_others-k.result c.keep_others-k.new.out = let a = c.args in
@@ -28,7 +28,7 @@ returns-then-k-min c =
     let z = column_from a.column.now in
     let l = elements_read a.text.now a.names.now z.base a.m a.atoms.now in
     let x = elements_of a.m.place a.row.now in
-    stepped_stop (deleted_on z l x) a.m.place Constraint a.row.now (delete_least z l x c.keep_others-k.result (left).size (omega (arith, c.if-k-min.true, c.wide-min.ensures, c.minimum.ensures))) refl
+    stepped_stop (deleted_on z l x) a.m.place Constraint a.row.now (delete_least z l x c.keep_others-k.result (left).size (omega (arith, c.if-few.true, c.wide-min.ensures, c.minimum.ensures))) refl
 
 pub returns : goal.returns
 unfolding elements_of
@@ -48,7 +48,7 @@ returns c =
     let m = c.keep_others-k.result in
     let left-atoms = c.keep_others-k.new.out in
     stepped_set (deleted_on z l x) a.m.place Fine a.row.now c.set_column.new.row
-    (delete_good z l x m (left).size (omega (arith, c.if-k-min.false, c.wide-min.ensures, c.minimum.ensures)))
+    (delete_good z l x m (left).size (omega (arith, c.if-few.false, c.wide-min.ensures, c.minimum.ensures)))
     refl
     (record { count = m; atoms = left-atoms })
     (delete_value z l x m (left).size left-atoms (left).cells)
