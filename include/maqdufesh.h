@@ -22,7 +22,7 @@
  *
  * A refused call leaves the area as it was and every other buffer that it writes to all zero. In an accepted call bytes beyond what was written are zero.
  *
- * Stack, as measured (docs/PERFORMANCE.md): a transact 56,000 bytes, a mark and a mirror's calls 29,000, a start 25,000. Give a transact 96 KB. */
+ * Stack, as measured (docs/PERFORMANCE.md): a transact 57,000 bytes, a mark and a mirror's calls 29,000, a start 25,000. Give a transact 96 KB. */
 #ifndef MAQDUFESH_H
 #define MAQDUFESH_H
 
